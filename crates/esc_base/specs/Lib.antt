@@ -1,0 +1,6 @@
+pub mod Outside
+pub mod Memory
+pub mod Numbers
+pub mod Journal
+pub mod Range
+pub mod Trace

@@ -1,0 +1,40 @@
+-- The numbers under which a journal shows kinds, modes, refusals and causes.
+use Rattle.std.specs.Prelude.{ℕ}
+use Rattle.esc_base.specs.declared.kind.Kind.{Kind}
+use Rattle.esc_base.specs.declared.kind.Kind.TheVariants as kind
+use Rattle.esc_base.specs.declared.signal.Mode.{Mode}
+use Rattle.esc_base.specs.declared.signal.Mode.TheVariants as mode
+use Rattle.esc_base.specs.declared.signal.Why.{Why}
+use Rattle.esc_base.specs.declared.signal.Why.TheVariants as why
+use Rattle.esc_base.specs.declared.note.Cause.{Cause}
+use Rattle.esc_base.specs.declared.note.Cause.TheVariants as cause
+
+-- the priority of a kind
+abbrev pub kind_number : Kind → ℕ
+kind_number kind.Main = 0
+kind_number kind.Uart = 1
+kind_number kind.Tick = 2
+kind_number kind.Cap = 3
+kind_number kind.Cmp = 4
+kind_number kind.Pwm = 5
+kind_number kind.Comm = 6
+
+abbrev pub mode_number : Mode → ℕ
+mode_number mode.Unknown = 0
+mode_number mode.D300 = 1
+mode_number mode.D600 = 2
+mode_number mode.D300Inv = 3
+mode_number mode.D600Inv = 4
+mode_number mode.Servo = 5
+
+abbrev pub why_number : Why → ℕ
+why_number why.Count = 1
+why_number why.Polarity = 2
+why_number why.Span = 3
+why_number why.Width = 4
+why_number why.Check = 5
+
+abbrev pub cause_number : Cause → ℕ
+cause_number cause.Timeout = 0
+cause_number cause.Stuck = 1
+cause_number cause.Fuse = 2

@@ -1,0 +1,23 @@
+//! The words that every layer speaks of: ticks, interrupt kinds, signal modes, notes of a journal, events of a
+//! trace, and the traits through which a run reaches the outside.
+#![tactic(auto)]
+
+mod event;
+mod gate;
+mod kind;
+mod memory;
+mod note;
+mod outside;
+mod signal;
+mod stdio;
+mod tick;
+
+pub use event::{Arrived, Event};
+pub use gate::{Block48, GateWord, Leg, Sector};
+pub use kind::Kind;
+pub use memory::{MemSink, MemSource};
+pub use note::{Cause, Note};
+pub use outside::{Failed, NoMemory, Sink, Source, raised};
+pub use signal::{Edge, Frame, Mode, Verdict, Why};
+pub use stdio::{InSource, OutSink};
+pub use tick::Tick;
