@@ -2,7 +2,7 @@
 use Rattle.std.proofs.Common.{false, ◌≡◌, List, [], ◌∷◌, ◌++◌}
 use Rattle.std.proofs.lemmas.List.Sums.{fold_push}
 use Rattle.esc_base.specs.declared.event.Event.{Event}
-use Rattle.esc_base.specs.Trace.{Line, line, line_next}
+use Rattle.esc_base.specs.Trace.{line, line_next}
 
 pub line-push : (trace : List Event) (e : Event) → line (trace ++ e ∷ []) ≡ line_next (line trace) e
 unfolding line

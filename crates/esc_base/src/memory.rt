@@ -43,7 +43,12 @@ impl MemSource {
 
     /// Gives `bytes`, at most `piece` (1 or more) in one call; the calls with the numbers `fails`, counted
     /// from 1, fail.
-    pub fn new(alloc: Global, bytes: &[u8], piece: usize, fails: &[u64]) -> Result<MemSource, NoMemory>
+    pub fn new(
+        alloc: Global,
+        bytes: &[u8],
+        piece: usize,
+        fails: &[u64],
+    ) -> Result<MemSource, NoMemory>
         requires { 0 < piece }
         ensures { IfOk result (λ s. source_left s ≡ bytes.now) }
     {
@@ -79,7 +84,7 @@ impl Source for MemSource {
             self.faults = raised(self.faults);
             return Err(Failed);
         }
-        let rest = &self.bytes.as_slice()[self.at..];
+        let (_, rest) = self.bytes.as_slice().split_at(self.at);
         let n = rest.len().min(self.piece).min(buf.len());
         copy_front(buf, rest, n);
         self.at += n;
