@@ -10,6 +10,8 @@ mod note;
 mod outside;
 mod signal;
 mod stdio;
+#[cfg(test)]
+mod tests;
 mod tick;
 
 pub use event::{Arrived, Event};
