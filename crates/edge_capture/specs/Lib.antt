@@ -1,0 +1,6 @@
+pub mod Modes
+pub mod Edges
+pub mod Burst
+pub mod Literal
+pub mod Window
+pub mod Heard

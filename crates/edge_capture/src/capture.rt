@@ -1,0 +1,166 @@
+ghost use Rattle.std.specs.Prelude.{◌≡◌, ◌<◌, ◌≤◌, ◌+◌, ◌^◌, ◌++◌, ◌&&◌, ◌==◌, not, ℕ, Bool, List, [], ◌∷◌, length, true, false};
+ghost use Rattle.std.specs.List.{All};
+ghost use Rattle.esc_base.specs.declared.signal.Edge.{Edge};
+ghost use Rattle.edge_capture.specs.Edges.{last_at};
+ghost use Rattle.edge_capture.specs.Burst.{is_closed, comes_early, wait};
+ghost use Rattle.edge_capture.specs.Modes.{limit};
+ghost use Rattle.edge_capture.specs.Literal.{until_deaf, Rising};
+ghost use Rattle.edge_capture.specs.Window.{Window, unarmed, opened_in, window_hears, after_edge, window_closed, idle_at, IsHanded};
+ghost use Rattle.edge_capture.specs.Heard.{heard_of};
+
+use crate::{Burst, mode_numbers};
+use esc_base::{Edge, Mode, Tick};
+use std::marker::Model;
+
+/// Whether a window hears an edge.
+#[derive(Clone, Copy, Debug, PartialEq, Eq, Drop)]
+pub enum Heard {
+    Taken,
+    Unheard,
+}
+
+/// One window on the signal line: it opens in a mode at a tick, hears edges, and closes.
+#[derive(Debug, Drop)]
+pub struct Capture {
+    armed: bool,
+    mode: Mode,
+    opened: Tick,
+    burst: Burst,
+}
+
+impl Model for Capture {
+    ghost use Rattle.std.specs.Prelude.{◌≤◌, length};
+    ghost use Rattle.edge_capture.specs.Window.{Window};
+    ghost use Rattle.edge_capture.specs.Modes.{most};
+
+    ghost Value = { Window };
+
+    ghost view = { λ c. record { armed = c.armed; mode = c.mode; opened = c.opened.0; edges = c.burst } };
+
+    ghost invariant = { λ c. length c.burst ≤ most c.mode };
+}
+
+fn idle_limit(mode: Mode, heard: usize) -> u64
+    ensures limit { result ≡ limit mode heard }
+    ensures small { result ≤ 120000 }
+{
+    let numbers = mode_numbers(mode);
+    if heard % 2 == 1 {
+        numbers.idle_after_odd as u64
+    } else {
+        numbers.idle_after_even as u64
+    }
+}
+
+fn last_of(burst: &Burst) -> u64
+    requires { 0 < length burst.now }
+    ensures last { result ≡ last_at burst.now }
+    ensures small { result < 2 ^ 31 }
+{
+    burst.at(burst.len() - 1).t.0
+}
+
+fn wait_for(mode: Mode, heard: usize) -> u64
+    ensures wait { result ≡ wait mode heard }
+    ensures small { result ≤ 120000 }
+{
+    if heard < mode_numbers(mode).most_edges {
+        idle_limit(mode, heard)
+    } else {
+        0
+    }
+}
+
+fn is_over(mode: Mode, burst: &Burst, t: Tick) -> bool
+    ensures { result ≡ is_closed mode burst.now t.0 }
+{
+    let heard = burst.len();
+    heard != 0 && last_of(burst) + wait_for(mode, heard) <= t.0
+}
+
+fn is_early(mode: Mode, burst: &Burst, edge: Edge) -> bool
+    ensures { result ≡ comes_early mode burst.now edge }
+{
+    burst.len() == 0 && !mode_numbers(mode).falling_first && !edge.level
+}
+
+impl Capture {
+    /// No window: it hears nothing.
+    pub fn new() -> Capture
+        ensures { result ≡ unarmed }
+    {
+        Capture {
+            armed: false,
+            mode: Mode::Unknown,
+            opened: Tick(0),
+            burst: Burst::new(),
+        }
+    }
+
+    /// Opens a window in a mode, with no edges. It hears edges at later ticks than `at`.
+    pub fn arm(&mut self, mode: Mode, at: Tick)
+        ensures window { self.new ≡ opened_in mode at.0 }
+        ensures burst { (handed : List Edge) → All (λ e. e.t.0 ≤ at.0) handed → IsHanded self.new handed }
+    {
+        self.armed = true;
+        self.mode = mode;
+        self.opened = at;
+        self.burst.clear();
+    }
+
+    /// The line changes to a level. Ticks that are handed in don't fall.
+    pub fn edge(&mut self, t: Tick, level: bool) -> Heard
+        requires small { t.0 < 2 ^ 31 }
+        requires later { last_at self.old.edges ≤ t.0 }
+        ensures heard { result ≡ heard_of (window_hears self.old (record { t = t; level = level })) }
+        ensures window { self.new ≡ after_edge self.old (record { t = t; level = level }) }
+        ensures burst { (handed : List Edge) → IsHanded self.old handed → IsHanded self.new (handed ++ record { t = t; level = level } ∷ []) }
+        ensures later { last_at self.new.edges ≤ t.0 }
+    {
+        let edge = Edge { t, level };
+        if self.hears(edge) {
+            self.burst.push(edge);
+            Heard::Taken
+        } else {
+            Heard::Unheard
+        }
+    }
+
+    fn hears(&self, edge: Edge) -> bool
+        ensures { result ≡ window_hears self.now edge }
+    {
+        self.armed
+            && self.opened.0 < edge.t.0
+            && !is_over(self.mode, &self.burst, edge.t)
+            && !is_early(self.mode, &self.burst, edge)
+    }
+
+    /// The tick at which the idle limit closes the window, if it hears no further edge. None where it
+    /// isn't armed, has no edge or has heard the last edge allowed.
+    pub fn idle_at(&self) -> Option<Tick>
+        ensures idle { result ≡ idle_at self.now }
+    {
+        let heard = self.burst.len();
+        if !self.armed || heard == 0 || heard >= mode_numbers(self.mode).most_edges {
+            return None;
+        }
+        Some(Tick(last_of(&self.burst) + idle_limit(self.mode, heard)))
+    }
+
+    /// Whether the window is closed at this tick: it has heard the last edge allowed, or the idle limit
+    /// has passed since the last heard edge.
+    pub fn closed(&self, t: Tick) -> bool
+        ensures closed { result ≡ window_closed self.now t.0 }
+        ensures settled { (handed : List Edge) (e : Edge) → IsHanded self.now handed → result ≡ true → t.0 ≤ e.t.0 → IsHanded self.now (handed ++ e ∷ []) }
+    {
+        self.armed && is_over(self.mode, &self.burst, t)
+    }
+
+    /// The edges that the window has heard.
+    pub fn burst(&self) -> &Burst
+        ensures edges { result.now ≡ self.now.edges }
+        ensures told { (handed : List Edge) → IsHanded self.now handed → Rising 0 handed → self.now.edges ≡ until_deaf self.now.mode self.now.opened [] handed }
+    {
+        &self.burst
+    }
+}
