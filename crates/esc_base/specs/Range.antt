@@ -1,5 +1,7 @@
 -- The numbers that a journal's line may hold.
 use Rattle.std.specs.Prelude.{◌≡◌, ℕ, ◌<◌, ◌≤◌, Option, Some, None}
+use Rattle.esc_base.specs.declared.signal.Verdict.{Verdict}
+use Rattle.esc_base.specs.declared.signal.Verdict.TheVariants as verdict
 use Rattle.esc_base.specs.declared.note.Note.{Note}
 use Rattle.esc_base.specs.declared.note.Note.TheVariants as note
 
@@ -38,3 +40,8 @@ InRange (note.Packet t cc kk) = IsWord t.0 × ((cc < 256) × (kk < 256))
 InRange (note.Sent t xx) = IsWord t.0 × (xx < 256)
 InRange (note.Dropped t xx) = IsWord t.0 × (xx < 256)
 InRange (note.Watched t i n s) = IsWord t.0 × (IsWord i × (IsWord n × (s ≤ 1)))
+
+-- a frame's value has 11 bits
+abbrev pub HasSmallValue : Verdict → Type 0
+HasSmallValue (verdict.Good frame) = frame.value ≤ 2047
+HasSmallValue (verdict.Bad why) = Unit {0}
