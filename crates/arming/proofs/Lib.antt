@@ -1,0 +1,5 @@
+pub mod FrameTies
+pub mod TickTies
+pub mod InOrder
+pub mod DriveFollows
+pub mod SilenceEnds

@@ -1,0 +1,47 @@
+-- What follows from `Controlled` alone.
+use Rattle.std.specs.Prelude.{◌≡◌, ◌≤◌, ◌<◌, ℕ, ◌+◌, true, List, [], ◌∷◌, ◌++◌, reverse, None}
+use Rattle.esc_base.specs.declared.tick.Tick.{Tick}
+use Rattle.esc_base.specs.declared.note.Note.{Note}
+use Rattle.esc_base.specs.declared.note.Note.TheVariants as note
+use Rattle.arming.specs.Throttle.{on_of}
+use Rattle.arming.specs.ControlAt.{armed_at, newest_at}
+use Rattle.arming.specs.Controlled.{owed, Controlled}
+
+-- the newest good frame is throttle, stands after an A with no X since, and asks for at least this demand
+abbrev pub IsAskedFor : ℕ → List Note → Type 0
+IsAskedFor demand [] = ⊥
+IsAskedFor demand (note.Good t v q ∷ back) = (48 ≤ v) × ((armed_at back ≡ true) × (demand ≤ on_of v))
+IsAskedFor demand (note.Lost t c ∷ back) = ⊥
+IsAskedFor demand (n ∷ back) = IsAskedFor demand back
+
+-- drive follows only frames checked since arming
+abbrev pub DriveFollowsFrames : Type 0
+DriveFollowsFrames =
+    (before after : List Note) (t : Tick) (n s d : ℕ) → Controlled (before ++ note.Control t n s d ∷ after) → 0 < d → IsAskedFor d (reverse before)
+
+-- no good frame, and no control tick with a number from this one on
+abbrev pub IsSilentBelow : ℕ → List Note → Type 0
+IsSilentBelow limit [] = Unit {0}
+IsSilentBelow limit (note.Good t v q ∷ notes) = ⊥
+IsSilentBelow limit (note.Control t n s d ∷ notes) = (n < limit) × IsSilentBelow limit notes
+IsSilentBelow limit (n ∷ notes) = IsSilentBelow limit notes
+
+abbrev pub IsTimeout : Note → Type 0
+IsTimeout (note.Lost t c) = c ≡ 0
+IsTimeout n = ⊥
+
+-- the first of these notes, if there is one, is a timeout
+abbrev pub IsFollowedByTimeout : List Note → Type 0
+IsFollowedByTimeout [] = Unit {0}
+IsFollowedByTimeout (n ∷ notes) = IsTimeout n
+
+-- from any place on where no outcome is owed: while no good frame stands, the first K whose number is at least 10000 above the
+-- newest has demand 0, and what stands behind it is a timeout
+abbrev pub SilenceEndsDrive : Type 0
+SilenceEndsDrive =
+    (before silence after : List Note) (t : Tick) (n s d : ℕ)
+    → owed (reverse before) ≡ None
+    → IsSilentBelow (newest_at (reverse before) + 10000) silence
+    → newest_at (reverse before) + 10000 ≤ n
+    → Controlled (before ++ silence ++ note.Control t n s d ∷ after)
+    → (d ≡ 0) × IsFollowedByTimeout after

@@ -1,0 +1,16 @@
+//! What follows from the rules of control, for every journal that keeps them. The functions do
+//! nothing: their contracts are the laws.
+ghost use Rattle.arming.specs.Laws.{DriveFollowsFrames, SilenceEndsDrive};
+
+/// Drive follows only frames checked since arming: at each control tick with a demand above 0, the
+/// newest good frame is throttle, stands after an arming with no loss since, and asks for at least
+/// that demand.
+pub fn drive_follows_frames()
+    ensures { DriveFollowsFrames }
+{}
+
+/// Silence ends drive: from any place on, if no good frame comes, the first control tick whose number
+/// is 10000 or more above the newest has demand 0, and control is lost right behind it by a timeout.
+pub fn silence_ends_drive()
+    ensures { SilenceEndsDrive }
+{}
