@@ -1,0 +1,5 @@
+use Rattle.timer_regs.proofs.Soonest.{soonest}
+use Rattle.timer_regs.proofs.regs.Regs.next_due.Goals as goal
+
+pub returns : goal.returns
+returns c = rw c.sooner.ensures (soonest _ _ _ c.next_tick.ensures c.next_cap.ensures)

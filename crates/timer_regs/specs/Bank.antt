@@ -1,0 +1,23 @@
+-- What a contract sees of the registers: a field for each fact of the hardware.
+use Rattle.std.specs.Prelude.{ℕ, Bool, Option}
+use Rattle.edge_capture.specs.Window.{Window}
+
+pub record Bank : Type 0 where
+  -- now
+  pub time : ℕ
+  pub accesses : ℕ
+  -- the interrupt mask is up
+  pub masked : Bool
+  -- the switches that are on, bit 0 for leg A
+  pub hi : ℕ
+  pub lo : ℕ
+  -- the level of the signal line
+  pub level : Bool
+  -- the capture's window
+  pub window : Window
+  -- the closed window counts as taken
+  pub taken : Bool
+  -- the tick for which the window timer is armed
+  pub timer : Option ℕ
+  -- the control tick number that was last read
+  pub number_read : ℕ

@@ -1,0 +1,41 @@
+-- When a kind becomes due, if nothing but time goes on.
+use Rattle.std.specs.Prelude.{◌≡◌, ℕ, ◌<◌, Bool, true, false, not, ◌&&◌, if◌then◌else◌, nat_lt, Option, Some, None}
+use Rattle.esc_base.specs.declared.tick.Tick.{Tick}
+use Rattle.esc_base.specs.declared.kind.Kind.{Kind}
+use Rattle.timer_regs.specs.Bank.{Bank}
+use Rattle.timer_regs.specs.Effects.{is_due, advanced}
+
+abbrev pub tick_of : Option Tick → Option ℕ
+tick_of None = None
+tick_of (Some t) = Some t.0
+
+-- it isn't due now, and is at t
+abbrev pub becomes_due : Bank → Kind → ℕ → Bool
+becomes_due b k t = not (is_due b k) && is_due (advanced b t) k
+
+-- t is the first later tick at which this kind becomes due
+pub record IsFirst (b : Bank) (k : Kind) (t : ℕ) : Type 0 where
+  pub later : b.time < t
+  pub due : becomes_due b k t ≡ true
+  pub none_before : (u : ℕ) → b.time < u → u < t → becomes_due b k u ≡ false
+
+abbrev pub IsFirstDue : Bank → Kind → Option ℕ → Type 0
+IsFirstDue b k None = (t : ℕ) → b.time < t → becomes_due b k t ≡ false
+IsFirstDue b k (Some t) = IsFirst b k t
+
+-- t is the first later tick at which some kind becomes due
+pub record IsNext (b : Bank) (t : ℕ) : Type 0 where
+  pub later : b.time < t
+  pub kind : Kind
+  pub due : becomes_due b kind t ≡ true
+  pub none_before : (k : Kind) (u : ℕ) → b.time < u → u < t → becomes_due b k u ≡ false
+
+abbrev pub IsNextDue : Bank → Option ℕ → Type 0
+IsNextDue b None = (k : Kind) (t : ℕ) → b.time < t → becomes_due b k t ≡ false
+IsNextDue b (Some t) = IsNext b t
+
+-- the earlier of two ticks, where there are any
+abbrev pub sooner : Option ℕ → Option ℕ → Option ℕ
+sooner None b = b
+sooner (Some a) None = Some a
+sooner (Some a) (Some b) = if nat_lt b a then Some b else Some a

@@ -1,0 +1,11 @@
+//! The registers of the controller: its capture, its timers, its interrupt mask, and which interrupt
+//! kinds are due.
+#![tactic(auto)]
+
+mod kinds;
+mod regs;
+#[cfg(test)]
+mod tests;
+
+pub use kinds::KindSet;
+pub use regs::{Reg, Regs};

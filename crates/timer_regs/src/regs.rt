@@ -1,0 +1,361 @@
+ghost use Rattle.std.specs.Prelude.{◌≡◌, ◌+◌, ◌<◌, ◌≤◌, ◌^◌, ℕ, true};
+ghost use Rattle.esc_base.specs.declared.kind.Kind.{Kind};
+ghost use Rattle.esc_base.specs.declared.kind.Kind.TheVariants as kinds;
+ghost use Rattle.timer_regs.specs.Kinds.{has_kind};
+ghost use Rattle.timer_regs.specs.Sound.{IsSound};
+ghost use Rattle.timer_regs.specs.Effects.{reset, counted, read_value, IsSmall, after_read, IsRange, written, advanced, after_line, is_due, after_entry, edges_read, edge_read, shown_edge, is_reached as reached, mode_of};
+ghost use Rattle.timer_regs.specs.NextDue.{tick_of, sooner as sooner_of, IsFirstDue, IsNextDue};
+
+use crate::KindSet;
+use edge_capture::{Capture, Edge};
+use esc_base::{Arrived, GateWord, Kind, Mode, Tick};
+use std::marker::Model;
+
+/// A register. Times in registers are ticks of 48 MHz; a word of switches has bit 0 for leg A, bit 1 for
+/// leg B and bit 2 for leg C.
+#[derive(Clone, Copy, Debug, PartialEq, Eq, Drop)]
+pub enum Reg {
+    /// Turns on the high switches whose bits are set.
+    GhSet,
+    /// Turns on the low switches whose bits are set.
+    GlSet,
+    /// Turns off the high switches whose bits are set.
+    GhClr,
+    /// Turns off the low switches whose bits are set.
+    GlClr,
+    /// 1 raises the interrupt mask, 0 lowers it.
+    Mask,
+    /// The duty of the high switch, 0 to 1900 ticks.
+    Duty,
+    /// The place in the PWM period of 2000 ticks.
+    PwmPos,
+    /// The present sector, 0 before the first.
+    Sector,
+    /// Arms the commutation timer for that tick.
+    CommAt,
+    /// Disarms the commutation and crossing timers.
+    DriveOff,
+    /// 1 sets the stuck mark.
+    Stuck,
+    /// The comparator's level in bit 0, and in bit 1 whether it changed.
+    CmpState,
+    /// Clears the comparator's changed bit.
+    CmpAck,
+    /// 1 enables comparator interrupts.
+    CmpEn,
+    /// Arms the crossing timer for that tick.
+    CmpAt,
+    /// The number of edges of the closed window, or 0 where none is closed.
+    CapState,
+    /// The tick of the edge at this place of the closed window, plus 2^31 where the edge rises; 0 where the
+    /// window isn't closed or has no such edge.
+    CapEdge(u8),
+    /// Opens a window at now, in the mode with the number that is written, 0 to 5.
+    CapArm,
+    /// Arms the window timer for that tick.
+    CapAt,
+    /// The end tick of the last reply; a write loads 21 line bits.
+    Reply,
+    /// The sum of six gaps of sectors, 0 for none.
+    Period,
+    /// The number of the control tick, which then counts as read. Control ticks are 2400 ticks apart.
+    TickState,
+    /// Bit 0: a received byte waits. Bit 1: the transmitter is idle.
+    UartState,
+    /// The tick at which the waiting byte arrived.
+    UartTime,
+    /// The waiting byte, which is then taken.
+    UartData,
+    /// Starts to send a byte.
+    Txd,
+    /// 1 says that bytes are to be sent, 0 that none is.
+    TxOn,
+}
+
+/// The registers, at a present tick.
+#[derive(Debug, Drop)]
+pub struct Regs {
+    time: Tick,
+    accesses: u64,
+    masked: bool,
+    gates: GateWord,
+    level: bool,
+    window: Capture,
+    taken: bool,
+    timer: Option<Tick>,
+    number_read: u32,
+}
+
+impl Model for Regs {
+    ghost use Rattle.timer_regs.specs.Bank.{Bank};
+    ghost use Rattle.timer_regs.specs.Sound.{IsSound};
+    ghost use Rattle.timer_regs.specs.NextDue.{tick_of};
+
+    ghost Value = { Bank };
+
+    ghost view = { λ r. record { time = r.time.0; accesses = r.accesses; masked = r.masked; hi = r.gates.hi; lo = r.gates.lo; level = r.level; window = r.window; taken = r.taken; timer = tick_of r.timer; number_read = r.number_read } };
+
+    ghost invariant = { λ r. IsSound (record { time = r.time.0; accesses = r.accesses; masked = r.masked; hi = r.gates.hi; lo = r.gates.lo; level = r.level; window = r.window; taken = r.taken; timer = tick_of r.timer; number_read = r.number_read }) };
+}
+
+impl Regs {
+    /// Tick 0, all gates off, nothing armed, the mask down.
+    pub fn new() -> Regs
+        ensures { result ≡ reset }
+    {
+        Regs {
+            time: Tick(0),
+            accesses: 0,
+            masked: false,
+            gates: GateWord { hi: 0, lo: 0 },
+            level: false,
+            window: Capture::new(),
+            taken: false,
+            timer: None,
+            number_read: 0,
+        }
+    }
+
+    /// The present tick, below 2^31. This isn't an access.
+    pub fn now(&self) -> Tick
+        ensures now { result.0 ≡ self.now.time }
+        ensures sound { IsSound self.now }
+    {
+        self.time
+    }
+
+    /// How many reads and writes there were.
+    pub fn accesses(&self) -> u64
+        ensures { result ≡ self.now.accesses }
+    {
+        self.accesses
+    }
+
+    /// The switches that are on.
+    pub fn gates(&self) -> GateWord
+        ensures high { result.hi ≡ self.now.hi }
+        ensures low { result.lo ≡ self.now.lo }
+        ensures high_legs { result.hi ≤ 7 }
+        ensures low_legs { result.lo ≤ 7 }
+    {
+        self.gates
+    }
+
+    /// Whether the interrupt mask is up.
+    pub fn masked(&self) -> bool
+        ensures { result ≡ self.now.masked }
+    {
+        self.masked
+    }
+
+    /// Reads a register, at now: one access. A register that isn't read gives 0.
+    pub fn read(&mut self, r: Reg) -> u32
+        requires { self.old.accesses < 2 ^ 63 }
+        ensures value { result ≡ read_value self.old r }
+        ensures small { IsSmall r result }
+        ensures regs { self.new ≡ after_read self.old r }
+    {
+        self.count();
+        match r {
+            Reg::CapState => self.closed_len(),
+            Reg::CapEdge(i) => self.closed_edge(i),
+            Reg::TickState => {
+                let number = (self.time.0 / 2400) as u32;
+                self.number_read = number;
+                number
+            }
+            _ => 0,
+        }
+    }
+
+    /// Writes a register, at now: one access. `v` is in the register's range. A register that isn't written
+    /// stays as it is.
+    pub fn write(&mut self, r: Reg, v: u32)
+        requires count { self.old.accesses < 2 ^ 63 }
+        requires range { IsRange r v }
+        ensures { self.new ≡ written self.old r v }
+    {
+        self.count();
+        match r {
+            Reg::Mask => self.masked = v == 1,
+            Reg::CapArm => {
+                self.window.arm(mode_numbered(v), self.time);
+                self.taken = false;
+            }
+            Reg::CapAt => self.timer = Some(Tick(v as u64)),
+            _ => {}
+        }
+    }
+
+    /// Time goes on to a tick that isn't before now. What the hardware does by then stands: timers are
+    /// reached, and a window closes by its idle limit.
+    pub fn advance(&mut self, to: Tick)
+        requires later { self.old.time ≤ to.0 }
+        requires small { to.0 < 2 ^ 31 }
+        ensures regs { self.new ≡ advanced self.old to.0 }
+        ensures due { (k : Kind) → is_due self.old k ≡ true → is_due self.new k ≡ true }
+    {
+        self.time = to;
+    }
+
+    /// The first later tick at which a kind that isn't due now becomes due, if nothing but `advance` is
+    /// called. None exactly where there is no such tick.
+    pub fn next_due(&self) -> Option<Tick>
+        ensures { IsNextDue self.now (tick_of result) }
+    {
+        sooner(self.next_tick(), self.next_cap())
+    }
+
+    /// The kinds that are due, without MAIN, which only the firmware knows of.
+    pub fn due(&self) -> KindSet
+        ensures { (k : Kind) → has_kind result k ≡ is_due self.now k }
+    {
+        KindSet::none()
+            .with(Kind::Tick, self.tick_due())
+            .with(Kind::Cap, self.cap_due())
+    }
+
+    /// A kind is entered: what made it due is cleared. A closed window counts as taken and stays readable.
+    pub fn entered(&mut self, kind: Kind)
+        ensures { self.new ≡ after_entry self.old kind }
+    {
+        if kind == Kind::Cap {
+            self.taken = self.taken || self.window.closed(self.time);
+            self.timer = None;
+        }
+    }
+
+    /// The signal line has a level from now on. An equal level again has no effect.
+    pub fn edge(&mut self, level: bool)
+        ensures { self.new ≡ after_line self.old level }
+    {
+        if level != self.level {
+            self.level = level;
+            self.window.edge(self.time, level);
+        }
+    }
+
+    /// The comparator changes to a level, at now. No register shows it yet.
+    pub fn comp(&mut self, level: bool)
+        ensures { self.new ≡ self.old }
+    {
+        let _ = level;
+    }
+
+    /// A watcher of the gates trips. No register shows it yet.
+    pub fn trip(&mut self)
+        ensures { self.new ≡ self.old }
+    {}
+
+    /// A serial byte arrives, at now. No register shows it yet, so the receive register is never full.
+    pub fn serial(&mut self, byte: u8) -> Arrived
+        ensures kept { result ≡ Arrived.Kept }
+        ensures same { self.new ≡ self.old }
+    {
+        let _ = byte;
+        Arrived::Kept
+    }
+
+    fn count(&mut self)
+        requires { self.old.accesses < 2 ^ 63 }
+        ensures { self.new ≡ counted self.old }
+    {
+        self.accesses += 1;
+    }
+
+    fn closed_len(&self) -> u32
+        ensures len { result ≡ edges_read self.now }
+        ensures most { result ≤ 32 }
+    {
+        if self.window.closed(self.time) {
+            self.window.burst().len() as u32
+        } else {
+            0
+        }
+    }
+
+    fn closed_edge(&self, i: u8) -> u32
+        ensures { result ≡ edge_read self.now i }
+    {
+        if (i as u32) < self.closed_len() {
+            shown(self.window.burst().at(i as usize))
+        } else {
+            0
+        }
+    }
+
+    fn tick_due(&self) -> bool
+        ensures { result ≡ is_due self.now kinds.Tick }
+    {
+        self.time.0 / 2400 != self.number_read as u64
+    }
+
+    fn cap_due(&self) -> bool
+        ensures { result ≡ is_due self.now kinds.Cap }
+    {
+        (self.window.closed(self.time) && !self.taken) || is_reached(self.timer, self.time)
+    }
+
+    fn next_tick(&self) -> Option<Tick>
+        ensures { IsFirstDue self.now kinds.Tick (tick_of result) }
+    {
+        if self.tick_due() {
+            return None;
+        }
+        Some(Tick((self.number_read as u64 + 1) * 2400))
+    }
+
+    fn next_cap(&self) -> Option<Tick>
+        ensures { IsFirstDue self.now kinds.Cap (tick_of result) }
+    {
+        if self.cap_due() {
+            return None;
+        }
+        let closes = if self.taken {
+            None
+        } else {
+            self.window.idle_at()
+        };
+        sooner(closes, self.timer)
+    }
+}
+
+fn shown(edge: Edge) -> u32
+    requires { edge.t.0 < 2 ^ 31 }
+    ensures { result ≡ shown_edge edge }
+{
+    let at = edge.t.0 as u32;
+    if edge.level { at + 0x8000_0000 } else { at }
+}
+
+fn mode_numbered(v: u32) -> Mode
+    ensures { result ≡ mode_of v }
+{
+    match v {
+        1 => Mode::D300,
+        2 => Mode::D600,
+        3 => Mode::D300Inv,
+        4 => Mode::D600Inv,
+        5 => Mode::Servo,
+        _ => Mode::Unknown,
+    }
+}
+
+fn is_reached(timer: Option<Tick>, now: Tick) -> bool
+    ensures { result ≡ reached (tick_of timer) now.0 }
+{
+    match timer {
+        Some(at) => at.0 <= now.0,
+        None => false,
+    }
+}
+
+fn sooner(a: Option<Tick>, b: Option<Tick>) -> Option<Tick>
+    ensures { tick_of result ≡ sooner_of (tick_of a) (tick_of b) }
+{
+    match (a, b) {
+        (Some(x), Some(y)) => Some(if y.0 < x.0 { y } else { x }),
+        (None, other) => other,
+        (some, None) => some,
+    }
+}
