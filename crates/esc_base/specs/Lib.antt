@@ -4,3 +4,4 @@ pub mod Numbers
 pub mod Journal
 pub mod Range
 pub mod Trace
+pub mod Flash

@@ -2,7 +2,12 @@
 //! trace, and the traits through which a run reaches the outside.
 #![tactic(auto)]
 
+mod cells;
 mod event;
+mod file_flash;
+mod flash;
+#[cfg(test)]
+mod flash_tests;
 mod gate;
 mod kind;
 mod memory;
@@ -15,6 +20,8 @@ mod tests;
 mod tick;
 
 pub use event::{Arrived, Event};
+pub use file_flash::FileFlash;
+pub use flash::{FlashDev, FlashOp, MemFlash};
 pub use gate::{Block48, GateWord, Leg, Sector};
 pub use kind::Kind;
 pub use memory::{MemSink, MemSource};

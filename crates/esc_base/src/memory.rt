@@ -1,25 +1,37 @@
-ghost use Rattle.std.specs.Prelude.{◌≡◌, ◌≤◌, ◌<◌, ◌^◌, OnErr, ◌++◌, [], ℕ, List, Option, Some, IfOk, OnOk, length, drop, take, vec_len};
+ghost use Rattle.std.specs.Prelude.{◌≡◌, ◌≤◌, ◌<◌, ◌^◌, OnErr, ◌+◌, ◌++◌, [], ◌∷◌, min, ℕ, List, Option, Some, IfOk, OnOk, length, drop, take, vec_len};
 
 use crate::{Failed, NoMemory, Sink, Source, raised};
 use std::alloc::Global;
 
 /// Calls that are counted from 1, and the numbers of those that are to fail.
 #[derive(Drop)]
-struct Calls {
+pub(crate) struct Calls {
     made: u64,
     fails: Vec<u64>,
 }
 
 impl Calls {
-    fn new(alloc: Global, fails: &[u64]) -> Result<Calls, NoMemory> {
+    pub(crate) fn new(alloc: Global, fails: &[u64]) -> Result<Calls, NoMemory> {
         match Vec::from_slice(alloc, fails) {
             Ok(fails) => Ok(Calls { made: 0, fails }),
             Err(_) => Err(NoMemory),
         }
     }
 
+    /// Makes the `n`-th later call fail.
+    pub(crate) fn fail(&mut self, n: u64) -> Result<(), NoMemory>
+        ensures made { self.new.made ≡ self.old.made }
+        ensures planned { OnOk result (self.new.fails.items ≡ self.old.fails.items ++ (min (self.old.made + n) 18446744073709551615) ∷ []) }
+        ensures refused { OnErr result (self.new.fails.items ≡ self.old.fails.items) }
+    {
+        match self.fails.push(self.made.saturating_add(n)) {
+            Ok(()) => Ok(()),
+            Err(_) => Err(NoMemory),
+        }
+    }
+
     /// Counts one call, and answers whether it is to fail.
-    fn is_to_fail(&mut self) -> bool {
+    pub(crate) fn is_to_fail(&mut self) -> bool {
         self.made = self.made.saturating_add(1);
         self.fails.contains(&self.made)
     }

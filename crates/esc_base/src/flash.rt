@@ -1,0 +1,188 @@
+//! The flash, and a flash in memory.
+ghost use Rattle.std.specs.Prelude.{◌≡◌, ◌≤◌, ◌<◌, ◌+◌, ◌*◌, ◌^◌, ◌++◌, ◌∷◌, [], ◌≢◌, min, ℕ, List, Option, Some, IsNone, IfOk, OnOk, OnErr, length, drop, take, vec_len};
+ghost use Rattle.std.specs.Option.{option_map};
+ghost use Rattle.esc_base.specs.Outside.{Rose};
+ghost use Rattle.esc_base.specs.declared.flash.FlashOp.{FlashOp};
+
+use crate::cells::{blank_cells, erase_cells, program_cells};
+use crate::memory::Calls;
+use crate::{Failed, NoMemory, raised};
+use std::alloc::Global;
+
+/// The bytes of a flash: 32 pages.
+pub(crate) const FLASH: usize = 32768;
+
+/// The bytes of a page.
+pub(crate) const PAGE: usize = 1024;
+
+/// A flash of 32 pages of 1024 bytes. Erasing sets bits and programming clears them.
+pub trait FlashDev {
+    ghost use Rattle.esc_base.specs.Flash.{erased, programmed, ChangesWithin, IsRead, IsWhole};
+
+    /// Its 32768 bytes, where it tells them.
+    ghost bytes: { Self → Option (List ℕ) };
+
+    /// How often it has failed.
+    ghost faults: { Self → ℕ };
+
+    /// Binds the image at a path, or leaves the device as it is.
+    fn attach(&mut self, image: Option<&str>) -> Result<(), Failed>
+        ensures none { IsNone image.entry → bytes self.new ≡ bytes self.old }
+        ensures unchanged { OnErr result (bytes self.new ≡ bytes self.old) }
+        ensures no_fewer { faults self.old ≤ faults self.new }
+        ensures counted { faults self.new < 2 ^ 64 }
+        ensures failed { OnErr result (Rose (faults self.old) (faults self.new)) };
+
+    /// Fills `buf` with the bytes from `at` on.
+    fn read(&mut self, at: u16, buf: &mut [u8]) -> Result<(), Failed>
+        requires { at + length buf.old ≤ 32768 }
+        ensures read { OnOk result (IsRead (bytes self.old) at buf.new) }
+        ensures unchanged { bytes self.new ≡ bytes self.old }
+        ensures no_fewer { faults self.old ≤ faults self.new }
+        ensures counted { faults self.new < 2 ^ 64 }
+        ensures failed { OnErr result (Rose (faults self.old) (faults self.new)) };
+
+    /// Sets the bytes of a page, 0 to 31, to 0xFF. After a failure they may be any.
+    fn erase(&mut self, page: u8) -> Result<(), Failed>
+        requires { page < 32 }
+        ensures erased { OnOk result (bytes self.new ≡ option_map (λ cells. erased cells page) (bytes self.old)) }
+        ensures within { OnErr result (ChangesWithin (page * 1024) 1024 (bytes self.old) (bytes self.new)) }
+        ensures no_fewer { faults self.old ≤ faults self.new }
+        ensures counted { faults self.new < 2 ^ 64 }
+        ensures failed { OnErr result (Rose (faults self.old) (faults self.new)) };
+
+    /// Programs the bytes from `at` on: each becomes the bitwise and of the old and the new one. After a
+    /// failure they may be any.
+    fn program(&mut self, at: u16, image: &[u8]) -> Result<(), Failed>
+        requires { at + length image.now ≤ 32768 }
+        ensures programmed { OnOk result (bytes self.new ≡ option_map (λ cells. programmed cells at image.now) (bytes self.old)) }
+        ensures within { OnErr result (ChangesWithin at (length image.now) (bytes self.old) (bytes self.new)) }
+        ensures no_fewer { faults self.old ≤ faults self.new }
+        ensures counted { faults self.new < 2 ^ 64 }
+        ensures failed { OnErr result (Rose (faults self.old) (faults self.new)) };
+
+    ghost whole: { (flash : Self) → IsWhole (bytes flash) };
+}
+
+/// A call of a flash, by its kind.
+#[derive(Clone, Copy, Debug, PartialEq, Eq, Drop)]
+pub enum FlashOp {
+    Attach,
+    Read,
+    Erase,
+    Program,
+}
+
+/// A flash in memory, which tells its bytes. Failing calls change nothing but the counts.
+#[derive(Drop)]
+pub struct MemFlash {
+    cells: Vec<u8>,
+    attach: Calls,
+    read: Calls,
+    erase: Calls,
+    program: Calls,
+    faults: u64,
+    ghost counted: { faults < 2 ^ 64 },
+    ghost whole: { length cells.items ≡ 32768 },
+}
+
+impl MemFlash {
+    ghost use Rattle.esc_base.specs.Flash.{blank, flash_cells, made_calls, placed, planned_calls};
+
+    /// A blank flash: each byte is 0xFF.
+    pub fn new(alloc: Global) -> Result<MemFlash, NoMemory>
+        ensures { IfOk result (λ flash. flash_cells flash ≡ blank 32768) }
+    {
+        Ok(MemFlash {
+            cells: blank_cells(alloc, FLASH)?,
+            attach: Calls::new(alloc, &[])?,
+            read: Calls::new(alloc, &[])?,
+            erase: Calls::new(alloc, &[])?,
+            program: Calls::new(alloc, &[])?,
+            faults: 0,
+        })
+    }
+
+    /// Makes the `n`-th later call of this kind fail, counted from 1.
+    pub fn fail(&mut self, op: FlashOp, n: u64) -> Result<(), NoMemory>
+        requires { 0 < n }
+        ensures cells { flash_cells self.new ≡ flash_cells self.old }
+        ensures faults { self.new.faults ≡ self.old.faults }
+        ensures planned { OnOk result (planned_calls self.new op ≡ planned_calls self.old op ++ min (made_calls self.old op + n) 18446744073709551615 ∷ []) }
+        ensures refused { OnErr result (planned_calls self.new op ≡ planned_calls self.old op) }
+        ensures others { (other : FlashOp) → other ≢ op → planned_calls self.new other ≡ planned_calls self.old other }
+        ensures made { (any : FlashOp) → made_calls self.new any ≡ made_calls self.old any }
+    {
+        match op {
+            FlashOp::Attach => self.attach.fail(n),
+            FlashOp::Read => self.read.fail(n),
+            FlashOp::Erase => self.erase.fail(n),
+            FlashOp::Program => self.program.fail(n),
+        }
+    }
+
+    /// Places bytes from `at` on, whatever is there.
+    pub fn set(&mut self, at: u16, bytes: &[u8])
+        requires { at + length bytes.now ≤ 32768 }
+        ensures cells { flash_cells self.new ≡ placed (flash_cells self.old) at bytes.now }
+        ensures faults { self.new.faults ≡ self.old.faults }
+    {
+        let at = at as usize;
+        self.cells[at..at + bytes.len()].copy_from_slice(bytes);
+    }
+
+    /// All 32768 bytes.
+    pub fn bytes(&self) -> &[u8]
+        ensures { result.now ≡ flash_cells self.now }
+    {
+        self.cells.as_slice()
+    }
+
+    /// Counts a failure where the call is to fail.
+    fn judged(&mut self, is_to_fail: bool) -> Result<(), Failed>
+        ensures cells { self.new.cells ≡ self.old.cells }
+        ensures no_fewer { self.old.faults ≤ self.new.faults }
+        ensures failed { OnErr result (Rose self.old.faults self.new.faults) }
+    {
+        if is_to_fail {
+            self.faults = raised(self.faults);
+            return Err(Failed);
+        }
+        Ok(())
+    }
+}
+
+impl FlashDev for MemFlash {
+    ghost bytes = { λ flash. Some flash.cells.items };
+
+    ghost faults = { λ flash. flash.faults };
+
+    ghost whole = { λ flash. flash.whole };
+
+    fn attach(&mut self, _image: Option<&str>) -> Result<(), Failed> {
+        let is_to_fail = self.attach.is_to_fail();
+        self.judged(is_to_fail)
+    }
+
+    fn read(&mut self, at: u16, buf: &mut [u8]) -> Result<(), Failed> {
+        let is_to_fail = self.read.is_to_fail();
+        self.judged(is_to_fail)?;
+        let at = at as usize;
+        buf.copy_from_slice(&self.cells.as_slice()[at..at + buf.len()]);
+        Ok(())
+    }
+
+    fn erase(&mut self, page: u8) -> Result<(), Failed> {
+        let is_to_fail = self.erase.is_to_fail();
+        self.judged(is_to_fail)?;
+        erase_cells(self.cells.as_mut_slice(), page as usize * PAGE, PAGE);
+        Ok(())
+    }
+
+    fn program(&mut self, at: u16, image: &[u8]) -> Result<(), Failed> {
+        let is_to_fail = self.program.is_to_fail();
+        self.judged(is_to_fail)?;
+        program_cells(self.cells.as_mut_slice(), at as usize, image);
+        Ok(())
+    }
+}
