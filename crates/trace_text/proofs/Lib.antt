@@ -1,0 +1,7 @@
+pub mod Digits
+pub mod Spacing
+pub mod Fields
+pub mod Saying
+pub mod Cut
+pub mod Taking
+pub mod Answering

@@ -1,0 +1,165 @@
+-- How far a reader has come, and what its answers say.
+use Rattle.std.specs.Prelude.{◌≡◌, ℕ, ◌+◌, ◌≤◌, false, ◌==◌, List, [], ◌∷◌, ◌++◌, take, drop, Option, Some, None}
+use Rattle.std.specs.Io.KnownBytes.{prepend_known, IsAtEnd}
+use Rattle.esc_base.specs.declared.tick.Tick.{Tick}
+use Rattle.esc_base.specs.declared.event.Event.{Event}
+use Rattle.esc_base.specs.declared.event.Event.TheVariants as event
+use Rattle.esc_base.specs.Trace.{tick_of}
+use Rattle.trace_text.specs.declared.item.Place.{Place}
+use Rattle.trace_text.specs.declared.item.Item.{Item}
+use Rattle.trace_text.specs.declared.item.Item.TheVariants as item
+use Rattle.trace_text.specs.declared.item.Refusal.{Refusal}
+use Rattle.trace_text.specs.declared.item.Refusal.TheVariants as refusal
+use Rattle.trace_text.specs.declared.piece.Held.{Held}
+use Rattle.trace_text.specs.declared.reader.Lines.{Lines}
+use Rattle.trace_text.specs.declared.parse.Entry.{Entry}
+use Rattle.trace_text.specs.declared.parse.Entry.TheVariants as entry
+use Rattle.trace_text.specs.Line.{after_event}
+use Rattle.trace_text.specs.Read.{Reading, Trace, Refused, with_event, read_from, Read}
+
+-- the bytes that are held and weren't read
+abbrev pub unread : Held → List ℕ
+unread h = drop h.at (take h.len h.buffer)
+
+-- the text ahead: what is held, followed by what the source has left, where the source tells that
+abbrev pub ahead : Held → Option (List ℕ) → Option (List ℕ)
+ahead h left = prepend_known (unread h) left
+
+-- what a reader remembers of the lines before
+abbrev pub place : Lines → Place
+place l = l.place
+
+-- a reading behind these events
+abbrev pub with_events : List Event → Reading → Reading
+with_events events (Trace more end) = Trace (events ++ more) end
+with_events events (Refused more line kind) = Refused (events ++ more) line kind
+
+-- these events were read of this text, and the text ahead goes on from there
+pub record HasRead (l : Lines) (left : Option (List ℕ)) (text : List ℕ) (events : List Event) : Type 0 where
+  pub rest : List ℕ
+  pub is_ahead : ahead l.held left ≡ Some rest
+  pub goes_on : Read text ≡ with_events events (read_from (place l) rest)
+
+abbrev pub events_of : Reading → List Event
+events_of (Trace events end) = events
+events_of (Refused events line kind) = events
+
+-- a reading begins with these events
+pub record BeginsWith (r : Reading) (events : List Event) : Type 0 where
+  pub more : List Event
+  pub is : events_of r ≡ events ++ more
+
+-- ---- what an event's place asks of it
+
+-- a serial byte stands at least 20000 ticks after the one before
+abbrev pub IsSpaced : Option Tick → Event → Type 0
+IsSpaced before (event.Edge t level) = Unit {0}
+IsSpaced before (event.Comp t level) = Unit {0}
+IsSpaced None (event.Serial t byte) = Unit {0}
+IsSpaced (Some b) (event.Serial t byte) = b.0 + 20000 ≤ t.0
+IsSpaced before (event.Stall t n) = Unit {0}
+
+abbrev pub StallFits : Event → Type 0
+StallFits (event.Edge t level) = Unit {0}
+StallFits (event.Comp t level) = Unit {0}
+StallFits (event.Serial t byte) = Unit {0}
+StallFits (event.Stall t n) = (1 ≤ n) × (n ≤ 16777216)
+
+-- a tick isn't below that of the line before, nor above the greatest time
+abbrev pub InTime : Place → ℕ → Type 0
+InTime p t = (p.time.0 ≤ t) × (t ≤ 1073741824)
+
+pub record Follows (p : Place) (e : Event) : Type 0 where
+  pub in_time : InTime p (tick_of e)
+  pub spaced : IsSpaced p.serial e
+  pub stall : StallFits e
+
+-- the same of what a line says
+abbrev pub EntryFits : Place → Entry → Type 0
+EntryFits p (entry.Event e) = Follows p e
+EntryFits p (entry.End t) = InTime p t.0
+
+-- a refusal for what stands in the line itself
+abbrev pub IsOfLine : Refusal → Type 0
+IsOfLine refusal.NoEnd = ⊥
+IsOfLine refusal.AfterEnd = ⊥
+IsOfLine kind = Unit {0}
+
+-- facts by the kind of an answer
+abbrev pub IfEvent : Item → (Event → Type 0) → Type 0
+IfEvent (item.Event e) P = P e
+IfEvent (item.End t) P = Unit {0}
+IfEvent item.Fault P = Unit {0}
+IfEvent (item.Refused kind) P = Unit {0}
+
+abbrev pub IfEnd : Item → (Tick → Type 0) → Type 0
+IfEnd (item.Event e) P = Unit {0}
+IfEnd (item.End t) P = P t
+IfEnd item.Fault P = Unit {0}
+IfEnd (item.Refused kind) P = Unit {0}
+
+abbrev pub OnFault : Item → Type 0 → Type 0
+OnFault (item.Event e) P = Unit {0}
+OnFault (item.End t) P = Unit {0}
+OnFault item.Fault P = P
+OnFault (item.Refused kind) P = Unit {0}
+
+abbrev pub IfRefused : Item → (Refusal → Type 0) → Type 0
+IfRefused (item.Event e) P = Unit {0}
+IfRefused (item.End t) P = Unit {0}
+IfRefused item.Fault P = Unit {0}
+IfRefused (item.Refused kind) P = P kind
+
+-- AfterEnd is about the line behind END
+abbrev pub lines_looked_at : Item → ℕ
+lines_looked_at (item.Refused refusal.AfterEnd) = 2
+lines_looked_at r = 1
+
+-- NoEnd comes only where nothing is left
+abbrev pub SourceEnded : Option (List ℕ) → Item → Type 0
+SourceEnded left (item.Event e) = Unit {0}
+SourceEnded left (item.End t) = Unit {0}
+SourceEnded left item.Fault = Unit {0}
+SourceEnded left (item.Refused refusal.NoEnd) = IsAtEnd left
+SourceEnded left (item.Refused kind) = Unit {0}
+
+-- ---- one answer
+
+-- what an answer says of the text ahead at a place, and of the text and the place after it
+abbrev pub Says : Place → Option (List ℕ) → Item → Place → Option (List ℕ) → Type 0
+Says p None r q after = Unit {0}
+Says p (Some text) item.Fault q after = Unit {0}
+Says p (Some text) (item.End t) q after = read_from p text ≡ Trace [] t.0
+Says p (Some text) (item.Refused kind) q after = read_from p text ≡ Refused [] q.line kind
+Says p (Some text) (item.Event e) q None = ⊥
+Says p (Some text) (item.Event e) q (Some rest) = read_from p text ≡ with_event e (read_from q rest)
+
+-- the place after a line that was only looked at
+abbrev pub next_line : Place → Place
+next_line p = record p { line = p.line + 1 }
+
+-- one answer at a place: what it says of the text ahead, and of the place after it
+pub record Answers (p : Place) (before : Option (List ℕ)) (r : Item) (q : Place) (after : Option (List ℕ)) : Type 0 where
+  pub says : Says p before r q after
+  pub line : q.line ≡ p.line + lines_looked_at r
+  pub follows : IfEvent r (λ e. Follows p e)
+  pub goes_on : IfEvent r (λ e. q ≡ after_event p e)
+  pub in_time : IfEnd r (λ t. InTime p t.0)
+
+-- the same of this line, its line feed, and the text ahead
+abbrev pub AnswersWhole : Place → List ℕ → Option (List ℕ) → Item → Place → Option (List ℕ) → Type 0
+AnswersWhole p line None r q after = Answers p None r q after
+AnswersWhole p line (Some text) r q after = Answers p (Some (line ++ 10 ∷ text)) r q after
+
+-- no byte is a line feed
+abbrev pub NoLineFeed : List ℕ → Type 0
+NoLineFeed [] = Unit {0}
+NoLineFeed (b ∷ bytes) = ((b == 10) ≡ false) × NoLineFeed bytes
+
+-- n bytes, and the line feed behind them
+pub record IsLine (n : ℕ) (bytes : List ℕ) : Type 0 where
+  pub short : n ≤ 40
+  pub cut : bytes ≡ take n bytes ++ 10 ∷ drop (n + 1) bytes
+  pub one : NoLineFeed (take n bytes)
+
+-- what an event's place asks of it

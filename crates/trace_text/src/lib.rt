@@ -1,0 +1,21 @@
+//! Traces and journals as text: a reader of traces, line by line, and the lines of notes and events.
+#![tactic(auto)]
+
+mod event_line;
+mod field;
+mod held;
+mod item;
+mod lines;
+mod note_line;
+mod parse;
+mod piece;
+mod reader;
+#[cfg(test)]
+mod tests;
+mod write;
+
+pub use event_line::event_text;
+pub use item::{Item, Place, Refusal};
+pub use note_line::note_text;
+pub use reader::Lines;
+pub use write::Line;

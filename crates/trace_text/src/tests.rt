@@ -1,0 +1,168 @@
+use super::*;
+use esc_base::{Event, MemSource, Note, Tick};
+use std::test::Fail;
+
+/// The answer that ends the reading of a text of few lines, and its line.
+fn outcome(src: &mut MemSource) -> (Item, u64) {
+    let mut lines = Lines::new();
+    for _ in 0..9 {
+        match lines.next(src) {
+            Item::Event(_) => {}
+            item => return (item, lines.line()),
+        }
+    }
+    (Item::Fault, 0)
+}
+
+const END: Item = Item::End(Tick(20000));
+
+/// Texts, the line that ends the reading of each, and the answer there.
+static TEXTS: [(&str, u64, Item); 48] = [
+    ("20000 END\n", 1, END),
+    (
+        "0 E 1\n0 E 1\n0 C 0\n0 S 2f\n5 E 0\n20000 S aF\n20000 J 16777216\n20000 END\n",
+        8,
+        END,
+    ),
+    ("1073741824 END\n", 1, Item::End(Tick(1073741824))),
+    ("", 1, Item::Refused(Refusal::NoEnd)),
+    ("0 END", 1, Item::Refused(Refusal::NoEnd)),
+    ("0 E 1\n0 EN", 2, Item::Refused(Refusal::NoEnd)),
+    ("0 E 1\n", 2, Item::Refused(Refusal::NoEnd)),
+    ("0 END\nx", 2, Item::Refused(Refusal::AfterEnd)),
+    ("0 END\n\n", 2, Item::Refused(Refusal::AfterEnd)),
+    ("0 END x\nx", 1, Item::Refused(Refusal::Trailing)),
+    (
+        "1111111111222222222233333333334444444444\n",
+        1,
+        Item::Refused(Refusal::BadTime),
+    ),
+    (
+        "1111111111222222222233333333334444444444",
+        1,
+        Item::Refused(Refusal::NoEnd),
+    ),
+    (
+        "11111111112222222222333333333344444444445\n",
+        1,
+        Item::Refused(Refusal::TooLong),
+    ),
+    (
+        "11111111112222222222333333333344444444445",
+        1,
+        Item::Refused(Refusal::TooLong),
+    ),
+    ("\n", 1, Item::Refused(Refusal::BadTime)),
+    ("5\n", 1, Item::Refused(Refusal::BadTime)),
+    ("05 E 1\n", 1, Item::Refused(Refusal::BadTime)),
+    ("x END\n", 1, Item::Refused(Refusal::BadTime)),
+    ("5 E 1\n03 E 1\n", 2, Item::Refused(Refusal::BadTime)),
+    ("5 E 1\n4 E 0\n", 2, Item::Refused(Refusal::TimeBack)),
+    ("5 E 1\n4 X\n", 2, Item::Refused(Refusal::TimeBack)),
+    ("5 E 1\n4 END\n", 2, Item::Refused(Refusal::TimeBack)),
+    ("1073741825 END\n", 1, Item::Refused(Refusal::TooLate)),
+    ("1073741825 X\n", 1, Item::Refused(Refusal::TooLate)),
+    (
+        "18446744073709551616 E 1\n",
+        1,
+        Item::Refused(Refusal::TooLate),
+    ),
+    ("5 X 2\n", 1, Item::Refused(Refusal::BadKind)),
+    ("5  E 1\n", 1, Item::Refused(Refusal::BadKind)),
+    ("5 \n", 1, Item::Refused(Refusal::BadKind)),
+    ("5 e 1\n", 1, Item::Refused(Refusal::BadKind)),
+    ("5 E\n", 1, Item::Refused(Refusal::BadValue)),
+    ("5 E \n", 1, Item::Refused(Refusal::BadValue)),
+    ("5 E 2\n", 1, Item::Refused(Refusal::BadValue)),
+    ("5 C 10\n", 1, Item::Refused(Refusal::BadValue)),
+    ("5 E 1\r\n", 1, Item::Refused(Refusal::BadValue)),
+    ("5 S 2g\n", 1, Item::Refused(Refusal::BadValue)),
+    ("5 J 0\n", 1, Item::Refused(Refusal::BadValue)),
+    ("5 J 01\n", 1, Item::Refused(Refusal::BadValue)),
+    ("5 J 16777217\n", 1, Item::Refused(Refusal::BadValue)),
+    ("5 E 2 3\n", 1, Item::Refused(Refusal::BadValue)),
+    ("5 E 1 \n", 1, Item::Refused(Refusal::Trailing)),
+    ("5 E 1 0\n", 1, Item::Refused(Refusal::Trailing)),
+    ("5 END \n", 1, Item::Refused(Refusal::Trailing)),
+    ("0 S 2f\n5 S 30 x\n", 2, Item::Refused(Refusal::Trailing)),
+    ("0 S 2f\n19999 S 30\n", 2, Item::Refused(Refusal::TooClose)),
+    (
+        "0 S 2f\n5 E 1\n19999 S 30\n",
+        3,
+        Item::Refused(Refusal::TooClose),
+    ),
+    ("0 S 2f\n5 E 1\n20000 S 30\n20000 END\n", 4, END),
+    ("0 S 2f\n0 S 30\n", 2, Item::Refused(Refusal::TooClose)),
+    ("0 E 1\n5 E 1\n", 3, Item::Refused(Refusal::NoEnd)),
+];
+
+#[test]
+fn texts_have_these_outcomes_in_pieces_of_any_size(rt: HostRuntime) -> Result<(), Fail> {
+    for (text, line, item) in &TEXTS {
+        for piece in [1, 7, 4096] {
+            let mut src = MemSource::new(rt.alloc(), text.as_bytes(), piece, &[])?;
+            let (answer, at) = outcome(&mut src);
+            assert_eq!(rt; answer, *item, "{text:?} in pieces of {piece}");
+            assert_eq!(rt; at, *line, "{text:?} in pieces of {piece}");
+        }
+    }
+    for failing in [1, 3, 6] {
+        let mut src = MemSource::new(rt.alloc(), b"0 END\n", 1, &[failing])?;
+        let (answer, _) = outcome(&mut src);
+        assert_eq!(rt; answer, Item::Fault, "call {failing} fails");
+    }
+    Ok(())
+}
+
+#[test]
+fn notes_and_events_have_these_lines(rt: HostRuntime) {
+    let t = Tick(9);
+    assert_eq!(rt;
+        note_text(&Note::Up { t: Tick(0), r: 1 }).as_str(),
+        "U 0 1\n"
+    );
+    assert_eq!(rt;
+        note_text(&Note::Good { t, v: 1046, q: 0 }).as_str(),
+        "F 9 G 1046 0\n"
+    );
+    assert_eq!(rt; note_text(&Note::Nothing { t }).as_str(), "F 9 N\n");
+    assert_eq!(rt;
+        note_text(&Note::Period { t, p: None }).as_str(),
+        "V 9 none\n"
+    );
+    let reply = Note::Reply {
+        t,
+        s: Tick(23960),
+        b: 0b001010010100101010001,
+    };
+    assert_eq!(rt;
+        note_text(&reply).as_str(),
+        "R 9 23960 001010010100101010001\n"
+    );
+    assert_eq!(rt;
+        note_text(&Note::Packet { t, cc: 0x30, kk: 3 }).as_str(),
+        "B 9 30 03\n"
+    );
+    let greatest = Note::Watched {
+        t: Tick(4294967295),
+        i: 4294967295,
+        n: 4294967295,
+        s: 1,
+    };
+    assert_eq!(rt;
+        note_text(&greatest).as_str(),
+        "Y 4294967295 4294967295 4294967295 1\n"
+    );
+    assert_eq!(rt;
+        event_text(&Event::Edge { t, level: true }).as_str(),
+        "9 E 1\n"
+    );
+    assert_eq!(rt;
+        event_text(&Event::Serial { t, byte: 0xAF }).as_str(),
+        "9 S af\n"
+    );
+    assert_eq!(rt;
+        event_text(&Event::Stall { t, n: 16777216 }).as_str(),
+        "9 J 16777216\n"
+    );
+}
