@@ -1,0 +1,51 @@
+-- The sixteen bits of a DShot frame, the most significant first: eleven of value, the telemetry bit, four of checksum.
+use Rattle.std.specs.Prelude.{ℕ, ◌+◌, ◌*◌, ◌/◌, ◌%◌, ◌^◌, zero, suc, Bool, true, false, not, ◌&&◌, ◌==◌, if◌then◌else◌, List, [], ◌∷◌, length, take, drop, map, slice_index_or}
+use Rattle.esc_base.specs.declared.signal.Frame.{Frame}
+use Rattle.esc_base.specs.declared.signal.Verdict.{Verdict}
+use Rattle.esc_base.specs.declared.signal.Verdict.TheVariants.{Good, Bad}
+use Rattle.esc_base.specs.declared.signal.Why.TheVariants.{Check}
+
+abbrev pub digit : Bool → ℕ
+digit true = 1
+digit false = 0
+
+-- the number that bits stand for
+unfoldable pub number : List Bool → ℕ
+number [] = 0
+number (b ∷ bits) = digit b * 2 ^ length bits + number bits
+
+-- the low bits of a number, so many of them
+unfoldable pub low_bits : ℕ → ℕ → List Bool
+low_bits zero n = []
+low_bits (suc k) n = (n / 2 ^ k % 2 == 1) ∷ low_bits k n
+
+abbrev pub xor : Bool → Bool → Bool
+xor true b = not b
+xor false b = b
+
+-- place by place, the exclusive or of two rows of bits
+abbrev pub each_xor : List Bool → List Bool → List Bool
+each_xor (a ∷ xs) (b ∷ ys) = xor a b ∷ each_xor xs ys
+each_xor _ _ = []
+
+-- two rows of bits are the same
+abbrev pub is_same : List Bool → List Bool → Bool
+is_same [] [] = true
+is_same (a ∷ xs) (b ∷ ys) = not (xor a b) && is_same xs ys
+is_same _ _ = false
+
+-- the exclusive or of three groups of four bits
+abbrev pub sum_of : List Bool → List Bool
+sum_of upper = each_xor (each_xor (take 4 upper) (take 4 (drop 4 upper))) (take 4 (drop 8 upper))
+
+-- the checksum of the upper twelve bits: their sum, or in an inverted frame its complement
+abbrev pub checksum_of : Bool → List Bool → List Bool
+checksum_of inverted upper = if inverted then map not (sum_of upper) else sum_of upper
+
+abbrev pub frame_of : List Bool → Frame
+frame_of bits = record { value = number (take 11 bits); telemetry = slice_index_or bits 11 false }
+
+-- what sixteen bits say
+unfoldable pub reading : Bool → List Bool → Verdict
+reading inverted bits =
+    if is_same (drop 12 bits) (checksum_of inverted (take 12 bits)) then Good (frame_of bits) else Bad Check

@@ -1,0 +1,10 @@
+//! Servo pulses: the verdict on a burst of two edges, and the throttle value of a pulse's width.
+#![tactic(auto)]
+
+mod servo;
+#[cfg(test)]
+mod tests;
+mod width;
+
+pub use servo::{InputKind, Servo};
+pub use width::{pulse, value_of};
