@@ -1,5 +1,5 @@
 -- A journal that has begun goes on to a whole one, and to one alone.
-use Rattle.std.proofs.Common.{◌≡◌, ◌<◌, ◌≤◌, ◌+◌, ◌-◌, ◌*◌, ℕ, zero, suc, Bool, true, false, not, ◌&&◌, ◌==◌, nat_lt, nat_le, if◌then◌else◌, List, [], ◌∷◌, ◌++◌, length, Option, Some, None, option_map, refl, sym, ◌∙◌, ap, subst, arith}
+use Rattle.std.proofs.Common.{◌≡◌, ◌<◌, ◌≤◌, ◌+◌, ◌-◌, ◌*◌, ℕ, zero, suc, Bool, true, false, not, ◌&&◌, ◌==◌, nat_lt, if◌then◌else◌, List, [], ◌∷◌, ◌++◌, length, Option, Some, None, option_map, refl, sym, ◌∙◌, ap, subst, arith}
 use Rattle.std.specs.List.{All, fold}
 use Rattle.std.proofs.lemmas.List.Elements.{All-head, All-tail, All-push, All-nil, All-cons, All-append}
 use Rattle.std.proofs.lemmas.Bool.Decides.{nat_tests}
@@ -15,7 +15,7 @@ use Rattle.esc_base.specs.Journal.{time_of}
 use Rattle.esc_base.specs.Trace.{line}
 use Rattle.edge_capture.specs.Edges.{blank, last_at}
 use Rattle.edge_capture.specs.Burst.{wait}
-use Rattle.edge_capture.specs.Burst.{is_closed, comes_early, hears, hear, burst, close_of, close}
+use Rattle.edge_capture.specs.Burst.{is_closed, comes_early, hears, hear, burst, close}
 use Rattle.dshot_frame.specs.Verdict.{verdict_of}
 use Rattle.am32sim.specs.First.{up, opening, verdict_note, follows, AreInTurn, last_of, IsPast, First}
 use Rattle.am32sim.proofs.InTurn.{closes_then, time-verdict}

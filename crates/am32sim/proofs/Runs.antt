@@ -1,5 +1,5 @@
 -- A whole run, event by event, and what each of its endings says.
-use Rattle.std.proofs.Common.{◌≡◌, ◌⊎◌, inl, inr, ℕ, List, [], ◌∷◌, ◌++◌, Option, Some, None, refl, sym, ◌∙◌, ap, subst, arith, append_assoc, append-nil}
+use Rattle.std.proofs.Common.{◌≡◌, ◌⊎◌, inl, inr, ℕ, List, [], ◌∷◌, ◌++◌, Option, Some, None, refl, sym, ◌∙◌, ap, subst, append_assoc, append-nil}
 use Rattle.std.specs.Io.KnownBytes.{append_known}
 use Rattle.esc_base.specs.declared.note.Note.{Note}
 use Rattle.esc_base.specs.declared.event.Event.{Event}
@@ -17,7 +17,7 @@ use Rattle.am32sim.specs.declared.windows.Windows.{Windows}
 use Rattle.am32sim.specs.First.{First, IsFront}
 use Rattle.am32sim.specs.Stands.{StandsFor, IsBlank, EndsAt, BeginsUntil}
 use Rattle.am32sim.specs.Goes.{GoesOn, BreaksOff}
-use Rattle.am32sim.specs.Run.{last_tick_from, last_tick, Reads, ReadsFront, IsJournal, Wrote, WroteFront, IsDone, IsRefused, IsReadFault, IsWriteFault}
+use Rattle.am32sim.specs.Run.{last_tick_from, last_tick, Reads, ReadsFront, IsJournal, Wrote, IsDone, IsRefused, IsReadFault, IsWriteFault}
 use Rattle.am32sim.proofs.Rest.{first_sole}
 use Rattle.am32sim.proofs.Written.{written_whole}
 use Rattle.am32sim.proofs.Calls.{append_known-twice, append_known-nil, text-append}

@@ -1,5 +1,5 @@
 -- What a run has written, note by note and event by event.
-use Rattle.std.proofs.Common.{◌≡◌, ◌<◌, ◌≤◌, ◌+◌, ◌-◌, ℕ, Bool, true, false, ◌==◌, nat_le, if◌then◌else◌, List, [], ◌∷◌, ◌++◌, length, Option, Some, None, option_map, refl, sym, ◌∙◌, ap, subst, arith}
+use Rattle.std.proofs.Common.{◌≡◌, ◌<◌, ◌≤◌, ◌+◌, ◌-◌, ℕ, Bool, true, false, ◌==◌, if◌then◌else◌, List, [], ◌∷◌, ◌++◌, length, Option, Some, None, option_map, refl, sym, ◌∙◌, ap, subst, arith}
 use Rattle.std.specs.List.{All}
 use Rattle.std.proofs.lemmas.List.{length_push, get_or_push}
 use Rattle.std.proofs.lemmas.List.Elements.{All-push, All-weaker, All-nil}
@@ -12,7 +12,7 @@ use Rattle.esc_base.specs.declared.note.Note.{Note}
 use Rattle.esc_base.specs.declared.event.Event.{Event}
 use Rattle.esc_base.specs.declared.event.Event.TheVariants as event
 use Rattle.esc_base.specs.Journal.{time_of}
-use Rattle.esc_base.specs.Trace.{line, line_next, differ, tick_of}
+use Rattle.esc_base.specs.Trace.{line, differ, tick_of}
 use Rattle.esc_base.proofs.TraceLaws.{line-push}
 use Rattle.edge_capture.specs.Edges.{blank, last_at}
 use Rattle.edge_capture.specs.Burst.{wait}
@@ -22,7 +22,7 @@ use Rattle.edge_capture.proofs.Stable.{burst-nil}
 use Rattle.dshot_frame.specs.Verdict.{verdict_of}
 use Rattle.am32sim.specs.declared.windows.Phase.{Phase}
 use Rattle.am32sim.specs.declared.windows.Phase.TheVariants.{Listening, Pausing}
-use Rattle.am32sim.specs.First.{up, opening, verdict_note, pause_of, follows, AreInTurn, last_of, IsPast, First}
+use Rattle.am32sim.specs.First.{up, opening, verdict_note, pause_of, follows, last_of, IsPast, First}
 use Rattle.am32sim.specs.Due.{due, IsDueFrom, IsNewest, HasWritten}
 use Rattle.am32sim.specs.Goes.{Begun}
 use Rattle.am32sim.proofs.InTurn.{last_of-push, in_turn_push, in_turn_grows, time-verdict, follows-verdict}

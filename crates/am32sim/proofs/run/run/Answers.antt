@@ -1,7 +1,6 @@
-use Rattle.std.proofs.Common.{◌≡◌, ◌≤◌, ◌∙◌, refl, arith}
-use Rattle.trace_text.specs.Read.{Refused}
+use Rattle.std.proofs.Common.{arith}
 use Rattle.am32sim.proofs.Calls.{on_err}
-use Rattle.am32sim.proofs.Runs.{SoFar, so_far_none, so_far_event, broken_begin, broken_event, broken_end, done, refused, faulted}
+use Rattle.am32sim.proofs.Runs.{so_far_none, so_far_event, broken_begin, broken_event, broken_end, done, refused, faulted}
 use Rattle.am32sim.proofs.run.run.Goals as goal
 
 pub returns-in_err-begin-clause-err : goal.returns-in_err-begin-clause-err

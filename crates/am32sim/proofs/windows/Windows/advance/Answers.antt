@@ -1,4 +1,4 @@
-use Rattle.std.proofs.Common.{◌≡◌, ◌≤◌, ◌∙◌, refl, arith}
+use Rattle.std.proofs.Common.{◌∙◌, refl, arith}
 use Rattle.am32sim.specs.Goes.{Begun}
 use Rattle.am32sim.specs.Stands.{WroteBelow}
 use Rattle.am32sim.proofs.Written.{written_begun}

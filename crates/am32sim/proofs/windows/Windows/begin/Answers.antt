@@ -1,7 +1,7 @@
-use Rattle.std.proofs.Common.{◌≡◌, [], ◌∷◌, ◌++◌, List, refl, sym, ap, subst}
+use Rattle.std.proofs.Common.{◌≡◌, [], ◌∷◌, ◌++◌, List, ap}
 use Rattle.esc_base.specs.declared.note.Note.{Note}
 use Rattle.esc_base.specs.declared.event.Event.{Event}
-use Rattle.am32sim.specs.First.{up, opening, IsFront}
+use Rattle.am32sim.specs.First.{up, opening}
 use Rattle.am32sim.specs.Stands.{StandsFor, IsBlank, BeginsUntil}
 use Rattle.am32sim.proofs.Written.{first_blank}
 use Rattle.am32sim.proofs.Calls.{goes_none, goes_put, breaks_put, on_err, on_ok_both, on_err_both}

@@ -1,6 +1,6 @@
 use Rattle.am32sim.specs.Goes.{Begun}
 use Rattle.am32sim.specs.Stands.{WroteBelow, StandsFor, EndsAt, BeginsUntil}
-use Rattle.std.proofs.Common.{[], ◌++◌, List, append-nil}
+use Rattle.std.proofs.Common.{[], append-nil}
 use Rattle.am32sim.proofs.Written.{written_below, written_whole}
 use Rattle.am32sim.proofs.Calls.{goes_from, goes_to, breaks_as, begun_front, on_ok_both, on_err_map}
 use Rattle.am32sim.proofs.windows.Windows.end.Goals as goal

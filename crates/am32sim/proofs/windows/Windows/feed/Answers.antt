@@ -1,4 +1,4 @@
-use Rattle.std.proofs.Common.{◌≡◌, ◌≤◌, [], ◌∷◌, ◌++◌, List, arith}
+use Rattle.std.proofs.Common.{[], ◌∷◌, ◌++◌, arith}
 use Rattle.esc_base.specs.Trace.{tick_of}
 use Rattle.am32sim.specs.Goes.{Begun}
 use Rattle.am32sim.specs.Stands.{WroteBelow, StandsFor, BeginsUntil}
