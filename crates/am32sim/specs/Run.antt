@@ -1,0 +1,118 @@
+-- What `run` reads and writes, by the status with which it ends.
+use Rattle.std.specs.Prelude.{◌≡◌, ◌⊎◌, ℕ, List, [], ◌∷◌, Option, Some, None}
+use Rattle.std.specs.Io.KnownBytes.{append_known}
+use Rattle.esc_base.specs.declared.note.Note.{Note}
+use Rattle.esc_base.specs.declared.event.Event.{Event}
+use Rattle.esc_base.specs.Outside.{AppendsFront}
+use Rattle.esc_base.specs.Trace.{tick_of}
+use Rattle.trace_text.specs.declared.item.Refusal.{Refusal}
+use Rattle.trace_text.specs.declared.item.Refusal.TheVariants as refusal
+use Rattle.trace_text.specs.Read.{Reading, Trace, Refused, Read}
+use Rattle.trace_text.specs.Ahead.{BeginsWith}
+use Rattle.trace_text.specs.Text.{Text}
+use Rattle.am32sim.specs.declared.status.Status.{Status}
+use Rattle.am32sim.specs.declared.status.Status.TheVariants as status
+use Rattle.am32sim.specs.First.{First}
+
+-- the tick of the last event, or this one where there is none
+abbrev pub last_tick_from : ℕ → List Event → ℕ
+last_tick_from t [] = t
+last_tick_from t (e ∷ events) = last_tick_from (tick_of e) events
+
+-- the tick of the last event, or 0
+abbrev pub last_tick : List Event → ℕ
+last_tick events = last_tick_from 0 events
+
+-- where the source told what was left, that text says this
+abbrev pub Reads : Option (List ℕ) → Reading → Type 0
+Reads None r = Unit {0}
+Reads (Some bytes) r = Read bytes ≡ r
+
+-- where the source told what was left, that text begins with these events
+abbrev pub ReadsFront : Option (List ℕ) → List Event → Type 0
+ReadsFront None events = Unit {0}
+ReadsFront (Some bytes) events = BeginsWith (Read bytes) events
+
+-- the one journal of a trace that ends at a tick
+pub record IsJournal (trace : List Event) (end : ℕ) (notes : List Note) : Type 0 where
+  pub first : First trace end notes
+  pub sole : (others : List Note) → First trace end others → others ≡ notes
+
+-- its text was appended, where the sink tells its bytes
+pub record Wrote (trace : List Event) (end : ℕ) (before after : Option (List ℕ)) : Type 0 where
+  pub notes : List Note
+  pub journal : IsJournal trace end notes
+  pub appended : after ≡ append_known before (Text notes)
+
+-- a front of its text was appended
+pub record WroteFront (trace : List Event) (end : ℕ) (before after : Option (List ℕ)) : Type 0 where
+  pub notes : List Note
+  pub journal : IsJournal trace end notes
+  pub front : AppendsFront before (Text notes) after
+
+-- The whole trace was read, and its journal written.
+pub record IsDone (left before after : Option (List ℕ)) : Type 0 where
+  pub trace : List Event
+  pub end : ℕ
+  pub reads : Reads left (Trace trace end)
+  pub wrote : Wrote trace end before after
+
+-- A line was refused. The journal is that of the events before it, up to the last one's tick.
+pub record IsRefused (line : ℕ) (kind : Refusal) (left before after : Option (List ℕ)) : Type 0 where
+  pub trace : List Event
+  pub reads : Reads left (Refused trace line kind)
+  pub wrote : Wrote trace (last_tick trace) before after
+
+-- The source failed. The journal is that of the events that were read.
+pub record IsReadFault (left before after : Option (List ℕ)) : Type 0 where
+  pub trace : List Event
+  pub reads : ReadsFront left trace
+  pub wrote : Wrote trace (last_tick trace) before after
+
+-- The sink failed. A front of the journal of the events that were read is written, up to END where that was read.
+pub record IsWriteFault (left before after : Option (List ℕ)) : Type 0 where
+  pub trace : List Event
+  pub end : ℕ
+  pub reads : Reads left (Trace trace end) ⊎ (ReadsFront left trace × (end ≡ last_tick trace))
+  pub wrote : WroteFront trace end before after
+
+-- what was left to read, and what was given before and after
+abbrev pub Ran : Status → Option (List ℕ) → Option (List ℕ) → Option (List ℕ) → Type 0
+Ran status.Done left before after = IsDone left before after
+Ran (status.Refused line kind) left before after = IsRefused line kind left before after
+Ran status.Usage left before after = ⊥
+Ran status.ReadFault left before after = IsReadFault left before after
+Ran status.WriteFault left before after = IsWriteFault left before after
+Ran status.NoMemory left before after = ⊥
+
+-- a fact where the source failed
+abbrev pub OnReadFault : Status → Type 0 → Type 0
+OnReadFault status.Done P = Unit {0}
+OnReadFault (status.Refused line kind) P = Unit {0}
+OnReadFault status.Usage P = Unit {0}
+OnReadFault status.ReadFault P = P
+OnReadFault status.WriteFault P = Unit {0}
+OnReadFault status.NoMemory P = Unit {0}
+
+-- a fact where the sink failed
+abbrev pub OnWriteFault : Status → Type 0 → Type 0
+OnWriteFault status.Done P = Unit {0}
+OnWriteFault (status.Refused line kind) P = Unit {0}
+OnWriteFault status.Usage P = Unit {0}
+OnWriteFault status.ReadFault P = Unit {0}
+OnWriteFault status.WriteFault P = P
+OnWriteFault status.NoMemory P = Unit {0}
+
+-- a fact where the trace ended too early
+abbrev pub OnNoEnd : Status → Type 0 → Type 0
+OnNoEnd (status.Refused line refusal.NoEnd) P = P
+OnNoEnd s P = Unit {0}
+
+-- the source or the sink failed
+abbrev pub IsFault : Status → Type 0
+IsFault status.Done = ⊥
+IsFault (status.Refused line kind) = ⊥
+IsFault status.Usage = ⊥
+IsFault status.ReadFault = Unit {0}
+IsFault status.WriteFault = Unit {0}
+IsFault status.NoMemory = ⊥

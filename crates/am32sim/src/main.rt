@@ -1,0 +1,47 @@
+//! `am32sim`: a motor speed controller's control core, run on a trace of outside events.
+#![tactic(auto)]
+
+mod notes;
+mod run;
+mod status;
+#[cfg(test)]
+mod tests;
+mod windows;
+mod words;
+
+use esc_base::{InSource, OutSink};
+pub use run::sim_main;
+pub use status::{Status, status_text};
+use std::process::ExitCode;
+use std::{env, io};
+pub use words::Words;
+
+/// The words behind the program's name. A word that isn't text is in no command.
+fn words_of(rt: &HostRuntime) -> Result<Words, Status> {
+    let args = match env::args(rt) {
+        Ok(args) => args,
+        Err(e) if e.kind() == io::ErrorKind::InvalidData => return Err(Status::Usage),
+        Err(_) => return Err(Status::NoMemory),
+    };
+    let mut words = Words::new(rt.alloc());
+    for arg in args.skip(1) {
+        if words.push(arg.as_str()).is_err() {
+            return Err(Status::NoMemory);
+        }
+    }
+    Ok(words)
+}
+
+fn main(rt: HostRuntime) -> ExitCode {
+    let mut src = InSource::new(&rt);
+    let mut out = OutSink::new(io::writer(&rt));
+    let mut status = match words_of(&rt) {
+        Ok(words) => sim_main(&words, &mut src, &mut out),
+        Err(status) => status,
+    };
+    if out.flush().is_err() {
+        status = Status::WriteFault;
+    }
+    let _ = rt.eprint(status_text(&status).as_str());
+    ExitCode::from(status.exit_number())
+}

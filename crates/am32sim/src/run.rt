@@ -1,0 +1,67 @@
+ghost use Rattle.std.specs.Prelude.{◌≡◌, ◌≢◌, ◌⊎◌, ◌≤◌, ℕ, List, [], ◌∷◌, Option, Some, IfOk, OnErr, codes};
+ghost use Rattle.std.specs.Io.KnownBytes.{IsAtEnd};
+ghost use Rattle.esc_base.specs.declared.event.Event.{Event as AnEvent};
+ghost use Rattle.esc_base.specs.Outside.{Rose};
+ghost use Rattle.trace_text.specs.declared.item.Refusal.{Refusal as ARefusal};
+ghost use Rattle.trace_text.specs.Read.{Read, Trace};
+ghost use Rattle.trace_text.specs.Read.{Refused as RefusedBy};
+ghost use Rattle.am32sim.specs.Run.{Ran, IsWriteFault, OnReadFault, OnWriteFault, OnNoEnd, IsFault};
+
+use crate::windows::Windows;
+use crate::{Status, Words};
+use esc_base::{Failed, Sink, Source};
+use trace_text::{Item, Lines};
+
+/// Runs the core on the trace that the source gives, and writes the journal. An `Err` is the sink's.
+fn run<S: Source, K: Sink>(src: &mut S, out: &mut K) -> Result<Status, Failed>
+    ensures ok { IfOk result (λ s. Ran s (S.left src.old) (K.given out.old) (K.given out.new)) }
+    ensures read_fault { IfOk result (λ s. OnReadFault s (Rose (S.faults src.old) (S.faults src.new))) }
+    ensures no_end { IfOk result (λ s. OnNoEnd s (IsAtEnd (S.left src.new))) }
+    ensures taken { IfOk result (λ s. OnWriteFault s (Rose (K.faults out.old) (K.faults out.new))) }
+    ensures err { OnErr result (IsWriteFault (S.left src.old) (K.given out.old) (K.given out.new)) }
+    ensures write_fault { OnErr result (Rose (K.faults out.old) (K.faults out.new)) }
+{
+    let mut windows = Windows::start();
+    windows.begin(out)?;
+    let mut lines = Lines::new();
+    loop {
+        match lines.next(src) {
+            Item::Event(event) => windows.feed(event, out)?,
+            Item::End(t) => {
+                windows.end(t, out)?;
+                return Ok(Status::Done);
+            }
+            Item::Fault => return Ok(Status::ReadFault),
+            Item::Refused(kind) => {
+                let line = lines.line();
+                return Ok(Status::Refused { line, kind });
+            }
+        }
+    }
+}
+
+/// Runs the command that the words name, which is `run` alone. It reads a trace from `src`, writes its journal to
+/// `out`, one line in each call, and takes no memory.
+pub fn sim_main<S: Source, K: Sink>(words: &Words, src: &mut S, out: &mut K) -> Status
+    // Other words are refused before anything is read or written.
+    ensures usage { words.now ≢ codes "run" ∷ [] → result ≡ Status.Usage }
+    ensures untouched { words.now ≢ codes "run" ∷ [] → (src.new ≡ src.old) × (out.new ≡ out.old) }
+
+    // What was read and written, by the status, where source and sink tell their bytes.
+    ensures ran { words.now ≡ codes "run" ∷ [] → Ran result (S.left src.old) (K.given out.old) (K.given out.new) }
+
+    // Each fault is the source's or the sink's own, and without one the trace alone decides.
+    ensures read_fault { OnReadFault result (Rose (S.faults src.old) (S.faults src.new)) }
+    ensures write_fault { OnWriteFault result (Rose (K.faults out.old) (K.faults out.new)) }
+    ensures done { words.now ≡ codes "run" ∷ [] → (text : List ℕ) (trace : List AnEvent) (end : ℕ) → S.left src.old ≡ Some text → Read text ≡ Trace trace end → IsFault result ⊎ (result ≡ Status.Done) }
+    ensures refused { words.now ≡ codes "run" ∷ [] → (text : List ℕ) (trace : List AnEvent) (line : ℕ) (kind : ARefusal) → S.left src.old ≡ Some text → Read text ≡ RefusedBy trace line kind → IsFault result ⊎ (result ≡ Status.Refused line kind) }
+    ensures no_end { OnNoEnd result (IsAtEnd (S.left src.new)) }
+{
+    if !words.are_run_alone() {
+        return Status::Usage;
+    }
+    match run(src, out) {
+        Ok(status) => status,
+        Err(Failed) => Status::WriteFault,
+    }
+}
