@@ -142,6 +142,13 @@ impl Control {
         self.demand
     }
 
+    /// The number of the newest control tick, or 0.
+    pub fn number(&self) -> u32
+        ensures { result ≡ self.now.number }
+    {
+        self.number
+    }
+
     fn is_still(&self) -> bool
         ensures { result ≡ is_still self.now }
     {
