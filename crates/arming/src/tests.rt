@@ -52,6 +52,7 @@ fn arms_after_thirty_zero_frames(rt: HostRuntime) {
     assert!(rt; !control.tick(10002, Marks::empty()).armed_now);
     assert!(rt; control.tick(10003, Marks::empty()).armed_now);
     assert!(rt; control.armed());
+    assert_eq!(rt; control.number(), 10003);
 }
 
 #[test]
