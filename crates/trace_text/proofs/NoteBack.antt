@@ -1,6 +1,6 @@
 -- A note's line, read back word by word.
-use Rattle.std.proofs.Common.{min, ◌≡◌, ◌≤◌, ◌<◌, ℕ, zero, suc, ◌+◌, ◌*◌, ◌-◌, ◌/◌, ◌%◌, ◌^◌, Bool, true, false, not, ◌&&◌, ◌||◌, ◌==◌, nat_lt, nat_le, List, [], ◌∷◌, ◌++◌, map, length, take, drop, get_or, Option, Some, None, refl, sym, ◌∙◌, ap, subst, arith, append_assoc, append-nil, length-append, ◌⊎◌, inl, inr}
-use Rattle.std.specs.List.{All, list_all, slice_split}
+use Rattle.std.proofs.Common.{min, ◌≡◌, ◌≤◌, ◌<◌, ℕ, zero, suc, ◌+◌, ◌-◌, ◌/◌, ◌%◌, ◌^◌, Bool, true, false, not, ◌&&◌, ◌||◌, ◌==◌, List, [], ◌∷◌, ◌++◌, length, take, drop, get_or, Some, None, refl, sym, ◌∙◌, ap, subst, arith, append-nil, length-append, ◌⊎◌, inl, inr}
+use Rattle.std.specs.List.{All, list_all}
 use Rattle.std.specs.Char.{digit_value, is_ascii_digit}
 use Rattle.std.specs.Fmt.{decimal, digit_glyph}
 use Rattle.std.specs.Str.Parse.{AllDigits, digits_value}
@@ -15,14 +15,13 @@ use Rattle.std.proofs.lemmas.List.Folds.{list_all-append}
 use Rattle.std.proofs.lemmas.List.Splits.{slice_split_none, slice_split_at}
 use Rattle.std.proofs.Math.Nat.{pow-suc}
 use Rattle.std.proofs.Math.Seq.{take-append_seam}
-use Rattle.esc_base.specs.declared.tick.Tick.{Tick}
 use Rattle.esc_base.specs.declared.note.Note.{Note}
 use Rattle.esc_base.specs.declared.note.Note.TheVariants as note
 use Rattle.esc_base.specs.Journal.{time_of}
 use Rattle.esc_base.specs.Range.{InRange}
-use Rattle.trace_text.specs.Line.{fields, has_plain_start, is_decimal, number, number_between, byte_of}
+use Rattle.trace_text.specs.Line.{fields, has_plain_start, number_between, byte_of}
 use Rattle.trace_text.specs.Text.{spaced, hex, bits, letter, note_fields, note_bytes}
-use Rattle.trace_text.specs.NoteRead.{bits_of, is_none_word, period_of, note_of, word_at}
+use Rattle.trace_text.specs.NoteRead.{bits_of, is_none_word, note_of, word_at}
 use Rattle.trace_text.proofs.Spacing.{no_bits, bits_suc}
 
 -- ---- a number in decimal

@@ -1,6 +1,6 @@
 -- The note that the words of a line stand for. It says nothing of the line's form: which lines are a note's is said by
 -- the text of notes alone.
-use Rattle.std.specs.Prelude.{ℕ, unwrap_or, slice_get, Bool, true, false, ◌&&◌, ◌||◌, ◌==◌, if◌then◌else◌, List, [], ◌∷◌, length, Option, Some, None, option_map, option_and_then}
+use Rattle.std.specs.Prelude.{ℕ, unwrap_or, slice_get, Bool, false, ◌&&◌, ◌||◌, ◌==◌, if◌then◌else◌, List, [], ◌∷◌, length, Option, Some, None, option_map, option_and_then}
 use Rattle.std.specs.List.{list_all}
 use Rattle.std.specs.Str.Parse.{digits_value}
 use Rattle.esc_base.specs.declared.tick.Tick.{Tick}

@@ -174,10 +174,29 @@ fn lines_of_notes_are_read_back(rt: HostRuntime) {
         s: Tick(23960),
         b: 0b001010010100101010001,
     };
-    assert_eq!(rt; note_read(b"R 9 23960 001010010100101010001\n"), Some(reply));
-    assert_eq!(rt; note_read(b"V 9 none\n"), Some(Note::Period { t: Tick(9), p: None }));
+    assert_eq!(rt;
+        note_read(b"R 9 23960 001010010100101010001\n"),
+        Some(reply)
+    );
+    assert_eq!(rt;
+        note_read(b"V 9 none\n"),
+        Some(Note::Period {
+            t: Tick(9),
+            p: None
+        })
+    );
     for text in [
-        "", "\n", "A 9", "A 09\n", "A 9 \n", "A 4294967296\n", "U 1 0\n", "W 0 6\n", "S 9 2F\n", "F 9 G 2048 0\n", "A 9\n\n",
+        "",
+        "\n",
+        "A 9",
+        "A 09\n",
+        "A 9 \n",
+        "A 4294967296\n",
+        "U 1 0\n",
+        "W 0 6\n",
+        "S 9 2F\n",
+        "F 9 G 2048 0\n",
+        "A 9\n\n",
     ] {
         assert_eq!(rt; note_read(text.as_bytes()), None, "{text:?}");
     }

@@ -1,9 +1,7 @@
-use Rattle.std.proofs.Common.{◌≡◌, ◌-◌, List, ℕ, [], ◌∷◌, Option, Some, None, length, drop, get_or, take, sym, ◌∙◌, ap, refl}
-use Rattle.esc_base.specs.declared.note.Note.{Note}
+use Rattle.std.proofs.Common.{◌≡◌, List, ℕ, length, drop, get_or, sym, ◌∙◌, ap}
 use Rattle.esc_base.specs.Journal.{time_of}
 use Rattle.trace_text.specs.Line.{number_between}
-use Rattle.trace_text.specs.Text.{letter, note_fields}
-use Rattle.trace_text.specs.NoteRead.{behind, word_at}
+use Rattle.trace_text.specs.NoteRead.{word_at}
 use Rattle.trace_text.proofs.NoteBack.{fields_of_note, time_back, read_back}
 use Rattle.trace_text.proofs.note_back.candidate.Goals as goal
 

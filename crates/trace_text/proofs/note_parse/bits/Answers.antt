@@ -1,5 +1,4 @@
-use Rattle.std.proofs.Common.{◌≡◌, ◌+◌, ◌*◌, ◌-◌, ◌<◌, ◌≤◌, ◌==◌, ◌||◌, List, ℕ, min, true, take, get_or, length, subst, arith, sym, ◌∙◌, ap}
-use Rattle.std.specs.List.{list_all}
+use Rattle.std.proofs.Common.{◌+◌, ◌*◌, ◌-◌, ◌<◌, ◌==◌, ◌||◌, ℕ, min, take, get_or, length, sym, ◌∙◌, ap}
 use Rattle.std.specs.Str.Parse.{digits_value}
 use Rattle.std.proofs.lemmas.List.{take_all}
 use Rattle.std.proofs.lemmas.List.Folds.{list_all_more}
@@ -17,7 +16,7 @@ loop-digit-preserved c =
     record {
       passed = rw (list_all_more (λ x. x == 48 || x == 49) ds i 0 lt, c.loop-digit.invariant.passed) is;
       value = capped_bits (digits_value 2 (take i ds)) c.loop-digit.b c.saturating_mul.result c.saturating_add-b.result (get_or ds i 0 - 48) c.loop-digit.invariant.value c.saturating_mul.ensures c.saturating_add-b.ensures
-      ∙ ap (λ (v : ℕ). min v 4294967295) (ap (λ (d : ℕ). digits_value 2 (take i ds) * 2 + d) (sym (two_digit_of (get_or ds i 0) is)) ∙ sym (digits_value_more 2 ds i lt));
+          ∙ ap (λ (v : ℕ). min v 4294967295) (ap (λ (d : ℕ). digits_value 2 (take i ds) * 2 + d) (sym (two_digit_of (get_or ds i 0) is)) ∙ sym (digits_value_more 2 ds i lt));
     }
 
 pub returns-clause-value : goal.returns-clause-value
