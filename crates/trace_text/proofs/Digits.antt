@@ -9,6 +9,9 @@ use Rattle.std.proofs.lemmas.Bool.Decides.{nat_tests}
 pub capped : (v n m a d : ℕ) → n ≡ min v 18446744073709551615 → m ≡ min (n * 10) 18446744073709551615 → a ≡ min (m + d) 18446744073709551615 → a ≡ min (v * 10 + d) 18446744073709551615
 capped v n m a d e f g = omega arith
 
+pub capped_bits : (v n m a d : ℕ) → n ≡ min v 4294967295 → m ≡ min (n * 2) 4294967295 → a ≡ min (m + d) 4294967295 → a ≡ min (v * 2 + d) 4294967295
+capped_bits v n m a d e f g = omega arith
+
 pub digit_of : (b : ℕ) → is_ascii_digit b ≡ true → digit_value b ≡ b - 48
 digit_of b h = grind (arith, nat_tests)
 

@@ -5,3 +5,4 @@ pub mod Saying
 pub mod Cut
 pub mod Taking
 pub mod Answering
+pub mod NoteBack

@@ -16,7 +16,7 @@ pub no_bits : (b : ℕ) → bits 0 b ≡ []
 unfolding bits
 no_bits b = refl
 
-bits_suc : (k b : ℕ) → bits (suc k) b ≡ bits k (b / 2) ++ (48 + b % 2) ∷ []
+pub bits_suc : (k b : ℕ) → bits (suc k) b ≡ bits k (b / 2) ++ (48 + b % 2) ∷ []
 unfolding bits
 bits_suc k b = refl
 

@@ -161,5 +161,3 @@ pub record IsLine (n : ℕ) (bytes : List ℕ) : Type 0 where
   pub short : n ≤ 40
   pub cut : bytes ≡ take n bytes ++ 10 ∷ drop (n + 1) bytes
   pub one : NoLineFeed (take n bytes)
-
--- what an event's place asks of it

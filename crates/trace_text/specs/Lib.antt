@@ -2,3 +2,4 @@ pub mod Line
 pub mod Read
 pub mod Ahead
 pub mod Text
+pub mod NoteRead

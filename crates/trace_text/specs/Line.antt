@@ -57,16 +57,16 @@ byte_of (a ∷ []) = None
 byte_of (a ∷ b ∷ []) = if nat_lt (digit_value a) 16 && nat_lt (digit_value b) 16 then Some (digits_value 16 (a ∷ b ∷ [])) else None
 byte_of (a ∷ b ∷ c ∷ rest) = None
 
--- from 1 to 16777216
-abbrev pub stall_of : List ℕ → Option ℕ
-stall_of digits = if is_decimal digits && (nat_le 1 (number digits) && nat_le (number digits) 16777216) then Some (number digits) else None
+-- a number in decimal, within bounds
+abbrev pub number_between : ℕ → ℕ → List ℕ → Option ℕ
+number_between low high digits = if is_decimal digits && (nat_le low (number digits) && nat_le (number digits) high) then Some (number digits) else None
 
 -- what a value says, where it is one of the kind's
 abbrev pub event_of : LineKind → Tick → List ℕ → Option Event
 event_of kind.Edge t value = option_map (λ level. event.Edge t level) (level_of value)
 event_of kind.Comp t value = option_map (λ level. event.Comp t level) (level_of value)
 event_of kind.Serial t value = option_map (λ byte. event.Serial t byte) (byte_of value)
-event_of kind.Stall t value = option_map (λ n. event.Stall t n) (stall_of value)
+event_of kind.Stall t value = option_map (λ n. event.Stall t n) (number_between 1 16777216 value)
 event_of kind.End t value = None
 
 -- ---- what is wrong with a line

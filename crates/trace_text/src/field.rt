@@ -1,9 +1,6 @@
-ghost use Rattle.std.specs.Prelude.{◌≡◌, ◌^◌, ◌-◌, ◌<◌, ◌∷◌, ◌==◌, [], min, is_some, IfSome, MatchOption, SomeIff, position};
+ghost use Rattle.std.specs.Prelude.{◌≡◌, ◌^◌, ◌-◌, ◌<◌, ◌≤◌, ◌∷◌, ◌==◌, [], min, is_some, IfSome, MatchOption, SomeIff, position};
 ghost use Rattle.std.specs.Char.{digit_value};
-ghost use Rattle.trace_text.specs.Line.{fields, has_plain_start, is_decimal, number, level_of, byte_of, stall_of};
-
-/// The greatest number of ticks that a stall takes.
-const LONGEST_STALL: u64 = 16777216;
+ghost use Rattle.trace_text.specs.Line.{fields, has_plain_start, is_decimal, number, level_of, byte_of, number_between};
 
 /// Where a byte stands first.
 pub fn position_of(wanted: u8, bytes: &[u8]) -> Option<usize>
@@ -83,12 +80,14 @@ pub fn byte(value: &[u8]) -> Option<u8>
     }
 }
 
-/// The ticks of a stall, 1 to 16777216.
-pub fn stall(value: &[u8]) -> Option<u32>
-    ensures { result ≡ stall_of value.now }
+/// The number that decimal digits say, where it is within bounds.
+pub fn number_in(digits: &[u8], low: u32, high: u32) -> Option<u32>
+    ensures value { result ≡ number_between low high digits.now }
+    ensures above { IfSome result (λ n. low ≤ n) }
+    ensures below { IfSome result (λ n. n ≤ high) }
 {
-    match decimal_of(value) {
-        Some(n) if 1 <= n && n <= LONGEST_STALL => Some(n as u32),
+    match decimal_of(digits) {
+        Some(n) if u64::from(low) <= n && n <= u64::from(high) => Some(n as u32),
         _ => None,
     }
 }

@@ -6,7 +6,9 @@ mod field;
 mod held;
 mod item;
 mod lines;
+mod note_back;
 mod note_line;
+mod note_parse;
 mod parse;
 mod piece;
 mod reader;
@@ -16,6 +18,7 @@ mod write;
 
 pub use event_line::event_text;
 pub use item::{Item, Place, Refusal};
+pub use note_back::note_read;
 pub use note_line::note_text;
 pub use reader::Lines;
 pub use write::Line;

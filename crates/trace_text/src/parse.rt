@@ -3,7 +3,7 @@ ghost use Rattle.esc_base.specs.Trace.{tick_of};
 ghost use Rattle.trace_text.specs.Line.{is_decimal, number, kind_of, is_end_kind, event_of, said, said_in, after_event, too_close, fields};
 ghost use Rattle.trace_text.specs.Ahead.{InTime, StallFits};
 
-use crate::field::{byte, decimal_of, level, split_field, stall};
+use crate::field::{byte, decimal_of, level, number_in, split_field};
 use crate::{Place, Refusal};
 use esc_base::{Event, Tick};
 
@@ -12,6 +12,9 @@ const LAST_TICK: u64 = 1073741824;
 
 /// The shortest distance of two serial bytes, in ticks.
 const SERIAL_GAP: u64 = 20000;
+
+/// The greatest number of ticks that a stall takes.
+const LONGEST_STALL: u32 = 16777216;
 
 /// What a line's second field asks for.
 #[derive(Clone, Copy, Debug, PartialEq, Eq, Drop)]
@@ -65,7 +68,7 @@ pub fn event(kind: LineKind, t: Tick, value: &[u8]) -> Option<Event>
         }),
         LineKind::Stall => Some(Event::Stall {
             t,
-            n: stall(value)?,
+            n: number_in(value, 1, LONGEST_STALL)?,
         }),
         LineKind::End => None,
     }

@@ -166,3 +166,38 @@ fn notes_and_events_have_these_lines(rt: HostRuntime) {
         "9 J 16777216\n"
     );
 }
+
+#[test]
+fn lines_of_notes_are_read_back(rt: HostRuntime) {
+    let reply = Note::Reply {
+        t: Tick(9),
+        s: Tick(23960),
+        b: 0b001010010100101010001,
+    };
+    assert_eq!(rt;
+        note_read(b"R 9 23960 001010010100101010001\n"),
+        Some(reply)
+    );
+    assert_eq!(rt;
+        note_read(b"V 9 none\n"),
+        Some(Note::Period {
+            t: Tick(9),
+            p: None
+        })
+    );
+    for text in [
+        "",
+        "\n",
+        "A 9",
+        "A 09\n",
+        "A 9 \n",
+        "A 4294967296\n",
+        "U 1 0\n",
+        "W 0 6\n",
+        "S 9 2F\n",
+        "F 9 G 2048 0\n",
+        "A 9\n\n",
+    ] {
+        assert_eq!(rt; note_read(text.as_bytes()), None, "{text:?}");
+    }
+}
