@@ -1,0 +1,4 @@
+pub mod Field
+pub mod Settings
+pub mod Block
+pub mod Stored

@@ -1,0 +1,48 @@
+-- The settings in memory.
+use Rattle.std.specs.Prelude.{◌≡◌, ℕ, true, ◌==◌, if◌then◌else◌, replicate}
+use Rattle.servo_input.specs.declared.servo.InputKind.{InputKind}
+use Rattle.servo_input.specs.declared.servo.InputKind.TheVariants as input
+use Rattle.dshot_commands.specs.declared.act.Act.{Act}
+use Rattle.dshot_commands.specs.declared.act.Act.TheVariants.{Direction, ThreeD}
+use Rattle.settings_block.specs.declared.settings.Settings.{Settings}
+use Rattle.settings_block.specs.declared.field.TheConstants.{ADVANCE, COMPLEMENTARY, DEAD_BAND, DIRECTION, HIGH, INPUT, LOW, NEUTRAL, POLES, THREE_D}
+use Rattle.settings_block.specs.Field.{allows}
+
+-- the fields that are numbers hold what the block allows
+pub record IsInRange (s : Settings) : Type 0 where
+  pub direction : allows DIRECTION s.direction ≡ true
+  pub advance : allows ADVANCE s.advance ≡ true
+  pub poles : allows POLES s.poles ≡ true
+  pub low : allows LOW s.low ≡ true
+  pub high : allows HIGH s.high ≡ true
+  pub neutral : allows NEUTRAL s.neutral ≡ true
+  pub dead_band : allows DEAD_BAND s.dead_band ≡ true
+
+abbrev pub input_of : ℕ → InputKind
+input_of byte = if byte == 1 then input.DShot else (if byte == 2 then input.Servo else input.Any)
+
+abbrev pub input_number : InputKind → ℕ
+input_number input.Any = 0
+input_number input.DShot = 1
+input_number input.Servo = 2
+
+abbrev pub default_settings : Settings
+default_settings = record {
+  direction = DIRECTION.default;
+  three_d = THREE_D.default == 1;
+  complementary = COMPLEMENTARY.default == 1;
+  advance = ADVANCE.default;
+  poles = POLES.default;
+  low = LOW.default;
+  high = HIGH.default;
+  neutral = NEUTRAL.default;
+  dead_band = DEAD_BAND.default;
+  input = input_of INPUT.default;
+  rest = record { 0 = replicate 48 0 };
+}
+
+-- what a command changes
+abbrev pub applied : Settings → Act → Settings
+applied s (Direction side) = record s { direction = side }
+applied s (ThreeD is_on) = record s { three_d = is_on }
+applied s act = s

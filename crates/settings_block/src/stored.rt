@@ -1,0 +1,82 @@
+//! The settings in the flash.
+ghost use Rattle.std.specs.Prelude.{◌≡◌, ◌≤◌, ◌<◌, ◌^◌, IfOk, OnOk, OnErr};
+ghost use Rattle.std.specs.Option.{option_map};
+ghost use Rattle.esc_base.specs.Flash.{erased, programmed};
+ghost use Rattle.esc_base.specs.Outside.{Rose};
+ghost use Rattle.settings_block.specs.Settings.{IsInRange};
+ghost use Rattle.settings_block.specs.Block.{block_of};
+ghost use Rattle.settings_block.specs.Stored.{loaded_of, IsLoaded, KeepsBelow};
+
+use crate::block::defaults;
+use crate::{BlockFault, Settings, read_block, write_block};
+use esc_base::{Block48, Failed, FlashDev};
+use thiserror::Error;
+
+/// The page of the block.
+const PAGE: u8 = 31;
+
+/// The block's address, at the front of its page.
+const ADDRESS: u16 = 0x7C00;
+
+/// The flash failed.
+#[derive(Clone, Copy, Debug, PartialEq, Eq, Drop, Error)]
+#[error("the flash failed")]
+pub struct FlashFault;
+
+impl From<Failed> for FlashFault {
+    fn from(_failed: Failed) -> FlashFault {
+        FlashFault
+    }
+}
+
+/// What a load gives.
+#[derive(Clone, Copy, Debug, PartialEq, Eq, Drop)]
+pub struct Loaded {
+    /// Those of the block, or the default ones where it has a fault.
+    pub settings: Settings,
+    /// What is wrong with the block.
+    pub fault: Option<BlockFault>,
+}
+
+/// Reads the settings. It fails only where the flash did.
+pub fn load<D: FlashDev>(dev: &mut D) -> Result<Loaded, FlashFault>
+    ensures loaded { IfOk result (λ loaded. IsLoaded (D.bytes dev.old) loaded) }
+    ensures in_range { IfOk result (λ loaded. IsInRange loaded.settings) }
+    ensures unchanged { D.bytes dev.new ≡ D.bytes dev.old }
+    ensures no_fewer { D.faults dev.old ≤ D.faults dev.new }
+    ensures failed { OnErr result (Rose (D.faults dev.old) (D.faults dev.new)) }
+{
+    let mut block = Block48([0; 48]);
+    dev.read(ADDRESS, &mut block.0)?;
+    Ok(loaded_from(&block))
+}
+
+/// Erases the block's page and programs the settings' block. It fails only where the flash did; then the
+/// bytes of that page may be any.
+pub fn save<D: FlashDev>(s: &Settings, dev: &mut D) -> Result<(), FlashFault>
+    ensures saved { OnOk result (D.bytes dev.new ≡ option_map (λ cells. programmed (erased cells 31) 31744 (block_of s.now)) (D.bytes dev.old)) }
+    ensures below { OnErr result (KeepsBelow 31744 (D.bytes dev.old) (D.bytes dev.new)) }
+    ensures no_fewer { D.faults dev.old ≤ D.faults dev.new }
+    ensures failed { OnErr result (Rose (D.faults dev.old) (D.faults dev.new)) }
+{
+    dev.erase(PAGE)?;
+    dev.program(ADDRESS, &write_block(s).0)?;
+    Ok(())
+}
+
+/// The settings of a block, or the default ones with the block's fault.
+fn loaded_from(block: &Block48) -> Loaded
+    ensures is { result ≡ loaded_of block.now.0 }
+    ensures in_range { IsInRange result.settings }
+{
+    match read_block(block) {
+        Ok(settings) => Loaded {
+            settings,
+            fault: None,
+        },
+        Err(fault) => Loaded {
+            settings: defaults(),
+            fault: Some(fault),
+        },
+    }
+}
