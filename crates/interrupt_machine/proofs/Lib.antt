@@ -1,0 +1,4 @@
+pub mod OpenKinds
+pub mod OwnLeft
+pub mod OwnSteps
+pub mod Waiting

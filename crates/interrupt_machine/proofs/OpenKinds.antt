@@ -1,0 +1,173 @@
+-- The open kinds: the highest due kind, and room for one more.
+use Rattle.std.proofs.Common.{◌≡◌, ◌≢◌, ◌<◌, ◌≤◌, ℕ, Bool, true, false, not, ◌&&◌, ◌||◌, ◌==◌, nat_lt, if◌then◌else◌, List, [], ◌∷◌, ◌++◌, length, Option, Some, None, refl, sym, ◌∙◌, ap, subst, arith, reverse, lit≤, ◌⊎◌, inl, inr}
+use Rattle.std.proofs.lemmas.Bool.Decides.{nat_tests}
+use Rattle.std.proofs.lemmas.List.{reverse-append}
+use Rattle.esc_base.specs.declared.kind.Kind.{Kind}
+use Rattle.esc_base.specs.declared.kind.Kind.TheVariants as kind
+use Rattle.esc_base.specs.Numbers.{kind_number}
+use Rattle.timer_regs.specs.Bank.{Bank}
+use Rattle.timer_regs.specs.Effects.{is_due}
+use Rattle.timer_regs.specs.Kinds.{has_kind}
+use Rattle.timer_regs.specs.declared.kinds.KindSet.{KindSet}
+use Rattle.interrupt_machine.specs.declared.nest.Nest.{Nest}
+use Rattle.interrupt_machine.specs.declared.nest.Nest.TheVariants.{One, Full}
+use Rattle.interrupt_machine.specs.Open.{innermost, is_open, due_now, due_in, highest, may_enter, enters_above, next_entry, IsStack, IsAbove, outer_ones, kind_of}
+
+-- the highest kind of two sets that agree
+pub highest_same : (p q : Kind → Bool) → ((k : Kind) → p k ≡ q k) → highest p ≡ highest q
+highest_same p q h = rw (h kind.Comm, h kind.Pwm, h kind.Cmp, h kind.Cap, h kind.Tick, h kind.Uart, h kind.Main) refl
+
+pub due_same : (waits : Bool) (set : KindSet) (b : Bank) → ((k : Kind) → has_kind set k ≡ is_due b k) → (k : Kind) → due_in waits set k ≡ due_now waits b k
+due_same waits set b h kind.Main = refl
+due_same waits set b h kind.Uart = h kind.Uart
+due_same waits set b h kind.Tick = h kind.Tick
+due_same waits set b h kind.Cap = h kind.Cap
+due_same waits set b h kind.Cmp = h kind.Cmp
+due_same waits set b h kind.Pwm = h kind.Pwm
+due_same waits set b h kind.Comm = h kind.Comm
+
+-- the highest due kind, by the set that the registers give
+pub due_is : (r : Option Kind) (w v : Bool) (set : KindSet) (b : Bank) → w ≡ v → r ≡ highest (due_in w set) → ((k : Kind) → has_kind set k ≡ is_due b k) → r ≡ highest (due_now v b)
+due_is r w v set b e h d = subst (λ (x : Bool). r ≡ highest (due_now x b)) e (h ∙ highest_same (due_in w set) (due_now w b) (due_same w set b d))
+
+pub number_most : (k : Kind) → kind_number k ≤ 6
+number_most kind.Main = lit≤ tt
+number_most kind.Uart = lit≤ tt
+number_most kind.Tick = lit≤ tt
+number_most kind.Cap = lit≤ tt
+number_most kind.Cmp = lit≤ tt
+number_most kind.Pwm = lit≤ tt
+number_most kind.Comm = lit≤ tt
+
+-- the kind that enters is a due one, and may enter
+entry_may : (nest : Nest) (inner : Option Kind) (o : Option Kind) (k : Kind) → enters_above nest inner o ≡ Some k → may_enter nest inner k ≡ true
+entry_may nest inner None k e = cc
+entry_may nest inner (Some j) k e = may_at nest inner j k (may_enter nest inner j) refl e
+  where
+    may_at : (nest : Nest) (inner : Option Kind) (j k : Kind) (v : Bool) → may_enter nest inner j ≡ v → (if v then Some j else None) ≡ Some k → may_enter nest inner k ≡ true
+    may_at nest inner j k true m e = let s : j ≡ k = cc in subst (λ (x : Kind). may_enter nest inner x ≡ true) s m
+    may_at nest inner j k false m e = cc
+
+below_by : (nest : Nest) (i k : Kind) → may_enter nest (Some i) k ≡ true → kind_number i < kind_number k
+below_by One i k e = one_below (kind_number i) (kind_number k) e
+  where
+    one_below : (m n : ℕ) → ((m == 0) && not (n == 0)) ≡ true → m < n
+    one_below m n e = grind (arith, nat_tests)
+below_by Full i k e = full_below (kind_number i) (kind_number k) e
+  where
+    full_below : (m n : ℕ) → nat_lt m n ≡ true → m < n
+    full_below m n e = grind (arith, nat_tests)
+
+above_by : (nest : Nest) (inner : Option Kind) (k : Kind) → may_enter nest inner k ≡ true → IsAbove inner k
+above_by nest None k e = tt
+above_by nest (Some i) k e = below_by nest i k e
+
+-- a kind that enters is above the innermost one
+pub entry_above : (nest : Nest) (stack : List Kind) (due : Kind → Bool) (k : Kind) → next_entry nest stack due ≡ Some k → IsAbove (innermost stack) k
+entry_above nest stack due k e = above_by nest (innermost stack) k (entry_may nest (innermost stack) (highest due) k e)
+
+above_outer : (stack : List Kind) (i k : Kind) → IsAbove (innermost stack) i → kind_number i < kind_number k → IsAbove (innermost stack) k
+above_outer [] i k a l = tt
+above_outer (j ∷ outer) i k a l = let b : kind_number j < kind_number i = a in omega arith
+
+-- a kind above the innermost one has room below it
+pub room_below : (stack : List Kind) (k : Kind) → IsStack stack → IsAbove (innermost stack) k → length stack ≤ kind_number k
+room_below [] k s a = omega arith
+room_below (i ∷ outer) k s a = let r = room_below outer i s.1 s.0 in let l : kind_number i < kind_number k = a in omega arith
+
+pub stack_most : (stack : List Kind) → IsStack stack → length stack ≤ 7
+stack_most [] s = omega arith
+stack_most (i ∷ outer) s = let r = room_below outer i s.1 s.0 in let m = number_most i in omega arith
+
+other_number : (m n : ℕ) → m < n → (m == n) ≡ false
+other_number m n l = grind (arith, nat_tests)
+
+-- and isn't open
+pub closed_above : (stack : List Kind) (k : Kind) → IsStack stack → IsAbove (innermost stack) k → is_open stack k ≡ false
+closed_above [] k s a = refl
+closed_above (i ∷ outer) k s a =
+    let l : kind_number i < kind_number k = a in
+    rw (other_number (kind_number i) (kind_number k) l) (closed_above outer k s.1 (above_outer outer i k s.0 l))
+
+-- ---- kinds by their numbers
+
+pub kind_of-number : (k : Kind) → kind_of (kind_number k) ≡ k
+kind_of-number kind.Main = refl
+kind_of-number kind.Uart = refl
+kind_of-number kind.Tick = refl
+kind_of-number kind.Cap = refl
+kind_of-number kind.Cmp = refl
+kind_of-number kind.Pwm = refl
+kind_of-number kind.Comm = refl
+
+pub number_same : (j k : Kind) → kind_number j ≡ kind_number k → j ≡ k
+number_same j k e = sym (kind_of-number j) ∙ ap kind_of e ∙ kind_of-number k
+
+same_by : (j k : Kind) (v : Bool) → (kind_number j == kind_number k) ≡ v → (j ≡ k) ⊎ (j ≢ k)
+same_by j k true e = inl (number_same j k (grind (arith, nat_tests)))
+same_by j k false e = inr (λ s. let n : kind_number j ≡ kind_number k = ap kind_number s in absurd (differ (kind_number j) (kind_number k) e n))
+  where
+    differ : (m n : ℕ) → (m == n) ≡ false → m ≡ n → ⊥
+    differ m n e s = grind (arith, nat_tests)
+
+pub same_kind : (j k : Kind) → (j ≡ k) ⊎ (j ≢ k)
+same_kind j k = same_by j k (kind_number j == kind_number k) refl
+
+-- ---- what each open kind has left
+
+-- after a step of the innermost kind that goes on
+pub live_more : (before after : Kind → ℕ) (k : Kind) (outer : List Kind) → ((j : Kind) → is_open (k ∷ outer) j ≡ true → 0 < before j)
+    → 0 < after k → ((j : Kind) → j ≢ k → after j ≡ before j) → (j : Kind) → is_open (k ∷ outer) j ≡ true → 0 < after j
+live_more before after k outer live own others j o = elim (same_kind j k) [
+  | inl s ↦ subst (λ (x : Kind). 0 < after x) (sym s) own
+  | inr ne ↦ rw (others j ne) (live j o)
+]
+
+or_right : (a b : Bool) → b ≡ true → (a || b) ≡ true
+or_right true b e = refl
+or_right false b e = e
+
+-- after a step of the innermost kind that returns
+pub live_less : (before after : Kind → ℕ) (k : Kind) (outer : List Kind) → IsStack (k ∷ outer) → ((j : Kind) → is_open (k ∷ outer) j ≡ true → 0 < before j)
+    → ((j : Kind) → j ≢ k → after j ≡ before j) → (j : Kind) → is_open outer j ≡ true → 0 < after j
+live_less before after k outer stack live others j o = elim (same_kind j k) [
+  | inl s ↦ absurd (let shut = closed_above outer k stack.1 stack.0 in let found : is_open outer k ≡ true = subst (λ (x : Kind). is_open outer x ≡ true) s o in (let z = sym found ∙ shut in cc))
+  | inr ne ↦ rw (others j ne) (live j (or_right _ (is_open outer j) o))
+]
+
+-- after an entry
+pub live_entry : (before after : Kind → ℕ) (k : Kind) (stack : List Kind) → ((j : Kind) → is_open stack j ≡ true → 0 < before j)
+    → 1 ≤ after k → ((j : Kind) → j ≢ k → after j ≡ before j) → (j : Kind) → is_open (k ∷ stack) j ≡ true → 0 < after j
+live_entry before after k stack live own others j o = elim (same_kind j k) [
+  | inl s ↦ subst (λ (x : Kind). 0 < after x) (sym s) own
+  | inr ne ↦ rw (others j ne) (live j (or_other k j stack ne o))
+]
+  where
+    or_left : (m n : ℕ) (b : Bool) → (m ≡ n → ⊥) → ((m == n) || b) ≡ true → b ≡ true
+    or_left m n true ne e = refl
+    or_left m n false ne e = absurd (ne (grind (arith, nat_tests)))
+
+    or_other : (k j : Kind) (stack : List Kind) → j ≢ k → is_open (k ∷ stack) j ≡ true → is_open stack j ≡ true
+    or_other k j stack ne e = or_left (kind_number k) (kind_number j) (is_open stack j) (λ s. ne (sym (number_same k j s))) e
+
+-- the innermost kind is the first
+pub innermost_first : (stack : List Kind) (k : Kind) → innermost stack ≡ Some k → stack ≡ k ∷ outer_ones stack
+innermost_first [] k e = cc
+innermost_first (i ∷ outer) k e = let s : i ≡ k = cc in ap (λ (x : Kind). x ∷ outer) s
+
+pub live_popped : (before after : Kind → ℕ) (k : Kind) (stack stack' : List Kind) → innermost stack ≡ Some k → stack' ≡ outer_ones stack → IsStack stack
+    → ((j : Kind) → is_open stack j ≡ true → 0 < before j) → ((j : Kind) → j ≢ k → after j ≡ before j) → (j : Kind) → is_open stack' j ≡ true → 0 < after j
+live_popped before after k [] stack' i p s live others j o = cc
+live_popped before after k (x ∷ outer) stack' i p s live others j o =
+    let same : x ≡ k = cc in
+    live_less before after x outer s live (λ y ne. others y (λ q. ne (q ∙ sym same))) j (subst (λ (l : List Kind). is_open l j ≡ true) p o)
+
+pub live_kept : (before after : Kind → ℕ) (k : Kind) (stack : List Kind) → innermost stack ≡ Some k
+    → ((j : Kind) → is_open stack j ≡ true → 0 < before j) → 0 < after k → ((j : Kind) → j ≢ k → after j ≡ before j) → (j : Kind) → is_open stack j ≡ true → 0 < after j
+live_kept before after k [] i live own others j o = cc
+live_kept before after k (x ∷ outer) i live own others j o =
+    let same : x ≡ k = cc in
+    live_more before after x outer live (subst (λ (y : Kind). 0 < after y) (sym same) own) (λ y ne. others y (λ q. ne (q ∙ sym same))) j o
+
+pub reverse-push : (kinds : List Kind) (k : Kind) → reverse (kinds ++ k ∷ []) ≡ k ∷ reverse kinds
+reverse-push kinds k = reverse-append kinds (k ∷ [])

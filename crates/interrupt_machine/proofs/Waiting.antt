@@ -1,0 +1,424 @@
+-- A due kind that waits is entered after at most 8 masked steps and one further step.
+use Rattle.std.proofs.Common.{◌≡◌, ◌≢◌, ◌<◌, ◌≤◌, ◌+◌, ℕ, Bool, true, false, not, ◌&&◌, ◌||◌, ◌==◌, nat_lt, nat_le, if◌then◌else◌, List, [], ◌∷◌, ◌++◌, length, Option, Some, None, refl, sym, ◌∙◌, ap, subst, arith, ◌⊎◌, inl, inr}
+use Rattle.std.proofs.lemmas.Bool.Decides.{nat_tests}
+use Rattle.std.proofs.lemmas.List.Sums.{fold_push}
+use Rattle.esc_base.specs.declared.kind.Kind.{Kind}
+use Rattle.esc_base.specs.declared.kind.Kind.TheVariants as kind
+use Rattle.esc_base.specs.Numbers.{kind_number}
+use Rattle.timer_regs.specs.Bank.{Bank}
+use Rattle.timer_regs.specs.Effects.{after_entry}
+use Rattle.interrupt_machine.specs.declared.nest.Nest.{Nest}
+use Rattle.interrupt_machine.specs.declared.nest.Nest.TheVariants.{One, Full}
+use Rattle.interrupt_machine.specs.Open.{innermost, outer_ones, is_open, highest, may_enter, enters_above, next_entry}
+use Rattle.interrupt_machine.specs.Response.{is_waiting, is_behind, counts, Moment, Stepped, Passed, stepper, wait_next, waited_next, waited, room, Patient, Responds}
+use Rattle.interrupt_machine.proofs.OpenKinds.{number_same}
+
+pub waited-push : (nest : Nest) (log : List Moment) (m : Moment) (k : Kind) → waited nest (log ++ m ∷ []) k ≡ waited_next nest k (waited nest log k) m
+unfolding waited
+waited-push nest log m k = fold_push (waited_next nest k) 0 log m
+
+-- ---- tests
+
+by_bool : (v : Bool) → (v ≡ true) ⊎ (v ≡ false)
+by_bool true = inl refl
+by_bool false = inr refl
+
+both_true : (a b : Bool) → (a && b) ≡ true → (a ≡ true) × (b ≡ true)
+both_true true b e = (refl, e)
+both_true false b e = cc
+
+not_true : (a : Bool) → not a ≡ true → a ≡ false
+not_true true e = cc
+not_true false e = refl
+
+waits_parts : (due : Kind → Bool) (stack : List Kind) (k : Kind) → is_waiting due stack k ≡ true → (due k ≡ true) × (is_open stack k ≡ false)
+waits_parts due stack k e = let b = both_true (due k) (not (is_open stack k)) e in (b.0, not_true (is_open stack k) b.1)
+
+le_from : (m n : ℕ) → nat_le m n ≡ true → m ≤ n
+le_from m n e = grind (arith, nat_tests)
+
+gt_from : (m n : ℕ) → nat_le m n ≡ false → n < m
+gt_from m n e = grind (arith, nat_tests)
+
+lt_to : (m n : ℕ) → m < n → nat_lt m n ≡ true
+lt_to m n l = grind (arith, nat_tests)
+
+ge_to : (m n : ℕ) → n ≤ m → nat_lt m n ≡ false
+ge_to m n l = grind (arith, nat_tests)
+
+eq_from : (m n : ℕ) → (m == n) ≡ true → m ≡ n
+eq_from m n e = grind (arith, nat_tests)
+
+ne_from : (m n : ℕ) → (m == n) ≡ false → m ≡ n → ⊥
+ne_from m n e s = grind (arith, nat_tests)
+
+ne_to : (m n : ℕ) → (m ≡ n → ⊥) → (m == n) ≡ false
+ne_to m n ne = grind (arith, nat_tests)
+
+-- ---- the highest due kind
+
+level : (v : Bool) (h : Kind) (rest : Option Kind) (j : Kind) (n : ℕ) → n ≤ kind_number h → (rest ≡ Some j → n ≤ kind_number j) → (if v then Some h else rest) ≡ Some j → n ≤ kind_number j
+level true h rest j n le r e = let s : h ≡ j = cc in subst (λ (x : Kind). n ≤ kind_number x) s le
+level false h rest j n le r e = r e
+
+here : (v : Bool) (h : Kind) (rest : Option Kind) (j : Kind) → v ≡ true → (if v then Some h else rest) ≡ Some j → kind_number h ≤ kind_number j
+here true h rest j t e = let s : h ≡ j = cc in subst (λ (x : Kind). kind_number h ≤ kind_number x) s (omega arith)
+here false h rest j t e = cc
+
+-- no due kind is higher than the highest one
+pub highest_most : (due : Kind → Bool) (j k : Kind) → due k ≡ true → highest due ≡ Some j → kind_number k ≤ kind_number j
+highest_most due j kind.Comm d e = here (due kind.Comm) kind.Comm _ j d e
+highest_most due j kind.Pwm d e =
+    level (due kind.Comm) kind.Comm _ j 5 (omega arith) (here (due kind.Pwm) kind.Pwm _ j d) e
+highest_most due j kind.Cmp d e =
+    level (due kind.Comm) kind.Comm _ j 4 (omega arith) (level (due kind.Pwm) kind.Pwm _ j 4 (omega arith)
+    (here (due kind.Cmp) kind.Cmp _ j d)) e
+highest_most due j kind.Cap d e =
+    level (due kind.Comm) kind.Comm _ j 3 (omega arith) (level (due kind.Pwm) kind.Pwm _ j 3 (omega arith)
+    (level (due kind.Cmp) kind.Cmp _ j 3 (omega arith) (here (due kind.Cap) kind.Cap _ j d))) e
+highest_most due j kind.Tick d e =
+    level (due kind.Comm) kind.Comm _ j 2 (omega arith) (level (due kind.Pwm) kind.Pwm _ j 2 (omega arith)
+    (level (due kind.Cmp) kind.Cmp _ j 2 (omega arith) (level (due kind.Cap) kind.Cap _ j 2 (omega arith)
+    (here (due kind.Tick) kind.Tick _ j d)))) e
+highest_most due j kind.Uart d e =
+    level (due kind.Comm) kind.Comm _ j 1 (omega arith) (level (due kind.Pwm) kind.Pwm _ j 1 (omega arith)
+    (level (due kind.Cmp) kind.Cmp _ j 1 (omega arith) (level (due kind.Cap) kind.Cap _ j 1 (omega arith)
+    (level (due kind.Tick) kind.Tick _ j 1 (omega arith) (here (due kind.Uart) kind.Uart _ j d))))) e
+highest_most due j kind.Main d e = omega arith
+
+next_none : (v : Bool) (h : Kind) (rest : Option Kind) → (if v then Some h else rest) ≡ None → rest ≡ None
+next_none true h rest e = cc
+next_none false h rest e = e
+
+not_here : (v : Bool) (h : Kind) (rest : Option Kind) → (if v then Some h else rest) ≡ None → v ≡ false
+not_here true h rest e = cc
+not_here false h rest e = refl
+
+-- where there is no highest kind, none is due
+pub highest_none : (due : Kind → Bool) (k : Kind) → highest due ≡ None → due k ≡ false
+highest_none due k e =
+    let comm = next_none (due kind.Comm) kind.Comm _ e in
+    let pwm = next_none (due kind.Pwm) kind.Pwm _ comm in
+    let cmp = next_none (due kind.Cmp) kind.Cmp _ pwm in
+    let cap = next_none (due kind.Cap) kind.Cap _ cmp in
+    let tick = next_none (due kind.Tick) kind.Tick _ cap in
+    let uart = next_none (due kind.Uart) kind.Uart _ tick in
+    elim k as (λ x. due x ≡ false) [
+      | kind.Main ↦ not_here (due kind.Main) kind.Main None uart
+      | kind.Uart ↦ not_here (due kind.Uart) kind.Uart _ tick
+      | kind.Tick ↦ not_here (due kind.Tick) kind.Tick _ cap
+      | kind.Cap ↦ not_here (due kind.Cap) kind.Cap _ cmp
+      | kind.Cmp ↦ not_here (due kind.Cmp) kind.Cmp _ pwm
+      | kind.Pwm ↦ not_here (due kind.Pwm) kind.Pwm _ comm
+      | kind.Comm ↦ not_here (due kind.Comm) kind.Comm _ e
+    ]
+
+pick : (v : Bool) (h : Kind) (rest : Option Kind) (j : Kind) (due : Kind → Bool) → due h ≡ v → (rest ≡ Some j → due j ≡ true) → (if v then Some h else rest) ≡ Some j → due j ≡ true
+pick true h rest j due d r e = let s : h ≡ j = cc in subst (λ (x : Kind). due x ≡ true) s d
+pick false h rest j due d r e = r e
+
+-- the highest kind is due
+pub highest_is_due : (due : Kind → Bool) (j : Kind) → highest due ≡ Some j → due j ≡ true
+highest_is_due due j e =
+    pick (due kind.Comm) kind.Comm _ j due refl (pick (due kind.Pwm) kind.Pwm _ j due refl (pick (due kind.Cmp) kind.Cmp _ j due refl
+    (pick (due kind.Cap) kind.Cap _ j due refl (pick (due kind.Tick) kind.Tick _ j due refl (pick (due kind.Uart) kind.Uart _ j due refl
+    (pick (due kind.Main) kind.Main None j due refl (λ f. let z : None ≡ Some j = f in cc))))))) e
+
+-- what enters is the highest due kind
+entry_at : (nest : Nest) (inner : Option Kind) (o : Option Kind) (j : Kind) → enters_above nest inner o ≡ Some j → o ≡ Some j
+entry_at nest inner None j e = cc
+entry_at nest inner (Some h) j e = kept (may_enter nest inner h) h j e
+  where
+    kept : (v : Bool) (h j : Kind) → (if v then Some h else None) ≡ Some j → Some h ≡ Some j
+    kept true h j e = e
+    kept false h j e = cc
+
+pub entry_highest : (nest : Nest) (stack : List Kind) (due : Kind → Bool) (j : Kind) → next_entry nest stack due ≡ Some j → highest due ≡ Some j
+entry_highest nest stack due j e = entry_at nest (innermost stack) (highest due) j e
+
+-- where none enters, the highest due kind may not
+none_at : (nest : Nest) (inner : Option Kind) (h : Kind) → enters_above nest inner (Some h) ≡ None → may_enter nest inner h ≡ false
+none_at nest inner h e = shut (may_enter nest inner h) h e
+  where
+    shut : (v : Bool) (h : Kind) → (if v then Some h else None) ≡ None → v ≡ false
+    shut true h e = cc
+    shut false h e = refl
+
+-- ---- one step
+
+-- an entry of a kind that is the highest due one counts for no other kind that waits
+entry_uncounted : (nest : Nest) (k j : Kind) → kind_number k ≤ kind_number j → k ≢ j → counts nest k (Some j) ≡ false
+entry_uncounted Full k j le ne = let lt : kind_number k < kind_number j = apart (kind_number k) (kind_number j) le (λ s. ne (number_same k j s)) in above (kind_number j) (kind_number k) lt
+  where
+    apart : (m n : ℕ) → m ≤ n → (m ≡ n → ⊥) → m < n
+    apart m n le ne = grind (arith, nat_tests)
+
+    above : (m n : ℕ) → n < m → nat_le m n ≡ false
+    above m n l = grind (arith, nat_tests)
+entry_uncounted One k j le ne = ne_to (kind_number j) 0 (λ z. ne (number_same k j (omega arith)))
+
+-- a counted step of the innermost kind: it isn't higher than the one that waits, which the rank doesn't keep out
+not_behind : (nest : Nest) (k j : Kind) → counts nest k (Some j) ≡ true → is_behind nest (Some j) k ≡ false
+not_behind Full k j e = ge_to (kind_number k) (kind_number j) (le_from (kind_number j) (kind_number k) e)
+not_behind One k j e = let z = eq_from (kind_number j) 0 e in ge_to 0 (kind_number j) (omega arith)
+
+-- a step that doesn't count is that of a kind that goes first
+behind_by : (nest : Nest) (k j : Kind) → counts nest k (Some j) ≡ false → is_behind nest (Some j) k ≡ true
+behind_by Full k j e = lt_to (kind_number k) (kind_number j) (gt_from (kind_number j) (kind_number k) e)
+behind_by One k j e = lt_to 0 (kind_number j) (some_of (kind_number j) (ne_from (kind_number j) 0 e))
+  where
+    some_of : (n : ℕ) → (n ≡ 0 → ⊥) → 0 < n
+    some_of n ne = grind (arith, nat_tests)
+
+-- a due kind that the innermost one may be interrupted by
+may_above : (nest : Nest) (k j h : Kind) → counts nest k (Some j) ≡ true → k ≢ j → kind_number k ≤ kind_number h → may_enter nest (Some j) h ≡ true
+may_above Full k j h e ne le = lt_to (kind_number j) (kind_number h) (more (kind_number j) (kind_number k) (kind_number h) (le_from (kind_number j) (kind_number k) e) (λ s. ne (number_same k j (sym s))) le)
+  where
+    more : (j k h : ℕ) → j ≤ k → (j ≡ k → ⊥) → k ≤ h → j < h
+    more j k h a ne b = grind (arith, nat_tests)
+may_above One k j h e ne le = main_below (kind_number j) (kind_number k) (kind_number h) e (λ s. ne (number_same k j (sym s))) le
+  where
+    main_below : (j k h : ℕ) → (j == 0) ≡ true → (j ≡ k → ⊥) → k ≤ h → ((j == 0) && not (h == 0)) ≡ true
+    main_below j k h e ne le = grind (arith, nat_tests)
+
+-- where the mask is down and no kind enters, no counted step keeps a due kind out
+none_kept : (nest : Nest) (j k : Kind) (outer : List Kind) (due : Kind → Bool) → counts nest k (Some j) ≡ true → k ≢ j → due k ≡ true → next_entry nest (j ∷ outer) due ≡ None → ⊥
+none_kept nest j k outer due c ne d e = by_highest (highest due) refl
+  where
+    by_highest : (o : Option Kind) → highest due ≡ o → ⊥
+    by_highest None h = let f = highest_none due k h in (let z = sym d ∙ f in cc)
+    by_highest (Some h) s =
+        let m = may_above nest k j h c ne (highest_most due h k d s) in
+        let f = none_at nest (Some j) h (subst (λ (x : Option Kind). enters_above nest (Some j) x ≡ None) s e) in
+        (let z = sym m ∙ f in cc)
+
+-- ---- the count after a step
+
+drop_rest : (x r : ℕ) → x + r ≤ 8 → x ≤ 8
+drop_rest x r le = omega arith
+
+rest_zero : (v m : Bool) (x h : ℕ) → m ≡ false → x ≤ 8 → x + (if v then 0 else room m h) ≤ 8
+rest_zero true m x h e le = omega arith
+rest_zero false true x h e le = cc
+rest_zero false false x h e le = omega arith
+
+rest_behind : (v m : Bool) (x h : ℕ) → v ≡ true → x ≤ 8 → x + (if v then 0 else room m h) ≤ 8
+rest_behind true m x h e le = omega arith
+rest_behind false m x h e le = cc
+
+rest_room : (v m : Bool) (h : ℕ) → (m ≡ true → h ≤ 8) → 0 + (if v then 0 else room m h) ≤ 8
+rest_room true m h f = omega arith
+rest_room false true h f = let le = f refl in omega arith
+rest_room false false h f = omega arith
+
+rest_kept : (v m : Bool) (x h : ℕ) → x + room m h ≤ 8 → x + (if v then 0 else room m h) ≤ 8
+rest_kept true m x h le = let r = drop_rest x (room m h) le in omega arith
+rest_kept false m x h le = le
+
+less_room : (m m' : Bool) (h h' x : ℕ) → m ≡ true → 0 < h → (m' ≡ true → h' < h) → x + room m h ≤ 8 → (x + 1) + room m' h' ≤ 8
+less_room true true h h' x e p f g = let l = f refl in omega arith
+less_room true false h h' x e p f g = omega arith
+less_room false m' h h' x e p f g = cc
+
+-- a kind that doesn't wait afterwards has waited for none
+wait_over : (nest : Nest) (k : Kind) (b a : Bool) (by : Option Kind) (w : ℕ) → a ≡ false → wait_next nest k b a by w ≡ 0
+wait_over nest k true a by w e = rw e refl
+wait_over nest k false a by w e = refl
+
+-- nor one that didn't wait before
+wait_fresh : (nest : Nest) (k : Kind) (b a : Bool) (by : Option Kind) (w : ℕ) → b ≡ false → wait_next nest k b a by w ≡ 0
+wait_fresh nest k true a by w e = cc
+wait_fresh nest k false a by w e = refl
+
+wait_uncounted : (nest : Nest) (k : Kind) (b a : Bool) (by : Option Kind) (w : ℕ) → b ≡ true → a ≡ true → counts nest k by ≡ false → wait_next nest k b a by w ≡ w
+wait_uncounted nest k b a by w e f c = rw (e, f, c) refl
+
+wait_counted : (nest : Nest) (k : Kind) (b a : Bool) (by : Option Kind) (w : ℕ) → b ≡ true → a ≡ true → counts nest k by ≡ true → wait_next nest k b a by w ≡ w + 1
+wait_counted nest k b a by w e f c = rw (e, f, c) refl
+
+self_open : (j : Kind) (stack : List Kind) → is_open (j ∷ stack) j ≡ true
+self_open j stack = open_by (kind_number j) (is_open stack j)
+  where
+    open_by : (n : ℕ) (b : Bool) → ((n == n) || b) ≡ true
+    open_by n b = grind (arith, nat_tests)
+
+other_kind : (k j : Kind) (stack : List Kind) → is_open (j ∷ stack) k ≡ false → k ≢ j
+other_kind k j stack f s = let o : is_open (j ∷ stack) k ≡ true = subst (λ (x : Kind). is_open (j ∷ stack) x ≡ true) (sym s) (self_open j stack) in (let z = sym o ∙ f in cc)
+
+-- after an entry; what is seen due before it is due
+pub entry_patient : (nest : Nest) (stack : List Kind) (due seen seen' : Kind → Bool) (j : Kind) (hold hold' : ℕ) (w : Kind → ℕ)
+    → ((k : Kind) → is_waiting seen stack k ≡ true → due k ≡ true) → next_entry nest stack due ≡ Some j → Patient nest hold false stack seen w
+    → Patient nest hold' false (j ∷ stack) seen' (λ k. wait_next nest k (is_waiting seen stack k) (is_waiting seen' (j ∷ stack) k) (Some j) (w k))
+entry_patient nest stack due seen seen' j hold hold' w sees chosen p = record {
+  bound = λ k after. rest_zero (is_behind nest (Some j) k) false _ hold' refl (elim (by_bool (is_waiting seen stack k)) [
+    | inl before ↦ (
+        let ne = other_kind k j stack (waits_parts seen' (j ∷ stack) k after).1 in
+        let le = highest_most due j k (sees k before) (entry_highest nest stack due j chosen) in
+        rw (wait_uncounted nest k (is_waiting seen stack k) (is_waiting seen' (j ∷ stack) k) (Some j) (w k) before after (entry_uncounted nest k j le ne))
+        (drop_rest (w k) _ (p.bound k before)))
+    | inr fresh ↦ rw (wait_fresh nest k (is_waiting seen stack k) (is_waiting seen' (j ∷ stack) k) (Some j) (w k) fresh) (omega arith)
+  ]);
+  calm = λ k over. wait_over nest k (is_waiting seen stack k) (is_waiting seen' (j ∷ stack) k) (Some j) (w k) over;
+  held = λ m. cc;
+}
+
+-- after a step of the innermost kind, which goes on, or returns with the mask down
+pub own_patient : (nest : Nest) (j : Kind) (outer stack' : List Kind) (due seen seen' : Kind → Bool) (masked masked' : Bool) (hold hold' : ℕ) (w : Kind → ℕ)
+    → ((k : Kind) → is_waiting seen (j ∷ outer) k ≡ true → due k ≡ true) → (masked ≡ false → next_entry nest (j ∷ outer) due ≡ None)
+    → (stack' ≡ j ∷ outer) ⊎ (masked' ≡ false)
+    → (masked ≡ true → 0 < hold) → (masked' ≡ true → hold' ≤ 8) → (masked ≡ true → masked' ≡ true → hold' < hold)
+    → Patient nest hold masked (j ∷ outer) seen w
+    → Patient nest hold' masked' stack' seen' (λ k. wait_next nest k (is_waiting seen (j ∷ outer) k) (is_waiting seen' stack' k) (Some j) (w k))
+own_patient nest j outer stack' due seen seen' masked masked' hold hold' w sees none goes some most less p = record {
+  bound = λ k after. elim (by_bool (is_waiting seen (j ∷ outer) k)) [
+    | inr fresh ↦ rw (wait_fresh nest k (is_waiting seen (j ∷ outer) k) (is_waiting seen' stack' k) (Some j) (w k) fresh)
+        (rest_room (is_behind nest (innermost stack') k) masked' hold' most)
+    | inl before ↦ (
+        let parts = waits_parts seen (j ∷ outer) k before in
+        let ne = other_kind k j outer parts.1 in
+        elim (by_bool (counts nest k (Some j))) [
+          | inl c ↦ rw (wait_counted nest k (is_waiting seen (j ∷ outer) k) (is_waiting seen' stack' k) (Some j) (w k) before after c) (elim (by_bool masked) [
+            | inl m ↦ rest_kept (is_behind nest (innermost stack') k) masked' (w k + 1) hold'
+                (less_room masked masked' hold hold' (w k) m (some m) (less m) (rw (not_behind nest k j c) at (p.bound k before)))
+            | inr m ↦ absurd (none_kept nest j k outer due c ne (sees k before) (none m))
+          ])
+          | inr n ↦ rw (wait_uncounted nest k (is_waiting seen (j ∷ outer) k) (is_waiting seen' stack' k) (Some j) (w k) before after n) (
+              let le = drop_rest (w k) _ (p.bound k before) in
+              elim goes [
+                | inl s ↦ rest_behind (is_behind nest (innermost stack') k) masked' (w k) hold' (rw s (behind_by nest k j n)) le
+                | inr u ↦ rest_zero (is_behind nest (innermost stack') k) masked' (w k) hold' u le
+              ])
+        ])
+  ];
+  calm = λ k over. wait_over nest k (is_waiting seen (j ∷ outer) k) (is_waiting seen' stack' k) (Some j) (w k) over;
+  held = most;
+}
+
+-- after time has passed, or the outside has acted
+pub pass_patient : (nest : Nest) (stack : List Kind) (seen seen' : Kind → Bool) (masked : Bool) (hold : ℕ) (w : Kind → ℕ)
+    → Patient nest hold masked stack seen w
+    → Patient nest hold masked stack seen' (λ k. wait_next nest k (is_waiting seen stack k) (is_waiting seen' stack k) None (w k))
+pass_patient nest stack seen seen' masked hold w p = record {
+  bound = λ k after. elim (by_bool (is_waiting seen stack k)) [
+    | inl before ↦ rw (wait_uncounted nest k (is_waiting seen stack k) (is_waiting seen' stack k) None (w k) before after refl) (p.bound k before)
+    | inr fresh ↦ rw (wait_fresh nest k (is_waiting seen stack k) (is_waiting seen' stack k) None (w k) fresh) (rest_room (is_behind nest (innermost stack) k) masked hold p.held)
+  ];
+  calm = λ k over. wait_over nest k (is_waiting seen stack k) (is_waiting seen' stack k) None (w k) over;
+  held = p.held;
+}
+
+-- where each kind that waited still waits
+pub grow_patient : (nest : Nest) (stack : List Kind) (seen seen' : Kind → Bool) (masked : Bool) (hold : ℕ) (w : Kind → ℕ)
+    → ((k : Kind) → is_waiting seen stack k ≡ true → is_waiting seen' stack k ≡ true)
+    → Patient nest hold masked stack seen w → Patient nest hold masked stack seen' w
+grow_patient nest stack seen seen' masked hold w grows p = record {
+  bound = λ k after. elim (by_bool (is_waiting seen stack k)) [
+    | inl before ↦ p.bound k before
+    | inr fresh ↦ rw (p.calm k fresh) (rest_room (is_behind nest (innermost stack) k) masked hold p.held)
+  ];
+  calm = λ k over. elim (by_bool (is_waiting seen stack k)) [
+    | inl before ↦ absurd (let g = grows k before in (let z = sym g ∙ over in cc))
+    | inr fresh ↦ p.calm k fresh
+  ];
+  held = p.held;
+}
+
+-- equal counts
+pub same_patient : (nest : Nest) (hold : ℕ) (masked : Bool) (stack : List Kind) (due : Kind → Bool) (w w' : Kind → ℕ) → ((k : Kind) → w' k ≡ w k) → Patient nest hold masked stack due w → Patient nest hold masked stack due w'
+same_patient nest hold masked stack due w w' e p = record {
+  bound = λ k b. rw (e k) (p.bound k b);
+  calm = λ k b. e k ∙ p.calm k b;
+  held = p.held;
+}
+
+-- ---- along a log
+
+pub patient_most : (nest : Nest) (hold : ℕ) (masked : Bool) (stack : List Kind) (due : Kind → Bool) (w : Kind → ℕ) → Patient nest hold masked stack due w → (k : Kind) → w k ≤ 8
+patient_most nest hold masked stack due w p k = elim (by_bool (is_waiting due stack k)) [
+  | inl b ↦ drop_rest (w k) _ (p.bound k b)
+  | inr b ↦ rw (p.calm k b) (omega arith)
+]
+
+responds : (nest : Nest) (hold : ℕ) (masked : Bool) (stack : List Kind) (due : Kind → Bool) (log : List Moment) → Patient nest hold masked stack due (waited nest log) → Responds nest hold masked stack due log
+responds nest hold masked stack due log p = record { patient = p; most = patient_most nest hold masked stack due (waited nest log) p }
+
+waited-none : (nest : Nest) (k : Kind) → waited nest [] k ≡ 0
+unfolding waited
+waited-none nest k = refl
+
+-- at the start
+pub start_responds : (nest : Nest) (hold : ℕ) (due : Kind → Bool) → Responds nest hold false [] due []
+start_responds nest hold due = responds nest hold false [] due [] (record {
+  bound = λ k b. rest_zero false false (waited nest [] k) hold refl (rw (waited-none nest k) (omega arith));
+  calm = λ k b. waited-none nest k;
+  held = λ m. cc;
+})
+
+pub longer : (j : Kind) (stack : List Kind) → stepper stack (j ∷ stack) ≡ Some j
+longer j stack = rw (lt_to (length stack) (length (j ∷ stack)) (omega arith)) refl
+
+pub same_long : (j : Kind) (outer : List Kind) → stepper (j ∷ outer) (j ∷ outer) ≡ Some j
+same_long j outer = rw (ge_to (length (j ∷ outer)) (length (j ∷ outer)) (omega arith)) refl
+
+pub shorter : (j : Kind) (outer : List Kind) → stepper (j ∷ outer) outer ≡ Some j
+shorter j outer = rw (ge_to (length (j ∷ outer)) (length outer) (omega arith)) refl
+
+entry_responds : (nest : Nest) (hold hold' : ℕ) (stack : List Kind) (due due' : Kind → Bool) (j : Kind) (log : List Moment)
+    → next_entry nest stack due ≡ Some j → Responds nest hold false stack due log
+    → Responds nest hold' false (j ∷ stack) due' (log ++ Stepped stack due (j ∷ stack) due' ∷ [])
+entry_responds nest hold hold' stack due due' j log chosen r =
+    responds nest hold' false (j ∷ stack) due' _ (same_patient nest hold' false (j ∷ stack) due' _ _
+    (λ k. waited-push nest log (Stepped stack due (j ∷ stack) due') k ∙ ap (λ (by : Option Kind). wait_next nest k (is_waiting due stack k) (is_waiting due' (j ∷ stack) k) by (waited nest log k)) (longer j stack))
+    (entry_patient nest stack due due due' j hold hold' (waited nest log) (λ k s. (waits_parts due stack k s).0) chosen r.patient))
+
+-- the entry as a step tells it
+pub entry_logged : (nest : Nest) (hold hold' : ℕ) (masked masked' : Bool) (stack stack' : List Kind) (due due' : Kind → Bool) (j : Kind)
+    → masked ≡ false → masked' ≡ false → stack' ≡ j ∷ stack → next_entry nest stack due ≡ Some j
+    → (log : List Moment) → Responds nest hold masked stack due log → Responds nest hold' masked' stack' due' (log ++ Stepped stack due stack' due' ∷ [])
+entry_logged nest hold hold' masked masked' stack stack' due due' j m m' s chosen log r =
+    rw (s, m') (entry_responds nest hold hold' stack due due' j log chosen (rw m at r))
+
+own_responds : (nest : Nest) (hold hold' : ℕ) (masked masked' : Bool) (j : Kind) (outer stack' : List Kind) (due due' : Kind → Bool)
+    → (masked ≡ false → next_entry nest (j ∷ outer) due ≡ None) → (stack' ≡ j ∷ outer) ⊎ (masked' ≡ false) → stepper (j ∷ outer) stack' ≡ Some j
+    → (masked ≡ true → 0 < hold) → (masked' ≡ true → hold' ≤ 8) → (masked ≡ true → masked' ≡ true → hold' < hold)
+    → (log : List Moment) → Responds nest hold masked (j ∷ outer) due log → Responds nest hold' masked' stack' due' (log ++ Stepped (j ∷ outer) due stack' due' ∷ [])
+own_responds nest hold hold' masked masked' j outer stack' due due' none goes by some most less log r =
+    responds nest hold' masked' stack' due' _ (same_patient nest hold' masked' stack' due' _ _
+    (λ k. waited-push nest log (Stepped (j ∷ outer) due stack' due') k ∙ ap (λ (o : Option Kind). wait_next nest k (is_waiting due (j ∷ outer) k) (is_waiting due' stack' k) o (waited nest log k)) by)
+    (own_patient nest j outer stack' due due due' masked masked' hold hold' (waited nest log) (λ k s. (waits_parts due (j ∷ outer) k s).0) none goes some most less r.patient))
+
+-- an own step that goes on
+pub own_logged : (nest : Nest) (hold hold' : ℕ) (masked masked' : Bool) (stack : List Kind) (due due' : Kind → Bool) (j : Kind)
+    → innermost stack ≡ Some j → (masked ≡ false → next_entry nest stack due ≡ None)
+    → (masked ≡ true → 0 < hold) → (masked' ≡ true → hold' ≤ 8) → (masked ≡ true → masked' ≡ true → hold' < hold)
+    → (log : List Moment) → Responds nest hold masked stack due log → Responds nest hold' masked' stack due' (log ++ Stepped stack due stack due' ∷ [])
+own_logged nest hold hold' masked masked' [] due due' j i none some most less log r = cc
+own_logged nest hold hold' masked masked' (x ∷ outer) due due' j i none some most less log r =
+    own_responds nest hold hold' masked masked' x outer (x ∷ outer) due due' none (inl refl) (same_long x outer) some most less log r
+
+-- and one that returns
+pub back_logged : (nest : Nest) (hold hold' : ℕ) (masked masked' : Bool) (stack stack' : List Kind) (due due' : Kind → Bool) (j : Kind)
+    → innermost stack ≡ Some j → stack' ≡ outer_ones stack → masked' ≡ false → (masked ≡ false → next_entry nest stack due ≡ None)
+    → (masked ≡ true → 0 < hold) → (masked' ≡ true → hold' ≤ 8) → (masked ≡ true → masked' ≡ true → hold' < hold)
+    → (log : List Moment) → Responds nest hold masked stack due log → Responds nest hold' masked' stack' due' (log ++ Stepped stack due stack' due' ∷ [])
+back_logged nest hold hold' masked masked' [] stack' due due' j i s down none some most less log r = cc
+back_logged nest hold hold' masked masked' (x ∷ outer) stack' due due' j i s down none some most less log r =
+    rw s (own_responds nest hold hold' masked masked' x outer outer due due' none (inr down) (shorter x outer) some most less log r)
+
+-- time passes, or the outside acts
+pub pass_logged : (nest : Nest) (hold : ℕ) (masked : Bool) (stack : List Kind) (due due' : Kind → Bool) (log : List Moment)
+    → Responds nest hold masked stack due log → Responds nest hold masked stack due' (log ++ Passed stack due due' ∷ [])
+pass_logged nest hold masked stack due due' log r =
+    responds nest hold masked stack due' _ (same_patient nest hold masked stack due' _ _
+    (λ k. waited-push nest log (Passed stack due due') k)
+    (pass_patient nest stack due due' masked hold (waited nest log) r.patient))
+
+-- an entry leaves the mask
+pub entry_masked : (b : Bank) (k : Kind) → (after_entry b k).masked ≡ b.masked
+entry_masked b kind.Main = refl
+entry_masked b kind.Uart = refl
+entry_masked b kind.Tick = refl
+entry_masked b kind.Cap = refl
+entry_masked b kind.Cmp = refl
+entry_masked b kind.Pwm = refl
+entry_masked b kind.Comm = refl

@@ -1,0 +1,49 @@
+-- What a step of a handler came to.
+use Rattle.std.specs.Prelude.{◌≡◌, ℕ, List}
+use Rattle.esc_base.specs.declared.kind.Kind.{Kind}
+use Rattle.esc_base.specs.declared.kind.Kind.TheVariants as kind
+use Rattle.esc_base.specs.declared.note.Note.{Note}
+use Rattle.timer_regs.specs.Bank.{Bank}
+use Rattle.timer_regs.specs.Effects.{after_read, written}
+use Rattle.timer_regs.specs.declared.regs.Reg.{Reg}
+use Rattle.interrupt_machine.specs.declared.firmware.Did.{Did}
+use Rattle.interrupt_machine.specs.declared.firmware.Did.TheVariants.{More, Return}
+
+abbrev pub IsMore : Did → Type 0
+IsMore (More own) = Unit {0}
+IsMore (Return own) = ⊥
+
+abbrev pub IsReturn : Did → Type 0
+IsReturn (More own) = ⊥
+IsReturn (Return own) = Unit {0}
+
+abbrev pub notes_of : Did → List Note
+notes_of (More own) = own.items
+notes_of (Return own) = own.items
+
+-- the most own steps of an activation, the return counted and the entry not
+abbrev pub most : Kind → ℕ
+most kind.Main = 8
+most kind.Uart = 8
+most kind.Tick = 48
+most kind.Cap = 64
+most kind.Cmp = 12
+most kind.Pwm = 12
+most kind.Comm = 24
+
+-- an access of a step to the registers
+pub data Access : Type 0 where
+  NoAccess : Access
+  Reads : Reg → Access
+  Writes : Reg → ℕ → Access
+
+-- the registers after an access
+abbrev pub accessed : Bank → Access → Bank
+accessed b NoAccess = b
+accessed b (Reads r) = after_read b r
+accessed b (Writes r v) = written b r v
+
+-- beside at most one access the registers stay as they were
+pub record MakesOneAccess (before after : Bank) : Type 0 where
+  pub access : Access
+  pub after_is : after ≡ accessed before access

@@ -1,0 +1,97 @@
+-- The kinds that are open, the innermost first, and which due kind enters.
+use Rattle.std.specs.Prelude.{ℕ, Bool, true, false, not, ◌&&◌, ◌==◌, nat_lt, ◌<◌, if◌then◌else◌, List, [], ◌∷◌, Option, Some, None, is_none}
+use Rattle.std.specs.List.{list_any}
+use Rattle.esc_base.specs.declared.kind.Kind.{Kind}
+use Rattle.esc_base.specs.declared.kind.Kind.TheVariants as kind
+use Rattle.esc_base.specs.Numbers.{kind_number}
+use Rattle.timer_regs.specs.Bank.{Bank}
+use Rattle.timer_regs.specs.Effects.{is_due}
+use Rattle.timer_regs.specs.Kinds.{has_kind}
+use Rattle.timer_regs.specs.declared.kinds.KindSet.{KindSet}
+use Rattle.interrupt_machine.specs.declared.nest.Nest.{Nest}
+use Rattle.interrupt_machine.specs.declared.nest.Nest.TheVariants.{One, Full}
+
+-- the innermost of the open kinds
+abbrev pub innermost : List Kind → Option Kind
+innermost [] = None
+innermost (k ∷ outer) = Some k
+
+-- the open kinds without the innermost
+abbrev pub outer_ones : List Kind → List Kind
+outer_ones [] = []
+outer_ones (k ∷ outer) = outer
+
+-- a kind has a higher number than the innermost open one
+abbrev pub IsAbove : Option Kind → Kind → Type 0
+IsAbove None k = Unit {0}
+IsAbove (Some inner) k = kind_number inner < kind_number k
+
+-- the kind with a number
+abbrev pub kind_of : ℕ → Kind
+kind_of n =
+    if n == 0 then kind.Main
+    else if n == 1 then kind.Uart
+    else if n == 2 then kind.Tick
+    else if n == 3 then kind.Cap
+    else if n == 4 then kind.Cmp
+    else if n == 5 then kind.Pwm
+    else kind.Comm
+
+abbrev pub is_open : List Kind → Kind → Bool
+is_open stack k = list_any (λ j. kind_number j == kind_number k) stack
+
+-- what is due: MAIN where the firmware waits, the others by the registers
+abbrev pub due_now : Bool → Bank → Kind → Bool
+due_now waits b kind.Main = waits
+due_now waits b kind.Uart = is_due b kind.Uart
+due_now waits b kind.Tick = is_due b kind.Tick
+due_now waits b kind.Cap = is_due b kind.Cap
+due_now waits b kind.Cmp = is_due b kind.Cmp
+due_now waits b kind.Pwm = is_due b kind.Pwm
+due_now waits b kind.Comm = is_due b kind.Comm
+
+-- the same by a set of kinds
+abbrev pub due_in : Bool → KindSet → Kind → Bool
+due_in waits set kind.Main = waits
+due_in waits set kind.Uart = has_kind set kind.Uart
+due_in waits set kind.Tick = has_kind set kind.Tick
+due_in waits set kind.Cap = has_kind set kind.Cap
+due_in waits set kind.Cmp = has_kind set kind.Cmp
+due_in waits set kind.Pwm = has_kind set kind.Pwm
+due_in waits set kind.Comm = has_kind set kind.Comm
+
+-- the highest kind of those that are due
+abbrev pub highest : (Kind → Bool) → Option Kind
+highest due =
+    if due kind.Comm then Some kind.Comm
+    else if due kind.Pwm then Some kind.Pwm
+    else if due kind.Cmp then Some kind.Cmp
+    else if due kind.Cap then Some kind.Cap
+    else if due kind.Tick then Some kind.Tick
+    else if due kind.Uart then Some kind.Uart
+    else if due kind.Main then Some kind.Main
+    else None
+
+-- whether a due kind may enter above the innermost open one
+abbrev pub may_enter : Nest → Option Kind → Kind → Bool
+may_enter nest None k = true
+may_enter One (Some inner) k = (kind_number inner == 0) && not (kind_number k == 0)
+may_enter Full (Some inner) k = nat_lt (kind_number inner) (kind_number k)
+
+abbrev pub enters_above : Nest → Option Kind → Option Kind → Option Kind
+enters_above nest inner None = None
+enters_above nest inner (Some k) = if may_enter nest inner k then Some k else None
+
+-- the kind that enters where the mask is down: the highest due one, if it may
+abbrev pub next_entry : Nest → List Kind → (Kind → Bool) → Option Kind
+next_entry nest stack due = enters_above nest (innermost stack) (highest due)
+
+-- no handler is open, and no kind is due
+abbrev pub is_idle : List Kind → (Kind → Bool) → Bool
+is_idle [] due = is_none (highest due)
+is_idle (k ∷ outer) due = false
+
+-- each open kind has a higher number than those outside of it
+abbrev pub IsStack : List Kind → Type 0
+IsStack [] = Unit {0}
+IsStack (k ∷ outer) = IsAbove (innermost outer) k × IsStack outer

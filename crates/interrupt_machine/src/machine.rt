@@ -1,0 +1,298 @@
+ghost use Rattle.std.specs.Prelude.{◌≡◌, ◌≢◌, ◌+◌, ◌<◌, ◌≤◌, ◌^◌, ◌++◌, ℕ, Bool, true, false, if◌then◌else◌, List, [], ◌∷◌, Option, Some, None, All, length};
+ghost use Rattle.esc_base.specs.declared.kind.Kind.{Kind};
+ghost use Rattle.esc_base.specs.Range.{InRange};
+ghost use Rattle.interrupt_machine.specs.declared.firmware.Did.{Did};
+ghost use Rattle.timer_regs.specs.Bank.{Bank};
+ghost use Rattle.interrupt_machine.specs.Did.{notes_of};
+ghost use Rattle.interrupt_machine.specs.Limits.{SpendsOwnSteps, SpendsMask};
+ghost use Rattle.interrupt_machine.specs.Open.{innermost, is_open, due_now, due_in, highest, next_entry, is_idle};
+ghost use Rattle.interrupt_machine.specs.Response.{Moment, Stepped, Passed, Responds};
+ghost use Rattle.timer_regs.specs.Effects.{advanced};
+ghost use Rattle.interrupt_machine.specs.Turn.{Turn, Entry, OwnStep, IsHeld, own_notes, leave_note, gate_note};
+
+use crate::stack::Stack;
+use crate::{Did, Firmware, Nest, Own};
+use arrayvec::ArrayVec;
+use esc_base::{GateWord, Kind, Note, Tick};
+use std::marker::Model;
+use timer_regs::{KindSet, Regs};
+
+/// The notes of one step: a gate change, three of the handler's own, a return.
+pub type Notes = ArrayVec<Note, 6>;
+
+/// A firmware with its open handlers, which makes one step after the other.
+///
+/// A due kind that isn't open waits a bounded time: it is entered after at most 8 masked steps and one further step,
+/// not counting entries and steps of higher kinds. With `Nest::One` only MAIN's own steps count, since an open handler
+/// above MAIN goes on to its return before any kind enters. The clauses named `response` promise this along any log:
+/// `new` begins one, and each step, and each time that passes, adds to it what was open and due before and after.
+#[derive(Drop)]
+pub struct Machine<F: Firmware> {
+    firmware: F,
+    stack: Stack,
+    nest: Nest,
+}
+
+impl<F: Firmware> Model for Machine<F> {
+    ghost use Rattle.std.specs.Prelude.{◌≡◌, ◌<◌, true};
+    ghost use Rattle.esc_base.specs.declared.kind.Kind.{Kind};
+    ghost use Rattle.interrupt_machine.specs.Running.{Running};
+    ghost use Rattle.interrupt_machine.specs.Open.{is_open};
+
+    ghost Value = { Running F };
+
+    ghost view = { λ m. record { firmware = m.firmware; open_kinds = m.stack; nest = m.nest } };
+
+    ghost invariant = { λ m. (k : Kind) → is_open m.stack k ≡ true → 0 < F.left m.firmware k };
+}
+
+/// The highest due kind, where MAIN is due if the firmware waits.
+fn highest_due(due: KindSet, waiting: bool) -> Option<Kind>
+    ensures { result ≡ highest (due_in waiting due) }
+{
+    if due.has(Kind::Comm) {
+        Some(Kind::Comm)
+    } else if due.has(Kind::Pwm) {
+        Some(Kind::Pwm)
+    } else if due.has(Kind::Cmp) {
+        Some(Kind::Cmp)
+    } else if due.has(Kind::Cap) {
+        Some(Kind::Cap)
+    } else if due.has(Kind::Tick) {
+        Some(Kind::Tick)
+    } else if due.has(Kind::Uart) {
+        Some(Kind::Uart)
+    } else if waiting {
+        Some(Kind::Main)
+    } else {
+        None
+    }
+}
+
+impl<F: Firmware> Machine<F> {
+    /// The firmware with no handler open.
+    pub fn new(firmware: F, nest: Nest) -> Machine<F>
+        ensures firmware { result.firmware ≡ firmware }
+        ensures none_open { result.open_kinds ≡ [] }
+        ensures nest { result.nest ≡ nest }
+        ensures response { (due : Kind → Bool) → Responds nest (F.hold firmware) false [] due [] }
+    {
+        Machine {
+            firmware,
+            stack: Stack::new(),
+            nest,
+        }
+    }
+
+    /// The firmware.
+    pub fn firmware(&self) -> &F
+        ensures { result.now ≡ self.now.firmware }
+    {
+        &self.firmware
+    }
+
+    /// How many handlers are open, 0 to 7. Each of them can still make a step of its own.
+    pub fn depth(&self) -> usize
+        ensures depth { result ≡ length self.now.open_kinds }
+        ensures most { result ≤ 7 }
+        ensures alive { (k : Kind) → is_open self.now.open_kinds k ≡ true → 0 < F.left self.now.firmware k }
+    {
+        self.stack.depth()
+    }
+
+    /// The highest due kind.
+    fn due(&self, regs: &Regs) -> Option<Kind>
+        ensures { result ≡ highest (due_now (F.waits self.now.firmware) regs.now) }
+    {
+        highest_due(regs.due(), self.firmware.waiting())
+    }
+
+    /// Whether no handler is open and no kind is due.
+    pub fn idle(&self, regs: &Regs) -> bool
+        ensures { result ≡ is_idle self.now.open_kinds (due_now (F.waits self.now.firmware) regs.now) }
+    {
+        self.stack.depth() == 0 && self.due(regs).is_none()
+    }
+
+    /// One step of the machine, at now, and its notes. The machine isn't idle. Where the mask is up, a handler is open
+    /// and the firmware's `hold` isn't 0, and this is so again after the step.
+    ///
+    /// Where the mask is down and the highest due kind may enter, it is entered, with an I note. Else the innermost open
+    /// handler makes a step of its own, with at most one access: a G note where the gates changed, then the handler's
+    /// own notes, then an O note where it was the return.
+    pub fn step(&mut self, regs: &mut Regs) -> Notes
+        requires busy { is_idle self.old.open_kinds (due_now (F.waits self.old.firmware) regs.old) ≡ false }
+        requires mask { regs.old.masked ≡ true → IsHeld (F.hold self.old.firmware) self.old.open_kinds }
+        requires count { regs.old.accesses < 2 ^ 63 }
+        ensures turn { Turn F.came F.made F.waits self.old.nest self.old.firmware self.old.open_kinds regs.old result.items self.new.firmware self.new.open_kinds regs.new }
+        ensures nest { self.new.nest ≡ self.old.nest }
+        ensures mask { regs.new.masked ≡ true → IsHeld (F.hold self.new.firmware) self.new.open_kinds }
+        ensures access { regs.new.accesses ≤ regs.old.accesses + 1 }
+        ensures in_range { All InRange result.items }
+        ensures own_steps { SpendsOwnSteps F.left self.old.firmware self.old.open_kinds self.new.firmware self.new.open_kinds }
+        ensures mask_spent { SpendsMask (F.hold self.old.firmware) regs.old.masked (F.hold self.new.firmware) regs.new.masked }
+        // along any log, no kind waits for more than 8 counted steps
+        ensures response { (log : List Moment) → Responds self.old.nest (F.hold self.old.firmware) regs.old.masked self.old.open_kinds (due_now (F.waits self.old.firmware) regs.old) log
+            → Responds self.old.nest (F.hold self.new.firmware) regs.new.masked self.new.open_kinds (due_now (F.waits self.new.firmware) regs.new)
+            (log ++ Stepped self.old.open_kinds (due_now (F.waits self.old.firmware) regs.old) self.new.open_kinds (due_now (F.waits self.new.firmware) regs.new) ∷ []) }
+    {
+        let mut notes = ArrayVec::new();
+        self.step_into(regs, &mut notes);
+        notes
+    }
+
+    /// As `step`, with the notes in a buffer that the caller keeps, since a run makes millions of steps.
+    pub fn step_into(&mut self, regs: &mut Regs, notes: &mut Notes)
+        requires busy { is_idle self.old.open_kinds (due_now (F.waits self.old.firmware) regs.old) ≡ false }
+        requires mask { regs.old.masked ≡ true → IsHeld (F.hold self.old.firmware) self.old.open_kinds }
+        requires count { regs.old.accesses < 2 ^ 63 }
+        ensures turn { Turn F.came F.made F.waits self.old.nest self.old.firmware self.old.open_kinds regs.old notes.new.items self.new.firmware self.new.open_kinds regs.new }
+        ensures nest { self.new.nest ≡ self.old.nest }
+        ensures mask { regs.new.masked ≡ true → IsHeld (F.hold self.new.firmware) self.new.open_kinds }
+        ensures access { regs.new.accesses ≤ regs.old.accesses + 1 }
+        ensures in_range { All InRange notes.new.items }
+        ensures own_steps { SpendsOwnSteps F.left self.old.firmware self.old.open_kinds self.new.firmware self.new.open_kinds }
+        ensures mask_spent { SpendsMask (F.hold self.old.firmware) regs.old.masked (F.hold self.new.firmware) regs.new.masked }
+        // along any log, no kind waits for more than 8 counted steps
+        ensures response { (log : List Moment) → Responds self.old.nest (F.hold self.old.firmware) regs.old.masked self.old.open_kinds (due_now (F.waits self.old.firmware) regs.old) log
+            → Responds self.old.nest (F.hold self.new.firmware) regs.new.masked self.new.open_kinds (due_now (F.waits self.new.firmware) regs.new)
+            (log ++ Stepped self.old.open_kinds (due_now (F.waits self.old.firmware) regs.old) self.new.open_kinds (due_now (F.waits self.new.firmware) regs.new) ∷ []) }
+    {
+        notes.clear();
+        match self.entry(regs) {
+            Some(kind) => self.enter(kind, regs, notes),
+            None => self.own_step(regs, notes),
+        }
+    }
+
+    /// Lets time pass until a tick that isn't before now and is below 2^31. No step is made meanwhile.
+    pub fn pass(&self, regs: &mut Regs, to: Tick)
+        requires later { regs.old.time ≤ to.0 }
+        requires small { to.0 < 2 ^ 31 }
+        ensures regs { regs.new ≡ advanced regs.old to.0 }
+        ensures response { (log : List Moment) → Responds self.now.nest (F.hold self.now.firmware) regs.old.masked self.now.open_kinds (due_now (F.waits self.now.firmware) regs.old) log
+            → Responds self.now.nest (F.hold self.now.firmware) regs.new.masked self.now.open_kinds (due_now (F.waits self.now.firmware) regs.new)
+            (log ++ Passed self.now.open_kinds (due_now (F.waits self.now.firmware) regs.old) (due_now (F.waits self.now.firmware) regs.new) ∷ []) }
+    {
+        regs.advance(to);
+    }
+
+    /// The kind that enters now, if one does.
+    fn entry(&self, regs: &Regs) -> Option<Kind>
+        ensures entry { result ≡ (if regs.now.masked then None else next_entry self.now.nest self.now.open_kinds (due_now (F.waits self.now.firmware) regs.now)) }
+    {
+        if regs.masked() {
+            return None;
+        }
+        let kind = self.due(regs)?;
+        if self.nest.lets_in(self.stack.innermost(), kind) {
+            Some(kind)
+        } else {
+            None
+        }
+    }
+
+    /// Enters the highest due kind.
+    fn enter(&mut self, kind: Kind, regs: &mut Regs, notes: &mut Notes)
+        requires unmasked { regs.old.masked ≡ false }
+        requires chosen { next_entry self.old.nest self.old.open_kinds (due_now (F.waits self.old.firmware) regs.old) ≡ Some kind }
+        requires empty { notes.old.items ≡ [] }
+        ensures entry { Entry F.came F.waits self.old.nest self.old.firmware self.old.open_kinds regs.old kind notes.new.items self.new.firmware self.new.open_kinds regs.new }
+        ensures nest { self.new.nest ≡ self.old.nest }
+        ensures unmasked { regs.new.masked ≡ false }
+        ensures access { regs.new.accesses ≡ regs.old.accesses }
+        ensures in_range { All InRange notes.new.items }
+        ensures own_steps { SpendsOwnSteps F.left self.old.firmware self.old.open_kinds self.new.firmware self.new.open_kinds }
+        ensures mask_spent { SpendsMask (F.hold self.old.firmware) regs.old.masked (F.hold self.new.firmware) regs.new.masked }
+        // along any log, no kind waits for more than 8 counted steps
+        ensures response { (log : List Moment) → Responds self.old.nest (F.hold self.old.firmware) regs.old.masked self.old.open_kinds (due_now (F.waits self.old.firmware) regs.old) log
+            → Responds self.old.nest (F.hold self.new.firmware) regs.new.masked self.new.open_kinds (due_now (F.waits self.new.firmware) regs.new)
+            (log ++ Stepped self.old.open_kinds (due_now (F.waits self.old.firmware) regs.old) self.new.open_kinds (due_now (F.waits self.new.firmware) regs.new) ∷ []) }
+    {
+        notes.push(Note::Enter {
+            t: regs.now(),
+            k: kind.number(),
+        });
+        regs.entered(kind);
+        self.firmware.enter(kind);
+        self.stack.push(kind);
+    }
+
+    /// Lets the innermost open handler make a step of its own.
+    fn own_step(&mut self, regs: &mut Regs, notes: &mut Notes)
+        requires none_enters { regs.old.masked ≡ false → next_entry self.old.nest self.old.open_kinds (due_now (F.waits self.old.firmware) regs.old) ≡ None }
+        requires some_open { self.old.open_kinds ≢ [] }
+        requires held { regs.old.masked ≡ true → 0 < F.hold self.old.firmware }
+        requires count { regs.old.accesses < 2 ^ 63 }
+        requires empty { notes.old.items ≡ [] }
+        ensures own { (kind : Kind) × (outer : List Kind) × (did : Did) × OwnStep F.made F.waits self.old.nest self.old.firmware self.old.open_kinds regs.old kind outer did notes.new.items self.new.firmware self.new.open_kinds regs.new }
+        ensures nest { self.new.nest ≡ self.old.nest }
+        ensures mask { regs.new.masked ≡ true → IsHeld (F.hold self.new.firmware) self.new.open_kinds }
+        ensures access { regs.new.accesses ≤ regs.old.accesses + 1 }
+        ensures in_range { All InRange notes.new.items }
+        ensures own_steps { SpendsOwnSteps F.left self.old.firmware self.old.open_kinds self.new.firmware self.new.open_kinds }
+        ensures mask_spent { SpendsMask (F.hold self.old.firmware) regs.old.masked (F.hold self.new.firmware) regs.new.masked }
+        // along any log, no kind waits for more than 8 counted steps
+        ensures response { (log : List Moment) → Responds self.old.nest (F.hold self.old.firmware) regs.old.masked self.old.open_kinds (due_now (F.waits self.old.firmware) regs.old) log
+            → Responds self.old.nest (F.hold self.new.firmware) regs.new.masked self.new.open_kinds (due_now (F.waits self.new.firmware) regs.new)
+            (log ++ Stepped self.old.open_kinds (due_now (F.waits self.old.firmware) regs.old) self.new.open_kinds (due_now (F.waits self.new.firmware) regs.new) ∷ []) }
+    {
+        let Some(kind) = self.stack.innermost() else {
+            return;
+        };
+        let before = regs.gates();
+        let did = self.firmware.step(kind, regs);
+        note_gates(notes, before, regs);
+        note_own(notes, kind, &did, regs);
+        if let Did::Return(_) = &did {
+            self.stack.pop();
+        }
+    }
+}
+
+/// A G note, if the gate word isn't the one before.
+fn note_gates(notes: &mut Notes, before: GateWord, regs: &Regs)
+    requires empty { notes.old.items ≡ [] }
+    ensures items { notes.new.items ≡ gate_note before.hi before.lo regs.now }
+    ensures len { length notes.new.items ≤ 1 }
+    ensures in_range { All InRange notes.new.items }
+{
+    let after = regs.gates();
+    if after.hi != before.hi || after.lo != before.lo {
+        notes.push(Note::Gate {
+            t: regs.now(),
+            hi: after.hi,
+            lo: after.lo,
+        });
+    }
+}
+
+/// The handler's own notes, then an O note if it returned.
+fn note_own(notes: &mut Notes, kind: Kind, did: &Did, regs: &Regs)
+    requires room { length notes.old.items ≤ 1 }
+    requires old_in_range { All InRange notes.old.items }
+    requires own_in_range { All InRange (notes_of did.now) }
+    ensures items { notes.new.items ≡ (notes.old.items ++ notes_of did.now) ++ leave_note regs.now kind did.now }
+    ensures in_range { All InRange notes.new.items }
+{
+    match did {
+        Did::More(own) => append(notes, own),
+        Did::Return(own) => {
+            append(notes, own);
+            notes.push(Note::Leave {
+                t: regs.now(),
+                k: kind.number(),
+            });
+        }
+    }
+}
+
+fn append(notes: &mut Notes, own: &Own)
+    requires room { length notes.old.items ≤ 1 }
+    ensures items { notes.new.items ≡ notes.old.items ++ own.now.items }
+    ensures len { length notes.new.items ≤ length notes.old.items + 3 }
+{
+    for note in own.as_slice() {
+        notes.push(*note);
+    }
+}
