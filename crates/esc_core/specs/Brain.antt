@@ -1,0 +1,26 @@
+-- What a contract sees of the core.
+use Rattle.std.specs.Prelude.{ℕ, Bool, List}
+use Rattle.esc_base.specs.declared.signal.Edge.{Edge}
+use Rattle.esc_base.specs.declared.signal.Mode.{Mode}
+use Rattle.arming.specs.Kept.{Kept}
+use Rattle.esc_core.specs.declared.state.CapAt.{CapAt}
+use Rattle.esc_core.specs.declared.state.TickAt.{TickAt}
+use Rattle.esc_core.specs.declared.state.BareAt.{BareAt}
+
+pub record Brain : Type 0 where
+  pub cap_at : CapAt
+  pub tick_at : TickAt
+  pub main_at : BareAt
+  pub uart_at : BareAt
+  pub cmp_at : BareAt
+  pub pwm_at : BareAt
+  pub comm_at : BareAt
+  -- for how many steps the mask can still stand
+  pub hold : ℕ
+  -- the mode of the newest window
+  pub window : Mode
+  -- the edges of the closed window, as far as they have been read
+  pub burst : List Edge
+  -- the window timer was set, and no window was opened since
+  pub paused : Bool
+  pub control : Kept

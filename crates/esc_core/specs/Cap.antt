@@ -1,0 +1,108 @@
+-- The steps of CAP: it reads the edges of a closed window, judges them, and opens the next window or sets the window
+-- timer; where the timer was set it opens a window.
+use Rattle.std.specs.Prelude.{ℕ, ◌+◌, ◌-◌, min, Bool, true, false, ◌&&◌, ◌==◌, nat_le, nat_lt, if◌then◌else◌, List, [], ◌∷◌, ◌++◌, length, Option, Some, None}
+use Rattle.esc_base.specs.declared.tick.Tick.{Tick}
+use Rattle.esc_base.specs.declared.signal.Edge.{Edge}
+use Rattle.esc_base.specs.declared.note.Note.{Note}
+use Rattle.esc_base.specs.declared.note.Note.TheVariants as note
+use Rattle.esc_base.specs.Numbers.{mode_number, why_number}
+use Rattle.edge_capture.specs.Edges.{last_at}
+use Rattle.timer_regs.specs.Bank.{Bank}
+use Rattle.timer_regs.specs.Effects.{read_value}
+use Rattle.timer_regs.specs.declared.regs.Reg.TheVariants as reg
+use Rattle.interrupt_machine.specs.Did.{NoAccess, Reads, Writes}
+use Rattle.dshot_commands.specs.declared.act.Act.{Act}
+use Rattle.dshot_commands.specs.Act.{acting, number_of}
+use Rattle.arming.specs.Kept.{after_found, after_frame}
+use Rattle.esc_core.specs.declared.state.CapAt.{CapAt}
+use Rattle.esc_core.specs.declared.state.CapAt.TheVariants as cap
+use Rattle.esc_core.specs.declared.judge.Judgement.{Judgement}
+use Rattle.esc_core.specs.declared.judge.Judgement.TheVariants.{Good, Bad, Found, Nothing}
+use Rattle.esc_core.specs.Brain.{Brain}
+use Rattle.esc_core.specs.Judge.{judged}
+use Rattle.esc_core.specs.Stepped.{Stepped, goes_on, goes_back}
+
+abbrev pub tick_at : ℕ → Tick
+tick_at t = record { 0 = t }
+
+-- the edge that a register shows
+abbrev pub edge_of : ℕ → Edge
+edge_of v = if nat_lt v 2147483648 then record { t = tick_at v; level = false } else record { t = tick_at (v - 2147483648); level = true }
+
+-- an edge that a burst may go on with
+abbrev pub takes : List Edge → Edge → Bool
+takes burst e = nat_lt (length burst) 32 && nat_le (last_at burst) e.t.0
+
+-- the edge that is read next
+abbrev pub next_edge : Brain → Bank → Edge
+next_edge c b = edge_of (read_value b (reg.CapEdge (length c.burst)))
+
+-- a window opens in the mode of control
+abbrev pub opens : Brain → Bank → Stepped
+opens c b = record {
+  core = record c { cap_at = cap.Back; window = c.control.mode; paused = false };
+  access = Writes reg.CapArm (mode_number c.control.mode);
+  notes = note.Window (tick_at b.time) (mode_number c.control.mode) ∷ [];
+  over = false;
+}
+
+abbrev pub command_note : ℕ → Option Act → List Note
+command_note t None = []
+command_note t (Some act) = note.Command (tick_at t) (number_of act) ∷ []
+
+abbrev pub bit_of : Bool → ℕ
+bit_of true = 1
+bit_of false = 0
+
+-- a pause of 600 ticks after a bad window, from the tick of its verdict
+abbrev pub pause_from : ℕ → ℕ
+pause_from t = t + 600
+
+abbrev pub judge_step : Judgement → Brain → Bank → Stepped
+judge_step (Good frame) c b = record {
+  core = record c { cap_at = cap.Open; control = after_frame c.control frame.value };
+  access = NoAccess;
+  notes = note.Good (tick_at b.time) frame.value (bit_of frame.telemetry) ∷ command_note b.time (acting (after_frame c.control frame.value).run.frames frame.value);
+  over = false;
+}
+judge_step (Bad why) c b = record {
+  core = record c { cap_at = cap.Pause (pause_from b.time) };
+  access = NoAccess;
+  notes = note.Bad (tick_at b.time) (why_number why) ∷ [];
+  over = false;
+}
+judge_step (Found mode) c b = record {
+  core = record c { cap_at = cap.Open; control = after_found c.control mode };
+  access = NoAccess;
+  notes = note.Detected (tick_at b.time) (mode_number mode) ∷ [];
+  over = false;
+}
+judge_step Nothing c b = record {
+  core = record c { cap_at = cap.Pause (pause_from b.time) };
+  access = NoAccess;
+  notes = note.Nothing (tick_at b.time) ∷ [];
+  over = false;
+}
+
+-- a window has at most 32 edges
+abbrev pub after_edges : ℕ → CapAt
+after_edges n = if n == 0 then cap.Back else cap.Copy (min n 32)
+
+abbrev pub after_copy : ℕ → CapAt
+after_copy rest = if nat_le rest 1 then cap.Judge else cap.Copy (rest - 1)
+
+abbrev pub cap_step : CapAt → Brain → Bank → Stepped
+cap_step cap.Start c b =
+    if c.paused then opens c b
+    else goes_on (record c { burst = []; cap_at = after_edges (read_value b reg.CapState) }) (Reads reg.CapState)
+cap_step (cap.Copy rest) c b =
+    goes_on
+    (if takes c.burst (next_edge c b)
+    then record c { burst = c.burst ++ next_edge c b ∷ []; cap_at = after_copy rest }
+    else record c { cap_at = cap.Back })
+    (Reads (reg.CapEdge (length c.burst)))
+cap_step cap.Judge c b = judge_step (judged c.window c.burst) c b
+cap_step cap.Open c b = opens c b
+cap_step (cap.Pause at) c b = goes_on (record c { cap_at = cap.Back; paused = true }) (Writes reg.CapAt at)
+cap_step cap.Back c b = goes_back (record c { cap_at = cap.Shut })
+cap_step cap.Shut c b = goes_back (record c { cap_at = cap.Shut })

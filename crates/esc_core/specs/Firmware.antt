@@ -1,0 +1,125 @@
+-- An entry and a step of the core, whatever the kind.
+use Rattle.std.specs.Prelude.{ℕ, ◌+◌, ◌-◌, Bool, true, false, ◌&&◌, if◌then◌else◌, nat_lt, []}
+use Rattle.esc_base.specs.declared.kind.Kind.{Kind}
+use Rattle.esc_base.specs.declared.kind.Kind.TheVariants as kind
+use Rattle.esc_base.specs.declared.signal.Mode.TheVariants.{Unknown}
+use Rattle.timer_regs.specs.Bank.{Bank}
+use Rattle.timer_regs.specs.declared.regs.Reg.TheVariants as reg
+use Rattle.interrupt_machine.specs.Did.{Writes}
+use Rattle.arming.specs.Kept.{start}
+use Rattle.esc_core.specs.declared.state.CapAt.{CapAt}
+use Rattle.esc_core.specs.declared.state.CapAt.TheVariants as cap
+use Rattle.esc_core.specs.declared.state.TickAt.{TickAt}
+use Rattle.esc_core.specs.declared.state.TickAt.TheVariants as tick
+use Rattle.esc_core.specs.declared.state.BareAt.{BareAt}
+use Rattle.esc_core.specs.declared.state.BareAt.TheVariants as bare
+use Rattle.esc_core.specs.Brain.{Brain}
+use Rattle.esc_core.specs.Stepped.{Stepped, goes_back}
+use Rattle.esc_core.specs.Cap.{cap_step}
+use Rattle.esc_core.specs.Tick.{tick_step}
+
+-- how many own steps are left from a place
+abbrev pub cap_left : CapAt → ℕ
+cap_left cap.Shut = 0
+cap_left cap.Start = 40
+cap_left (cap.Copy rest) = rest + 4
+cap_left cap.Judge = 3
+cap_left cap.Open = 2
+cap_left (cap.Pause at) = 2
+cap_left cap.Back = 1
+
+abbrev pub tick_left : TickAt → ℕ
+tick_left tick.Shut = 0
+tick_left tick.Raise = 4
+tick_left tick.Read = 3
+tick_left tick.Lower = 2
+tick_left tick.Back = 1
+
+abbrev pub bare_left : BareAt → ℕ
+bare_left bare.Shut = 0
+bare_left bare.Back = 1
+
+abbrev pub left_of : Brain → Kind → ℕ
+left_of c kind.Main = bare_left c.main_at
+left_of c kind.Uart = bare_left c.uart_at
+left_of c kind.Tick = tick_left c.tick_at
+left_of c kind.Cap = cap_left c.cap_at
+left_of c kind.Cmp = bare_left c.cmp_at
+left_of c kind.Pwm = bare_left c.pwm_at
+left_of c kind.Comm = bare_left c.comm_at
+
+-- for how many steps the mask stands from a place on, with the one that lowers it; 9 where it never stands
+abbrev pub tick_need : TickAt → ℕ
+tick_need tick.Shut = 9
+tick_need tick.Raise = 9
+tick_need tick.Read = 2
+tick_need tick.Lower = 1
+tick_need tick.Back = 9
+
+abbrev pub need_of : Brain → Kind → ℕ
+need_of c kind.Main = 9
+need_of c kind.Uart = 9
+need_of c kind.Tick = tick_need c.tick_at
+need_of c kind.Cap = 9
+need_of c kind.Cmp = 9
+need_of c kind.Pwm = 9
+need_of c kind.Comm = 9
+
+abbrev pub shut : Brain → Kind → Brain
+shut c kind.Main = record c { main_at = bare.Shut }
+shut c kind.Uart = record c { uart_at = bare.Shut }
+shut c kind.Tick = record c { tick_at = tick.Shut }
+shut c kind.Cap = record c { cap_at = cap.Shut }
+shut c kind.Cmp = record c { cmp_at = bare.Shut }
+shut c kind.Pwm = record c { pwm_at = bare.Shut }
+shut c kind.Comm = record c { comm_at = bare.Shut }
+
+abbrev pub entered_core : Brain → Kind → Brain
+entered_core c kind.Main = record c { main_at = bare.Back }
+entered_core c kind.Uart = record c { uart_at = bare.Back }
+entered_core c kind.Tick = record c { tick_at = tick.Raise }
+entered_core c kind.Cap = record c { cap_at = cap.Start }
+entered_core c kind.Cmp = record c { cmp_at = bare.Back }
+entered_core c kind.Pwm = record c { pwm_at = bare.Back }
+entered_core c kind.Comm = record c { comm_at = bare.Back }
+
+-- a handler that isn't built returns at once
+abbrev pub kind_step : Kind → Brain → Bank → Stepped
+kind_step kind.Tick c b = tick_step c.tick_at c b
+kind_step kind.Cap c b = cap_step c.cap_at c b
+kind_step kind.Main c b = goes_back (shut c kind.Main)
+kind_step kind.Uart c b = goes_back (shut c kind.Uart)
+kind_step kind.Cmp c b = goes_back (shut c kind.Cmp)
+kind_step kind.Pwm c b = goes_back (shut c kind.Pwm)
+kind_step kind.Comm c b = goes_back (shut c kind.Comm)
+
+-- the masked steps are counted
+abbrev pub counted_down : Brain → Bank → Brain
+counted_down c b = record c { hold = if b.masked then c.hold - 1 else c.hold }
+
+-- the mask stands where the activation doesn't lower it in time
+abbrev pub is_stray : Kind → Brain → Bank → Bool
+is_stray k c b = b.masked && nat_lt c.hold (need_of c k)
+
+-- a stray step lowers the mask and returns; none stands in a run
+abbrev pub stray_step : Kind → Brain → Stepped
+stray_step k c = record { core = shut c k; access = Writes reg.Mask 0; notes = []; over = true }
+
+unfoldable pub core_step : Kind → Brain → Bank → Stepped
+core_step k c b = if is_stray k c b then stray_step k c else kind_step k (counted_down c b) b
+
+abbrev pub new_core : Brain
+new_core = record {
+  cap_at = cap.Shut;
+  tick_at = tick.Shut;
+  main_at = bare.Shut;
+  uart_at = bare.Shut;
+  cmp_at = bare.Shut;
+  pwm_at = bare.Shut;
+  comm_at = bare.Shut;
+  hold = 0;
+  window = Unknown;
+  burst = [];
+  paused = false;
+  control = start;
+}

@@ -1,0 +1,74 @@
+//! Where each open activation stands, and what the core keeps.
+use arming::Control;
+use edge_capture::Burst;
+use esc_base::Mode;
+use std::marker::Model;
+
+/// Where an open CAP stands. Each place is named by the step that comes next.
+#[derive(Clone, Copy, Debug, PartialEq, Eq, Drop)]
+pub enum CapAt {
+    Shut,
+    /// Reads how many edges there are, or opens a window where the window timer was set.
+    Start,
+    /// Reads one edge of so many.
+    Copy(u8),
+    /// Judges the edges.
+    Judge,
+    /// Opens the next window.
+    Open,
+    /// Sets the window timer for this tick.
+    Pause(u32),
+    Back,
+}
+
+/// Where an open TICK stands.
+#[derive(Clone, Copy, Debug, PartialEq, Eq, Drop)]
+pub enum TickAt {
+    Shut,
+    /// Raises the mask.
+    Raise,
+    /// Reads the control tick's number, and asks control.
+    Read,
+    /// Lowers the mask.
+    Lower,
+    Back,
+}
+
+/// Where an open handler stands that does nothing yet.
+#[derive(Clone, Copy, Debug, PartialEq, Eq, Drop)]
+pub enum BareAt {
+    Shut,
+    Back,
+}
+
+/// The handlers of the seven kinds, and what they share.
+#[derive(Drop)]
+pub struct Core {
+    pub(crate) cap_at: CapAt,
+    pub(crate) tick_at: TickAt,
+    pub(crate) main_at: BareAt,
+    pub(crate) uart_at: BareAt,
+    pub(crate) cmp_at: BareAt,
+    pub(crate) pwm_at: BareAt,
+    pub(crate) comm_at: BareAt,
+    /// For how many steps the mask can still stand.
+    pub(crate) hold: u8,
+    /// The mode of the newest window.
+    pub(crate) window: Mode,
+    /// The edges of the closed window, as far as they have been read.
+    pub(crate) burst: Burst,
+    /// The window timer was set, and no window was opened since.
+    pub(crate) paused: bool,
+    pub(crate) control: Control,
+}
+
+impl Model for Core {
+    ghost use Rattle.std.specs.Prelude.{◌≤◌};
+    ghost use Rattle.esc_core.specs.Brain.{Brain};
+
+    ghost Value = { Brain };
+
+    ghost view = { λ c. record { cap_at = c.cap_at; tick_at = c.tick_at; main_at = c.main_at; uart_at = c.uart_at; cmp_at = c.cmp_at; pwm_at = c.pwm_at; comm_at = c.comm_at; hold = c.hold; window = c.window; burst = c.burst; paused = c.paused; control = c.control } };
+
+    ghost invariant = { λ c. c.hold ≤ 8 };
+}

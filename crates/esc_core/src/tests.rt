@@ -1,0 +1,100 @@
+ghost use Rattle.std.specs.Prelude.{◌≡◌, true};
+ghost use Rattle.interrupt_machine.specs.Turn.{IsHeld};
+
+use crate::Core;
+use arrayvec::ArrayVec;
+use esc_base::{Note, Tick};
+use interrupt_machine::{Machine, Nest};
+use std::process::Abort;
+use timer_regs::{Reg, Regs};
+
+/// Makes a step for each row, and checks its first note.
+fn follow(rt: &impl Abort, machine: &mut Machine<Core>, regs: &mut Regs, rows: &[Option<Note>])
+    requires { regs.old.masked ≡ true → IsHeld machine.old.firmware.hold machine.old.open_kinds }
+    ensures mask { regs.new.masked ≡ true → IsHeld machine.new.firmware.hold machine.new.open_kinds }
+{
+    let mut notes = ArrayVec::new();
+    for row in rows {
+        assert!(rt; !machine.idle(regs));
+        assert!(rt; regs.accesses() < 1000);
+        machine.step_into(regs, &mut notes);
+        assert_eq!(rt; notes.as_slice().first().copied(), *row);
+    }
+}
+
+#[test]
+fn a_control_tick(rt: HostRuntime) {
+    let mut regs = Regs::new();
+    let mut machine = Machine::new(Core::new(), Nest::One);
+    let t = Tick(2400);
+    regs.advance(t);
+    follow(
+        &rt,
+        &mut machine,
+        &mut regs,
+        &[Some(Note::Enter { t, k: 2 }), None],
+    );
+    assert!(rt; regs.masked());
+    let number = Note::Control {
+        t,
+        n: 1,
+        s: 0,
+        d: 0,
+    };
+    follow(&rt, &mut machine, &mut regs, &[Some(number)]);
+    assert!(rt; regs.masked());
+    follow(&rt, &mut machine, &mut regs, &[None]);
+    assert!(rt; !regs.masked());
+    follow(
+        &rt,
+        &mut machine,
+        &mut regs,
+        &[Some(Note::Leave { t, k: 2 })],
+    );
+    assert!(rt; machine.idle(&regs));
+}
+
+/// The line is high for so many ticks, from a tick on.
+fn pulse(rt: &impl Abort, regs: &mut Regs, at: u64, width: u64)
+    ensures mask { regs.new.masked ≡ regs.old.masked }
+{
+    assert!(rt; at < 1000000 && width < 1000);
+    assert!(rt; regs.now().0 <= at);
+    regs.advance(Tick(at));
+    regs.edge(true);
+    regs.advance(Tick(at + width));
+    regs.edge(false);
+}
+
+/// The frame of value 1046 at tick 10000: each bit is 80 ticks, a zero is high for 30 of them and a one for 60.
+#[test]
+fn a_first_frame(rt: HostRuntime) {
+    let mut regs = Regs::new();
+    let mut machine = Machine::new(Core::new(), Nest::One);
+    regs.write(Reg::CapArm, 0);
+    let widths = [
+        60, 30, 30, 30, 30, 30, 60, 30, 60, 60, 30, 30, 30, 60, 60, 30,
+    ];
+    let mut at = 10000;
+    for width in widths.as_slice() {
+        pulse(&rt, &mut regs, at, *width);
+        assert!(rt; at < 100000);
+        at += 80;
+    }
+    assert!(rt; !regs.masked());
+    let t = regs.now();
+    assert_eq!(rt; t, Tick(11230));
+    let mut reads = [None; 34];
+    reads[0] = Some(Note::Enter { t, k: 3 });
+    follow(&rt, &mut machine, &mut regs, &reads);
+    follow(
+        &rt,
+        &mut machine,
+        &mut regs,
+        &[
+            Some(Note::Detected { t, m: 2 }),
+            Some(Note::Window { t, m: 2 }),
+            Some(Note::Leave { t, k: 3 }),
+        ],
+    );
+}
