@@ -1,0 +1,275 @@
+-- What CAP's own steps keep of the ties to the newest window, place by place.
+use Rattle.std.proofs.Common.{◌≡◌, ◌≤◌, ◌<◌, ◌+◌, ◌-◌, ℕ, zero, suc, Bool, true, false, ◌&&◌, ◌==◌, nat_le, nat_lt, min, if◌then◌else◌, List, [], ◌∷◌, ◌++◌, length, take, Option, Some, None, refl, sym, ◌∙◌, ap, arith, All, ◌⊎◌, inl, inr}
+use Rattle.std.specs.List.{fold}
+use Rattle.std.proofs.lemmas.List.{take_more, take_all, get_or-take, length-take-le}
+use Rattle.std.proofs.lemmas.Bool.Decides.{nat_tests}
+use Rattle.esc_base.specs.declared.signal.Edge.{Edge}
+use Rattle.esc_base.specs.declared.signal.Mode.{Mode}
+use Rattle.esc_base.specs.declared.event.Event.{Event}
+use Rattle.esc_base.specs.declared.note.Note.TheVariants as note
+use Rattle.esc_base.specs.Trace.{line}
+use Rattle.esc_base.specs.Numbers.{mode_number}
+use Rattle.edge_capture.specs.Edges.{edge_at, last_at, blank, IsInOrder}
+use Rattle.edge_capture.specs.Burst.{burst, is_closed}
+use Rattle.edge_capture.specs.Window.{window_closed}
+use Rattle.timer_regs.specs.Bank.{Bank}
+use Rattle.timer_regs.specs.Effects.{read_value, edges_read, edge_read, is_readable, shown_edge, mode_of}
+use Rattle.timer_regs.specs.declared.regs.Reg.TheVariants as reg
+use Rattle.interrupt_machine.specs.Did.{NoAccess, Reads, Writes, accessed}
+use Rattle.esc_base.specs.declared.signal.Frame.{Frame}
+use Rattle.dshot_commands.specs.declared.act.Act.{Act}
+use Rattle.dshot_commands.specs.Act.{acting}
+use Rattle.arming.specs.Kept.{after_frame}
+use Rattle.esc_core.specs.declared.state.CapAt.TheVariants as cap
+use Rattle.esc_core.specs.declared.judge.Judgement.{Judgement}
+use Rattle.esc_core.specs.declared.judge.Judgement.TheVariants.{Good, Bad, Found, Nothing}
+use Rattle.esc_core.specs.Brain.{Brain}
+use Rattle.esc_core.specs.Stepped.{Stepped}
+use Rattle.esc_core.specs.Cap.{tick_at, bit_of, after_edges, after_copy, command_note, edge_of, judge_step, next_edge, opens, takes}
+use Rattle.esc_laws.specs.Place.{Signal, Silent, Listens, Judged, Rests, Place, next}
+use Rattle.esc_laws.specs.Windowed.{MayReturn}
+use Rattle.esc_laws.specs.Tied.{CapView, cap_view, Hears, IsClosing, IsCopying, IsListening, IsJudged, IsPaused, SignalTied, WindowSound}
+use Rattle.esc_laws.proofs.Facts.{edge_of-shown, mode_of-number}
+use Rattle.edge_capture.proofs.Stable.{closed_at, burst_before}
+
+-- ---- a window that CAP reads is closed
+
+-- its burst has an edge
+some_edges : (n l c : ℕ) → (if n == 0 then None else Some l) ≡ Some c → 1 ≤ n
+some_edges n l c e = grind (arith, nat_tests)
+
+-- over a view whose window is that of a bank
+pub record IsOfBank (v : CapView) (b : Bank) : Type 0 where
+  pub window : v.window ≡ b.window
+  pub time : v.time ≡ b.time
+
+closing_edges : (v : CapView) (w m : ℕ) (i : IsClosing v w m) → 1 ≤ length v.window.edges
+closing_edges v w m i = rw i.hears.edges (some_edges (length (burst (line v.trace).edges w (mode_of m))) _ i.closed_at i.closes)
+
+pub closing_closed : (v : CapView) (w m : ℕ) → IsClosing v w m → window_closed v.window v.time ≡ true
+closing_closed v w m i =
+    let c : is_closed (mode_of m) (burst (line v.trace).edges w (mode_of m)) v.time ≡ true = closed_at (mode_of m) (burst (line v.trace).edges w (mode_of m)) i.closed_at v.time i.closes (let a = i.waits in let b = i.entered in omega arith) in
+    rw (i.hears.armed, i.hears.mode, i.hears.edges) c
+
+-- what the registers show then
+pub shows_edges : (b : Bank) → is_readable b ≡ true → edges_read b ≡ length b.window.edges
+shows_edges b e = rw e refl
+
+index_small : (i n : ℕ) → i < n → nat_lt i n ≡ true
+index_small i n l = grind (arith, nat_tests)
+
+shows_edge_at : (b : Bank) (i : ℕ) → is_readable b ≡ true → i < length b.window.edges → edge_read b i ≡ shown_edge (edge_at b.window.edges i)
+shows_edge_at b i e l = rw (shows_edges b e, index_small i (length b.window.edges) l) refl
+
+-- the next edge that CAP copies is the window's
+pub next_is : (c : Brain) (b : Bank) → is_readable b ≡ true → length c.burst < length b.window.edges → (edge_at b.window.edges (length c.burst)).t.0 < 2147483648
+    → next_edge c b ≡ edge_at b.window.edges (length c.burst)
+next_is c b e l small = ap edge_of (shows_edge_at b (length c.burst) e l) ∙ edge_of-shown (edge_at b.window.edges (length c.burst)) small
+
+-- ---- the ties after a step of CAP
+
+-- what the notes and the registers say after a step
+abbrev pub TiedAfter : List Event → Bank → Place → Stepped → Type 0
+TiedAfter trace b p s =
+    SignalTied (fold next p s.notes).signal s.core.cap_at (cap_view trace s.core (accessed b s.access) (fold next p s.notes))
+
+-- it begins to read the edges of a window
+zero_not : (n : ℕ) → 1 ≤ n → (n == 0) ≡ false
+zero_not n l = grind (arith, nat_tests)
+
+few_edges : (n : ℕ) → 1 ≤ n → n ≤ 32 → after_edges n ≡ cap.Copy n
+few_edges n l m = rw (zero_not n l) (ap cap.Copy (least n m))
+  where
+    least : (n : ℕ) → n ≤ 32 → min n 32 ≡ n
+    least n m = omega arith
+
+begin_copied : (v : CapView) (w m n : ℕ) → IsClosing v w m → v.copied ≡ [] → n ≡ length v.window.edges → IsCopying v w m n
+begin_copied v w m n i e s =
+    let some = closing_edges v w m i in
+    record {
+      closing = i;
+      copied = rw (e, s, none (length v.window.edges)) refl;
+      some = rw s some;
+      within = rw s (omega arith);
+    }
+  where
+    none : (n : ℕ) → n - n ≡ 0
+    none n = omega arith
+
+pub start_tied : (trace : List Event) (c : Brain) (b : Bank) (p : Place) (w m : ℕ) → p.signal ≡ Listens w m → length b.window.edges ≤ 32 → IsClosing (cap_view trace c b p) w m
+    → TiedAfter trace b p (record { core = record c { burst = []; cap_at = after_edges (read_value b reg.CapState) }; access = Reads reg.CapState; notes = []; over = false })
+start_tied trace c b p w m e few i =
+    let readable : is_readable b ≡ true = closing_closed (cap_view trace c b p) w m i in
+    let n : read_value b reg.CapState ≡ length b.window.edges = shows_edges b readable in
+    let some : 1 ≤ length b.window.edges = closing_edges (cap_view trace c b p) w m i in
+    rw (e, n, few_edges (length b.window.edges) some few)
+    (begin_copied (cap_view trace (record c { burst = []; cap_at = cap.Copy (length b.window.edges) }) (accessed b (Reads reg.CapState)) p) w m (length b.window.edges)
+    (record {
+      hears = record { armed = i.hears.armed; mode = i.hears.mode; opened = i.hears.opened; edges = i.hears.edges; core_mode = i.hears.core_mode; running = i.hears.running; no_timer = i.hears.no_timer };
+      closed_at = i.closed_at;
+      closes = i.closes;
+      waits = i.waits;
+      entered = i.entered;
+      taken = i.taken;
+      no_window = i.no_window;
+      no_verdict = i.no_verdict;
+    })
+    refl refl)
+
+-- it copies one edge
+last_of_front : (edges : List Edge) (i : ℕ) → IsInOrder edges → i < length edges → last_at (take i edges) ≤ (edge_at edges i).t.0
+last_of_front edges zero o l = omega arith
+last_of_front edges (suc i) o l =
+    let len : length (take (suc i) edges) ≡ suc i = length-take-le (suc i) edges (omega arith) in
+    let at : last_at (take (suc i) edges) ≡ (edge_at edges i).t.0 =
+    ap (λ (n : ℕ). (edge_at (take (suc i) edges) n).t.0) (rw len (pred i)) ∙ ap (λ (x : Edge). x.t.0) (get_or-take (suc i) edges i blank (omega arith)) in
+    rw at (o i (suc i) (omega arith) l)
+  where
+    pred : (i : ℕ) → suc i - 1 ≡ i
+    pred i = omega arith
+
+takes_at : (n a b : ℕ) → n < 32 → a ≤ b → (nat_lt n 32 && nat_le a b) ≡ true
+takes_at n a b l m = grind (arith, nat_tests)
+
+pub copy_takes : (c : Brain) (b : Bank) (i : ℕ) → c.burst ≡ take i b.window.edges → i < length b.window.edges → length b.window.edges ≤ 32 → IsInOrder b.window.edges
+    → next_edge c b ≡ edge_at b.window.edges i → takes c.burst (next_edge c b) ≡ true
+copy_takes c b i e l few o n =
+    let len : length c.burst ≡ i = rw e (length-take-le i b.window.edges (omega arith)) in
+    let last : last_at c.burst ≤ (edge_at b.window.edges i).t.0 = rw e (last_of_front b.window.edges i o l) in
+    rw n (takes_at (length c.burst) (last_at c.burst) (edge_at b.window.edges i).t.0 (rw len (omega arith)) last)
+
+copied_judge : (v : CapView) (w m : ℕ) → IsClosing v w m → v.copied ≡ take (length v.window.edges) v.window.edges → SignalTied (Listens w m) cap.Judge v
+copied_judge v w m i e = (i, e ∙ take_all (length v.window.edges) v.window.edges (omega arith))
+
+after_copy_at : (x : Bool) (rest : ℕ) (v : CapView) (w m : ℕ) → nat_le rest 1 ≡ x → IsClosing v w m → 1 ≤ rest → rest ≤ length v.window.edges
+    → v.copied ≡ take ((length v.window.edges - rest) + 1) v.window.edges → SignalTied (Listens w m) (if x then cap.Judge else cap.Copy (rest - 1)) v
+after_copy_at true rest v w m x i some within e =
+    let one : rest ≡ 1 = last_one rest x some in
+    copied_judge v w m i (e ∙ ap (λ (n : ℕ). take n v.window.edges) (whole (length v.window.edges) rest one within))
+  where
+    last_one : (r : ℕ) → nat_le r 1 ≡ true → 1 ≤ r → r ≡ 1
+    last_one r x some = grind (arith, nat_tests)
+
+    whole : (n r : ℕ) → r ≡ 1 → r ≤ n → (n - r) + 1 ≡ n
+    whole n r e le = omega arith
+after_copy_at false rest v w m x i some within e =
+    let more : 2 ≤ rest = more_left rest x in
+    record {
+      closing = i;
+      copied = e ∙ ap (λ (n : ℕ). take n v.window.edges) (one_less (length v.window.edges) rest more within);
+      some = omega arith;
+      within = omega arith;
+    }
+  where
+    more_left : (r : ℕ) → nat_le r 1 ≡ false → 2 ≤ r
+    more_left r x = grind (arith, nat_tests)
+
+    one_less : (n r : ℕ) → 2 ≤ r → r ≤ n → (n - r) + 1 ≡ n - (r - 1)
+    one_less n r m le = omega arith
+
+pub copy_tied : (trace : List Event) (c : Brain) (b : Bank) (p : Place) (w m rest : ℕ) → p.signal ≡ Listens w m → length b.window.edges ≤ 32 → WindowSound b.window b.time → b.time < 2147483648
+    → IsCopying (cap_view trace c b p) w m rest
+    → TiedAfter trace b p (record {
+      core = if takes c.burst (next_edge c b) then record c { burst = c.burst ++ next_edge c b ∷ []; cap_at = after_copy rest } else record c { cap_at = cap.Back };
+      access = Reads (reg.CapEdge (length c.burst));
+      notes = [];
+      over = false;
+    })
+copy_tied trace c b p w m rest e few sound small i =
+    let edges : List Edge = b.window.edges in
+    let index : ℕ = length edges - rest in
+    let some : 1 ≤ rest = i.some in
+    let within : rest ≤ length edges = i.within in
+    let inside : index < length edges = omega arith in
+    let copied : c.burst ≡ take index edges = i.copied in
+    let len : length c.burst ≡ index = rw copied (length-take-le index edges (omega arith)) in
+    let readable : is_readable b ≡ true = closing_closed (cap_view trace c b p) w m i.closing in
+    let early : (edge_at edges index).t.0 < 2147483648 = (let h : (edge_at edges index).t.0 ≤ b.time = sound.past index blank inside in omega arith) in
+    let reads : next_edge c b ≡ edge_at edges index =
+    next_is c b readable (rw len inside) (rw len early) ∙ ap (λ (n : ℕ). edge_at edges n) len in
+    let taken : takes c.burst (next_edge c b) ≡ true = copy_takes c b index copied inside few sound.order reads in
+    let k : IsClosing (cap_view trace c b p) w m = i.closing in
+    rw (e, taken)
+    (after_copy_at (nat_le rest 1) rest
+    (cap_view trace (record c { burst = c.burst ++ next_edge c b ∷ []; cap_at = after_copy rest }) (accessed b (Reads (reg.CapEdge (length c.burst)))) p) w m refl
+    (record {
+      hears = record { armed = k.hears.armed; mode = k.hears.mode; opened = k.hears.opened; edges = k.hears.edges; core_mode = k.hears.core_mode; running = k.hears.running; no_timer = k.hears.no_timer };
+      closed_at = k.closed_at;
+      closes = k.closes;
+      waits = k.waits;
+      entered = k.entered;
+      taken = k.taken;
+      no_window = k.no_window;
+      no_verdict = k.no_verdict;
+    })
+    some within
+    (ap (λ (xs : List Edge). xs ++ next_edge c b ∷ []) copied ∙ ap (λ (x : Edge). take index edges ++ x ∷ []) reads ∙ sym (take_more edges index blank inside)))
+
+-- it judges
+good_tied : (o : Option Act) (frame : Frame) (trace : List Event) (c : Brain) (b : Bank) (p : Place) (w m : ℕ) → IsClosing (cap_view trace c b p) w m → TiedAfter trace b p (record {
+  core = record c { cap_at = cap.Open; control = after_frame c.control frame.value };
+  access = NoAccess;
+  notes = note.Good (tick_at b.time) frame.value (bit_of frame.telemetry) ∷ command_note b.time o;
+  over = false;
+})
+good_tied None frame trace c b p w m i = (record { verdict = ap (λ (n : ℕ). n + 1) i.no_verdict; taken = i.taken; running = i.hears.running; no_timer = i.hears.no_timer }, refl)
+good_tied (Some act) frame trace c b p w m i = (record { verdict = ap (λ (n : ℕ). n + 1) i.no_verdict; taken = i.taken; running = i.hears.running; no_timer = i.hears.no_timer }, refl)
+
+pub judged_tied : (j : Judgement) (trace : List Event) (c : Brain) (b : Bank) (p : Place) (w m : ℕ) → IsClosing (cap_view trace c b p) w m → TiedAfter trace b p (judge_step j c b)
+judged_tied (Good frame) trace c b p w m i = good_tied (acting (after_frame c.control frame.value).run.frames frame.value) frame trace c b p w m i
+judged_tied (Bad why) trace c b p w m i = (record { verdict = ap (λ (n : ℕ). n + 1) i.no_verdict; taken = i.taken; running = i.hears.running; no_timer = i.hears.no_timer }, (refl, refl))
+judged_tied (Found mode) trace c b p w m i = (record { verdict = ap (λ (n : ℕ). n + 1) i.no_verdict; taken = i.taken; running = i.hears.running; no_timer = i.hears.no_timer }, refl)
+judged_tied Nothing trace c b p w m i = (record { verdict = ap (λ (n : ℕ). n + 1) i.no_verdict; taken = i.taken; running = i.hears.running; no_timer = i.hears.no_timer }, (refl, refl))
+
+-- it opens a window
+opened_hears : (trace : List Event) (c : Brain) (b : Bank) (p : Place) (m : Mode) → All (λ e. e.t.0 ≤ b.time) (line trace).edges → b.timer ≡ None → c.control.mode ≡ m
+    → Hears (cap_view trace (record c { cap_at = cap.Back; window = m; paused = false }) (accessed b (Writes reg.CapArm (mode_number m))) p) b.time (mode_number m)
+opened_hears trace c b p m past none is = record {
+  armed = refl;
+  mode = refl;
+  opened = refl;
+  edges = sym (burst_before (line trace).edges b.time (mode_of (mode_number m)) past);
+  core_mode = sym (mode_of-number m);
+  running = refl;
+  no_timer = none;
+}
+
+pub opens_tied : (trace : List Event) (c : Brain) (b : Bank) (p : Place) → All (λ e. e.t.0 ≤ b.time) (line trace).edges → b.timer ≡ None
+    → (p.verdicts ≡ 1) ⊎ ((p.verdicts ≡ 0) × (p.windows ≡ 0)) → TiedAfter trace b p (opens c b)
+opens_tied trace c b p past none done =
+    (record { hears = opened_hears trace c b (next p (note.Window (tick_at b.time) (mode_number c.control.mode))) c.control.mode past none refl; untaken = refl }, one_window p done)
+  where
+    one_window : (p : Place) → (p.verdicts ≡ 1) ⊎ ((p.verdicts ≡ 0) × (p.windows ≡ 0)) → (p.verdicts ≡ 1) ⊎ ((p.verdicts ≡ 0) × (p.windows + 1 ≡ 1))
+    one_window p (inl v) = inl v
+    one_window p (inr n) = inr (n.0, ap (λ (x : ℕ). x + 1) n.1)
+
+-- it sets the window timer
+pub pause_tied : (trace : List Event) (c : Brain) (b : Bank) (p : Place) (f at : ℕ) (opens_next : Bool) → p.signal ≡ Judged f opens_next → IsJudged (cap_view trace c b p) → opens_next ≡ false → at ≡ f + 600
+    → TiedAfter trace b p (record { core = record c { cap_at = cap.Back; paused = true }; access = Writes reg.CapAt at; notes = []; over = false })
+pause_tied trace c b p f at opens_next e i shuts is =
+    rw e (record { taken = i.taken; paused = refl; timer = ap Some is }, (shuts, i.verdict))
+
+-- it returns
+pub back_tied : (trace : List Event) (c : Brain) (b : Bank) (p : Place) (s : Signal) (t : ℕ) → p.signal ≡ s → SignalTied s cap.Back (cap_view trace c b p)
+    → SignalTied (next p (note.Leave (tick_at t) 3)).signal cap.Shut (cap_view trace (record c { cap_at = cap.Shut }) b (next p (note.Leave (tick_at t) 3)))
+back_tied trace c b p Silent t e i = absurd i
+back_tied trace c b p (Listens w m) t e i =
+    let k : IsListening (cap_view trace c b p) w m = i.0 in
+    rw e (record { hears = record { armed = k.hears.armed; mode = k.hears.mode; opened = k.hears.opened; edges = k.hears.edges; core_mode = k.hears.core_mode; running = k.hears.running; no_timer = k.hears.no_timer }; untaken = k.untaken })
+back_tied trace c b p (Judged f opens_next) t e i =
+    let k : IsPaused (cap_view trace c b p) f = i.0 in
+    rw e (record { taken = k.taken; paused = k.paused; timer = k.timer })
+back_tied trace c b p (Rests f r) t e i = absurd i
+
+-- what it has done by then
+pub back_done : (trace : List Event) (c : Brain) (b : Bank) (p : Place) (s : Signal) → SignalTied s cap.Back (cap_view trace c b p) → (p.verdicts ≡ 1) ⊎ ((p.verdicts ≡ 0) × (p.windows ≡ 1))
+back_done trace c b p Silent i = absurd i
+back_done trace c b p (Listens w m) i = i.1
+back_done trace c b p (Judged f opens_next) i = inl i.1.1
+back_done trace c b p (Rests f r) i = absurd i
+
+pub back_may : (trace : List Event) (c : Brain) (b : Bank) (p : Place) (s : Signal) → SignalTied s cap.Back (cap_view trace c b p) → MayReturn s
+back_may trace c b p Silent i = absurd i
+back_may trace c b p (Listens w m) i = tt
+back_may trace c b p (Judged f opens_next) i = i.1.0
+back_may trace c b p (Rests f r) i = absurd i

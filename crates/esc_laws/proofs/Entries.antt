@@ -1,0 +1,233 @@
+-- An entry: its note fits, the ties hold again, and the step fits the log.
+use Rattle.std.proofs.Common.{◌≡◌, ◌≢◌, ◌≤◌, ◌<◌, ◌/◌, ℕ, Bool, true, false, not, ◌&&◌, ◌||◌, ◌==◌, if◌then◌else◌, List, [], ◌∷◌, ◌++◌, reverse, Some, None, refl, sym, ◌∙◌, ap, subst, arith, lit≤, All, inl, inr}
+use Rattle.std.proofs.lemmas.Bool.Decides.{nat_tests}
+use Rattle.std.proofs.lemmas.List.Elements.{All-nil, All-cons}
+use Rattle.esc_base.specs.declared.kind.Kind.{Kind}
+use Rattle.esc_base.specs.declared.kind.Kind.TheVariants as kind
+use Rattle.esc_base.specs.declared.event.Event.{Event}
+use Rattle.esc_base.specs.declared.note.Note.{Note}
+use Rattle.esc_base.specs.declared.note.Note.TheVariants as note
+use Rattle.esc_base.specs.Numbers.{kind_number}
+use Rattle.timer_regs.specs.Bank.{Bank}
+use Rattle.timer_regs.specs.Effects.{after_entry}
+use Rattle.interrupt_machine.specs.declared.nest.Nest.{Nest}
+use Rattle.interrupt_machine.specs.declared.nest.Nest.TheVariants.{One, Full}
+use Rattle.interrupt_machine.specs.Open.{innermost, is_open, due_now, may_enter, enters_above, next_entry, IsAbove, IsStack}
+use Rattle.interrupt_machine.proofs.OpenKinds.{closed_above, entry_above, live_entry, number_same, same_kind}
+use Rattle.interrupt_machine.proofs.Waiting.{entry_highest, highest_is_due, entry_masked}
+use Rattle.arming.proofs.InOrder.{reverse-push}
+use Rattle.arming.proofs.FrameTies.{other_stands}
+use Rattle.esc_core.specs.declared.state.CapAt.{CapAt}
+use Rattle.esc_core.specs.Brain.{Brain}
+use Rattle.esc_core.specs.Cap.{tick_at}
+use Rattle.esc_core.specs.Firmware.{entered_core, left_of, tick_need}
+use Rattle.esc_laws.specs.Place.{Place, next, place}
+use Rattle.esc_laws.specs.Nested.{IsAboveAll}
+use Rattle.esc_laws.specs.Steps.{opening}
+use Rattle.esc_laws.specs.Tied.{Keeps, SignalTied, cap_view, TickTied, IsBuilt}
+use Rattle.esc_laws.proofs.Pushes.{place-push}
+use Rattle.esc_laws.proofs.Notes.{said_push}
+use Rattle.esc_laws.proofs.Facts.{cap_shut, due_built, due_tick}
+use Rattle.esc_laws.proofs.Dues.{cap_entered}
+use Rattle.esc_laws.proofs.OwnSteps.{OwnIn, OwnOut}
+
+-- ---- a kind that enters is above all open ones
+
+less_all : (stack : List Kind) (k : Kind) → IsStack stack → IsAbove (innermost stack) k → All (λ j. kind_number j < kind_number k) stack
+less_all [] k s a = All-nil (λ j. kind_number j < kind_number k)
+less_all (i ∷ outer) k s a =
+    All-cons (λ j. kind_number j < kind_number k) i outer a (less_all outer k s.1 (above_outer outer i k s.0 a))
+  where
+    above_outer : (outer : List Kind) (i k : Kind) → IsAbove (innermost outer) i → kind_number i < kind_number k → IsAbove (innermost outer) k
+    above_outer [] i k a l = tt
+    above_outer (j ∷ rest) i k a l = let b : kind_number j < kind_number i = a in omega arith
+
+-- below MAIN there is no room
+alone : (i : Kind) (outer : List Kind) → kind_number i ≡ 0 → IsAbove (innermost outer) i → outer ≡ []
+alone i [] z a = refl
+alone i (j ∷ rest) z a = absurd (let b : kind_number j < kind_number i = a in omega arith)
+
+main_open : (m n : ℕ) → ((m == 0) && not (n == 0)) ≡ true → (m ≡ 0) × (0 < n)
+main_open m n e = (grind (arith, nat_tests), grind (arith, nat_tests))
+
+above_all : (nest : Nest) (stack : List Kind) (k : Kind) → IsStack stack → IsAbove (innermost stack) k → may_enter nest (innermost stack) k ≡ true → IsAboveAll nest stack (kind_number k)
+above_all Full stack k s a m = less_all stack k s a
+above_all One [] k s a m = All-nil (λ j. (kind_number j ≡ 0) × (0 < kind_number k))
+above_all One (i ∷ outer) k s a m =
+    let main = main_open (kind_number i) (kind_number k) m in
+    All-cons (λ j. (kind_number j ≡ 0) × (0 < kind_number k)) i outer main
+    (rw (alone i outer main.0 s.0) (All-nil (λ j. (kind_number j ≡ 0) × (0 < kind_number k))))
+
+entry_may : (nest : Nest) (stack : List Kind) (due : Kind → Bool) (k : Kind) → next_entry nest stack due ≡ Some k → may_enter nest (innermost stack) k ≡ true
+entry_may nest stack due k e =
+    let same : enters_above nest (innermost stack) (Some k) ≡ Some k = rw (entry_highest nest stack due k e) at e in
+    may_by (may_enter nest (innermost stack) k) k same
+  where
+    may_by : (v : Bool) (k : Kind) → (if v then Some k else None) ≡ Some k → v ≡ true
+    may_by true k e = refl
+    may_by false k e = cc
+
+pub entry_above_all : (nest : Nest) (stack : List Kind) (due : Kind → Bool) (k : Kind) → IsStack stack → next_entry nest stack due ≡ Some k → IsAboveAll nest stack (kind_number k)
+entry_above_all nest stack due k s e = above_all nest stack k s (entry_above nest stack due k e) (entry_may nest stack due k e)
+
+-- ---- what holds between any two steps
+
+other_kind : (k j : Kind) (stack : List Kind) → is_open (j ∷ stack) k ≡ false → (k ≢ j) × (is_open stack k ≡ false)
+other_kind k j stack f = ((λ s. absurd (self_not (kind_number j) (kind_number k) (is_open stack k) f (sym (ap kind_number s)))), rest_not (kind_number j == kind_number k) (is_open stack k) f)
+  where
+    self_not : (m n : ℕ) (b : Bool) → ((m == n) || b) ≡ false → m ≡ n → ⊥
+    self_not m n b f e = grind (arith, nat_tests)
+
+    rest_not : (a b : Bool) → (a || b) ≡ false → b ≡ false
+    rest_not true b f = cc
+    rest_not false b f = f
+
+open_parts : (k j : Kind) (stack : List Kind) → k ≢ j → is_open (j ∷ stack) k ≡ true → is_open stack k ≡ true
+open_parts k j stack ne o = rest_open (kind_number j) (kind_number k) (is_open stack k) (λ e. ne (number_same k j (sym e))) o
+  where
+    rest_open : (m n : ℕ) (b : Bool) → (m ≡ n → ⊥) → ((m == n) || b) ≡ true → b ≡ true
+    rest_open m n true ne o = refl
+    rest_open m n false ne o = absurd (ne (grind (arith, nat_tests)))
+
+-- the other handlers stay where they are
+pub entered_others : (k : Kind) → IsBuilt k → (c : Brain) (j : Kind) → j ≢ k → left_of (entered_core c k) j ≡ left_of c j
+entered_others kind.Tick t c kind.Main ne = refl
+entered_others kind.Tick t c kind.Uart ne = refl
+entered_others kind.Tick t c kind.Tick ne = absurd (ne refl)
+entered_others kind.Tick t c kind.Cap ne = refl
+entered_others kind.Tick t c kind.Cmp ne = refl
+entered_others kind.Tick t c kind.Pwm ne = refl
+entered_others kind.Tick t c kind.Comm ne = refl
+entered_others kind.Cap t c kind.Main ne = refl
+entered_others kind.Cap t c kind.Uart ne = refl
+entered_others kind.Cap t c kind.Tick ne = refl
+entered_others kind.Cap t c kind.Cap ne = absurd (ne refl)
+entered_others kind.Cap t c kind.Cmp ne = refl
+entered_others kind.Cap t c kind.Pwm ne = refl
+entered_others kind.Cap t c kind.Comm ne = refl
+entered_others kind.Main t c j ne = absurd t
+entered_others kind.Uart t c j ne = absurd t
+entered_others kind.Cmp t c j ne = absurd t
+entered_others kind.Pwm t c j ne = absurd t
+entered_others kind.Comm t c j ne = absurd t
+
+entered_left : (k : Kind) → IsBuilt k → (c : Brain) → 1 ≤ left_of (entered_core c k) k
+entered_left kind.Tick t c = lit≤ tt
+entered_left kind.Cap t c = lit≤ tt
+entered_left kind.Main t c = absurd t
+entered_left kind.Uart t c = absurd t
+entered_left kind.Cmp t c = absurd t
+entered_left kind.Pwm t c = absurd t
+entered_left kind.Comm t c = absurd t
+
+entered_hold : (k : Kind) → IsBuilt k → (c : Brain) → (entered_core c k).hold ≡ c.hold
+entered_hold kind.Tick t c = refl
+entered_hold kind.Cap t c = refl
+entered_hold kind.Main t c = absurd t
+entered_hold kind.Uart t c = absurd t
+entered_hold kind.Cmp t c = absurd t
+entered_hold kind.Pwm t c = absurd t
+entered_hold kind.Comm t c = absurd t
+
+-- TICK stands under the mask nowhere, since the mask is down
+entered_need : (k : Kind) → IsBuilt k → (c : Brain) (b : Bank) (stack : List Kind) → Keeps c b stack → b.masked ≡ false → tick_need (entered_core c k).tick_at ≤ 8 → ⊥
+entered_need kind.Tick t c b stack keeps down n = omega arith
+entered_need kind.Cap t c b stack keeps down n = (let m = (keeps.tick_masked n).0 in let z : false ≡ true = sym down ∙ m in cc)
+entered_need kind.Main t c b stack keeps down n = absurd t
+entered_need kind.Uart t c b stack keeps down n = absurd t
+entered_need kind.Cmp t c b stack keeps down n = absurd t
+entered_need kind.Pwm t c b stack keeps down n = absurd t
+entered_need kind.Comm t c b stack keeps down n = absurd t
+
+pub keeps_entry : (nest : Nest) (c : Brain) (b : Bank) (stack : List Kind) (k : Kind) → Keeps c b stack → IsStack stack → b.masked ≡ false → next_entry nest stack (due_now false b) ≡ Some k
+    → Keeps (entered_core c k) (after_entry b k) (k ∷ stack)
+keeps_entry nest c b stack k keeps sorted down chosen =
+    let due = highest_is_due (due_now false b) k (entry_highest nest stack (due_now false b) k chosen) in
+    let built : IsBuilt k = due_built b k due in
+    let still : (after_entry b k).masked ≡ false = entry_masked b k ∙ down in
+    record {
+      hold = rw (entered_hold k built c) keeps.hold;
+      enough = λ m. (let z = sym m ∙ still in cc);
+      tick_masked = λ n. absurd (entered_need k built c b stack keeps down n);
+      live = live_entry (left_of c) (left_of (entered_core c k)) k stack keeps.live (entered_left k built c) (entered_others k built c);
+      shut = λ j f. (let p = other_kind j k stack f in entered_others k built c j p.0 ∙ keeps.shut j p.1);
+      built = λ j o. elim (same_kind j k) [
+        | inl s ↦ subst IsBuilt (sym s) built
+        | inr ne ↦ keeps.built j (open_parts j k stack ne o)
+      ];
+    }
+
+-- ---- the note and the ties
+
+abbrev pub enters : Kind → ℕ → Note
+enters k t = note.Enter (tick_at t) (kind_number k)
+
+entered_stack : (k : Kind) (p : Place) (t : ℕ) → IsBuilt k → (next p (enters k t)).stack ≡ k ∷ p.stack
+entered_stack kind.Tick p t i = refl
+entered_stack kind.Cap p t i = refl
+entered_stack kind.Main p t i = absurd i
+entered_stack kind.Uart p t i = absurd i
+entered_stack kind.Cmp p t i = absurd i
+entered_stack kind.Pwm p t i = absurd i
+entered_stack kind.Comm p t i = absurd i
+
+entered_signal : (k : Kind) → IsBuilt k → (nest : Nest) (trace : List Event) (c : Brain) (b : Bank) (rest : List Note) → OwnIn nest trace c b rest → due_now false b k ≡ true → left_of c k ≡ 0
+    → SignalTied (next (place (opening ++ rest)) (enters k b.time)).signal (entered_core c k).cap_at (cap_view trace (entered_core c k) (after_entry b k) (next (place (opening ++ rest)) (enters k b.time)))
+entered_signal kind.Tick t nest trace c b rest i due none = i.signal
+entered_signal kind.Cap t nest trace c b rest i due none =
+    cap_entered (place (opening ++ rest)).signal trace c b (place (opening ++ rest)) refl
+    (subst (λ (at : CapAt). SignalTied (place (opening ++ rest)).signal at (cap_view trace c b (place (opening ++ rest)))) (cap_shut c.cap_at none) i.signal) due
+entered_signal kind.Main t nest trace c b rest i due none = absurd t
+entered_signal kind.Uart t nest trace c b rest i due none = absurd t
+entered_signal kind.Cmp t nest trace c b rest i due none = absurd t
+entered_signal kind.Pwm t nest trace c b rest i due none = absurd t
+entered_signal kind.Comm t nest trace c b rest i due none = absurd t
+
+entered_tick : (k : Kind) → IsBuilt k → (c : Brain) (b : Bank) (p : Place) → b.number_read ≤ b.time / 2400 → due_now false b k ≡ true → TickTied c.tick_at b.number_read b.time p.ticks
+    → TickTied (entered_core c k).tick_at (after_entry b k).number_read b.time (next p (enters k b.time)).ticks
+entered_tick kind.Tick t c b p read due i = (due_tick b read due, refl)
+entered_tick kind.Cap t c b p read due i = i
+entered_tick kind.Main t c b p read due i = absurd t
+entered_tick kind.Uart t c b p read due i = absurd t
+entered_tick kind.Cmp t c b p read due i = absurd t
+entered_tick kind.Pwm t c b p read due i = absurd t
+entered_tick kind.Comm t c b p read due i = absurd t
+
+-- what an entry leaves of the registers and of control
+pub record EntrySame (c c' : Brain) (b b' : Bank) : Type 0 where
+  pub control : c'.control ≡ c.control
+  pub window : b'.window ≡ b.window
+  pub number : b'.number_read ≡ b.number_read
+  pub time : b'.time ≡ b.time
+  pub level : b'.level ≡ b.level
+
+pub entry_same : (k : Kind) → IsBuilt k → (c : Brain) (b : Bank) → EntrySame c (entered_core c k) b (after_entry b k)
+entry_same kind.Tick t c b = record { control = refl; window = refl; number = refl; time = refl; level = refl }
+entry_same kind.Cap t c b = record { control = refl; window = refl; number = refl; time = refl; level = refl }
+entry_same kind.Main t c b = absurd t
+entry_same kind.Uart t c b = absurd t
+entry_same kind.Cmp t c b = absurd t
+entry_same kind.Pwm t c b = absurd t
+entry_same kind.Comm t c b = absurd t
+
+pub entry_out : (nest : Nest) (trace : List Event) (c : Brain) (b : Bank) (rest : List Note) (stack : List Kind) (k : Kind) → OwnIn nest trace c b rest → Keeps c b stack → IsStack stack
+    → stack ≡ (place (opening ++ rest)).stack → next_entry nest stack (due_now false b) ≡ Some k
+    → OwnOut nest trace (entered_core c k) b (after_entry b k) (rest ++ enters k b.time ∷ []) (k ∷ stack)
+entry_out nest trace c b rest stack k i keeps sorted same chosen =
+    let due = highest_is_due (due_now false b) k (entry_highest nest stack (due_now false b) k chosen) in
+    let built : IsBuilt k = due_built b k due in
+    let e = entry_same k built c b in
+    let none : left_of c k ≡ 0 = keeps.shut k (closed_above stack k sorted (entry_above nest stack (due_now false b) k chosen)) in
+    let p : Place = place (opening ++ rest) in
+    let at : place (opening ++ (rest ++ enters k b.time ∷ [])) ≡ next p (enters k b.time) = place-push (opening ++ rest) (enters k b.time) in
+    record {
+      said = said_push nest trace b.time rest (enters k b.time) i.said refl tt
+          (subst (λ (s : List Kind). IsAboveAll nest s (kind_number k)) same (entry_above_all nest stack (due_now false b) k sorted chosen));
+      control = rw (e.control, reverse-push (opening ++ rest) (enters k b.time)) (other_stands (enters k b.time) c.control (reverse (opening ++ rest)) refl refl i.control);
+      signal = subst (λ (q : Place). SignalTied q.signal (entered_core c k).cap_at (cap_view trace (entered_core c k) (after_entry b k) q)) (sym at) (entered_signal k built nest trace c b rest i due none);
+      window = rw e.window i.window;
+      tick = subst (λ (q : Place). TickTied (entered_core c k).tick_at (after_entry b k).number_read b.time q.ticks) (sym at) (entered_tick k built c b p i.read due i.tick);
+      number = rw (e.control, e.number) i.number;
+      read = rw e.number i.read;
+      stack_is = ap (λ (q : Place). q.stack) at ∙ entered_stack k p b.time built ∙ ap (λ (s : List Kind). k ∷ s) (sym same);
+    }

@@ -1,0 +1,207 @@
+-- Small facts of the registers and the core.
+use Rattle.std.proofs.Common.{◌≡◌, ◌≤◌, ◌<◌, ◌+◌, ◌-◌, ◌/◌, ℕ, Bool, true, false, not, ◌&&◌, ◌||◌, ◌==◌, nat_le, nat_lt, if◌then◌else◌, List, [], ◌∷◌, ◌++◌, Option, Some, None, refl, sym, ◌∙◌, ap, subst, arith, ◌⊎◌, inl, inr}
+use Rattle.std.proofs.lemmas.Bool.Decides.{nat_tests}
+use Rattle.esc_base.specs.declared.kind.Kind.{Kind}
+use Rattle.esc_base.specs.declared.kind.Kind.TheVariants as kind
+use Rattle.esc_base.specs.declared.signal.Edge.{Edge}
+use Rattle.esc_base.specs.declared.signal.Mode.{Mode}
+use Rattle.esc_base.specs.declared.signal.Mode.TheVariants as mode
+use Rattle.esc_base.specs.declared.note.Note.{Note}
+use Rattle.esc_base.specs.declared.note.Note.TheVariants as note
+use Rattle.esc_base.specs.Numbers.{mode_number}
+use Rattle.timer_regs.specs.Bank.{Bank}
+use Rattle.timer_regs.specs.Effects.{after_read, written, after_entry, is_readable, is_reached, mode_of, shown_edge}
+use Rattle.timer_regs.specs.declared.regs.Reg.{Reg}
+use Rattle.timer_regs.specs.declared.regs.Reg.TheVariants as reg
+use Rattle.interrupt_machine.specs.declared.firmware.Did.{Did}
+use Rattle.interrupt_machine.specs.Did.{Access, NoAccess, Reads, Writes, accessed, notes_of}
+use Rattle.interrupt_machine.specs.Open.{due_now}
+use Rattle.interrupt_machine.specs.Turn.{gate_note, own_notes, leave_note}
+use Rattle.esc_core.specs.declared.state.CapAt.{CapAt}
+use Rattle.esc_core.specs.declared.state.CapAt.TheVariants as cap
+use Rattle.esc_core.specs.declared.state.TickAt.{TickAt}
+use Rattle.esc_core.specs.declared.state.TickAt.TheVariants as tick
+use Rattle.esc_core.specs.Cap.{edge_of, tick_at}
+use Rattle.esc_core.specs.Firmware.{cap_left, tick_left}
+use Rattle.esc_laws.specs.Tied.{IsBuilt}
+
+pub by_bool : (v : Bool) → (v ≡ true) ⊎ (v ≡ false)
+by_bool true = inl refl
+by_bool false = inr refl
+
+-- ---- an access leaves the gates and the time
+
+pub record SameGates (b b' : Bank) : Type 0 where
+  pub hi : b'.hi ≡ b.hi
+  pub lo : b'.lo ≡ b.lo
+  pub time : b'.time ≡ b.time
+  pub level : b'.level ≡ b.level
+
+read_gates : (b : Bank) (r : Reg) → SameGates b (after_read b r)
+read_gates b reg.TickState = record { hi = refl; lo = refl; time = refl; level = refl }
+read_gates b r = record { hi = refl; lo = refl; time = refl; level = refl }
+
+write_gates : (b : Bank) (r : Reg) (v : ℕ) → SameGates b (written b r v)
+write_gates b reg.Mask v = record { hi = refl; lo = refl; time = refl; level = refl }
+write_gates b r v = record { hi = refl; lo = refl; time = refl; level = refl }
+
+pub same_gates : (b : Bank) (a : Access) → SameGates b (accessed b a)
+same_gates b NoAccess = record { hi = refl; lo = refl; time = refl; level = refl }
+same_gates b (Reads r) = read_gates b r
+same_gates b (Writes r v) = write_gates b r v
+
+entry_gates : (b : Bank) (k : Kind) → SameGates b (after_entry b k)
+entry_gates b kind.Cap = record { hi = refl; lo = refl; time = refl; level = refl }
+entry_gates b k = record { hi = refl; lo = refl; time = refl; level = refl }
+
+pub entry_time : (b : Bank) (k : Kind) → (after_entry b k).time ≡ b.time
+entry_time b k = (entry_gates b k).time
+
+no_gate : (m n : ℕ) (g : List Note) → (if (m == m) && (n == n) then [] else g) ≡ []
+no_gate m n g = by_test ((m == m) && (n == n)) g (same m n)
+  where
+    same : (m n : ℕ) → ((m == m) && (n == n)) ≡ true
+    same m n = grind (arith, nat_tests)
+
+    by_test : (v : Bool) (g : List Note) → v ≡ true → (if v then [] else g) ≡ []
+    by_test true g e = refl
+    by_test false g e = cc
+
+-- so a step gives its own notes, and its return
+pub plain_notes : (b b' : Bank) (k : Kind) (did : Did) → SameGates b b' → own_notes b.hi b.lo b' k did ≡ notes_of did ++ leave_note b' k did
+plain_notes b b' k did s =
+    let none : gate_note b.hi b.lo b' ≡ [] = rw (s.hi, s.lo) (no_gate b.hi b.lo (note.Gate (record { 0 = b'.time }) b.hi b.lo ∷ [])) in
+    ap (λ (g : List Note). (g ++ notes_of did) ++ leave_note b' k did) none
+
+-- ---- which kinds are due
+
+pub due_built : (b : Bank) (k : Kind) → due_now false b k ≡ true → IsBuilt k
+due_built b kind.Tick d = tt
+due_built b kind.Cap d = tt
+due_built b kind.Main d = cc
+due_built b kind.Uart d = cc
+due_built b kind.Cmp d = cc
+due_built b kind.Pwm d = cc
+due_built b kind.Comm d = cc
+
+pub tick_due : (b : Bank) → b.number_read < b.time / 2400 → due_now false b kind.Tick ≡ true
+tick_due b l = other (b.time / 2400) b.number_read l
+  where
+    other : (n m : ℕ) → m < n → not (n == m) ≡ true
+    other n m l = grind (arith, nat_tests)
+
+pub due_tick : (b : Bank) → b.number_read ≤ b.time / 2400 → due_now false b kind.Tick ≡ true → b.number_read < b.time / 2400
+due_tick b le d = less (b.time / 2400) b.number_read le d
+  where
+    less : (n m : ℕ) → m ≤ n → not (n == m) ≡ true → m < n
+    less n m le e = grind (arith, nat_tests)
+
+pub or_left : (a b : Bool) → a ≡ true → (a || b) ≡ true
+or_left true b e = refl
+or_left false b e = cc
+
+pub or_right : (a b : Bool) → b ≡ true → (a || b) ≡ true
+or_right true b e = refl
+or_right false b e = e
+
+pub either : (a b : Bool) → (a || b) ≡ true → (a ≡ true) ⊎ (b ≡ true)
+either true b e = inl refl
+either false b e = inr e
+
+pub both : (a b : Bool) → (a && b) ≡ true → (a ≡ true) × (b ≡ true)
+both true b e = (refl, e)
+both false b e = cc
+
+-- a closed window that wasn't taken, or a timer that was reached
+pub cap_due_window : (b : Bank) → is_readable b ≡ true → b.taken ≡ false → due_now false b kind.Cap ≡ true
+cap_due_window b r n = or_left (is_readable b && not b.taken) (is_reached b.timer b.time) (rw (r, n) refl)
+
+reached_by : (at t : ℕ) → at ≤ t → nat_le at t ≡ true
+reached_by at t le = grind (arith, nat_tests)
+
+pub reached_some : (o : Option ℕ) (at t : ℕ) → o ≡ Some at → at ≤ t → is_reached o t ≡ true
+reached_some o at t e le = rw e (reached_by at t le)
+
+pub reached_from : (at t : ℕ) → nat_le at t ≡ true → at ≤ t
+reached_from at t e = grind (arith, nat_tests)
+
+pub cap_due_timer : (b : Bank) (at : ℕ) → b.timer ≡ Some at → at ≤ b.time → due_now false b kind.Cap ≡ true
+cap_due_timer b at e le = or_right (is_readable b && not b.taken) (is_reached b.timer b.time) (reached_some b.timer at b.time e le)
+
+pub due_window : (b : Bank) → b.timer ≡ None → due_now false b kind.Cap ≡ true → is_readable b ≡ true
+due_window b e d = window_at (is_readable b) b.taken (is_reached b.timer b.time) (rw e refl) d
+  where
+    window_at : (r n t : Bool) → t ≡ false → ((r && not n) || t) ≡ true → r ≡ true
+    window_at true n t e d = refl
+    window_at false n t e d = (let z = sym e ∙ d in cc)
+
+pub due_timer : (b : Bank) (at : ℕ) → b.timer ≡ Some at → b.taken ≡ true → due_now false b kind.Cap ≡ true → at ≤ b.time
+due_timer b at e n d = reached_from at b.time (subst (λ (o : Option ℕ). is_reached o b.time ≡ true) e (timer_at (is_readable b) b.taken (is_reached b.timer b.time) n d))
+  where
+    timer_at : (r n t : Bool) → n ≡ true → ((r && not n) || t) ≡ true → t ≡ true
+    timer_at true true t e d = d
+    timer_at true false t e d = cc
+    timer_at false n t e d = d
+
+-- ---- places
+
+pub cap_shut : (at : CapAt) → cap_left at ≡ 0 → at ≡ cap.Shut
+cap_shut cap.Shut e = refl
+cap_shut cap.Start e = absurd (omega arith)
+cap_shut (cap.Copy rest) e = absurd (omega arith)
+cap_shut cap.Judge e = absurd (omega arith)
+cap_shut cap.Open e = absurd (omega arith)
+cap_shut (cap.Pause at) e = absurd (omega arith)
+cap_shut cap.Back e = absurd (omega arith)
+
+pub tick_shut : (at : TickAt) → tick_left at ≡ 0 → at ≡ tick.Shut
+tick_shut tick.Shut e = refl
+tick_shut tick.Raise e = absurd (omega arith)
+tick_shut tick.Read e = absurd (omega arith)
+tick_shut tick.Lower e = absurd (omega arith)
+tick_shut tick.Back e = absurd (omega arith)
+
+-- ---- modes and edges by their numbers
+
+pub mode_of-number : (m : Mode) → mode_of (mode_number m) ≡ m
+mode_of-number mode.Unknown = refl
+mode_of-number mode.D300 = refl
+mode_of-number mode.D600 = refl
+mode_of-number mode.D300Inv = refl
+mode_of-number mode.D600Inv = refl
+mode_of-number mode.Servo = refl
+
+-- an edge at t
+abbrev at_level : ℕ → Bool → Edge
+at_level t level = record { t = tick_at t; level = level }
+
+falling_shown : (t : ℕ) → t < 2147483648 → (if nat_lt t 2147483648 then at_level t false else at_level (t - 2147483648) true) ≡ at_level t false
+falling_shown t l = by_test (nat_lt t 2147483648) t (small t l)
+  where
+    small : (t : ℕ) → t < 2147483648 → nat_lt t 2147483648 ≡ true
+    small t l = grind (arith, nat_tests)
+
+    by_test : (v : Bool) (t : ℕ) → v ≡ true → (if v then at_level t false else at_level (t - 2147483648) true) ≡ at_level t false
+    by_test true t e = refl
+    by_test false t e = cc
+
+rising_shown : (t : ℕ) → (if nat_lt (t + 2147483648) 2147483648 then at_level (t + 2147483648) false else at_level ((t + 2147483648) - 2147483648) true) ≡ at_level t true
+rising_shown t = by_test (nat_lt (t + 2147483648) 2147483648) t (large t)
+  where
+    large : (t : ℕ) → nat_lt (t + 2147483648) 2147483648 ≡ false
+    large t = grind (arith, nat_tests)
+
+    back : (t : ℕ) → (t + 2147483648) - 2147483648 ≡ t
+    back t = omega arith
+
+    by_test : (v : Bool) (t : ℕ) → v ≡ false → (if v then at_level (t + 2147483648) false else at_level ((t + 2147483648) - 2147483648) true) ≡ at_level t true
+    by_test true t e = cc
+    by_test false t e = ap (λ (x : ℕ). at_level x true) (back t)
+
+shown_at : (t : ℕ) (level : Bool) → t < 2147483648 → edge_of (if level then t + 2147483648 else t) ≡ at_level t level
+shown_at t true l = rising_shown t
+shown_at t false l = falling_shown t l
+
+-- an edge is what a register shows of it
+pub edge_of-shown : (e : Edge) → e.t.0 < 2147483648 → edge_of (shown_edge e) ≡ e
+edge_of-shown e l = shown_at e.t.0 e.level l

@@ -1,0 +1,224 @@
+-- Later events change nothing of what the notes and the steps before them said.
+use Rattle.std.proofs.Common.{◌≡◌, ◌≤◌, ◌<◌, ◌+◌, ℕ, Bool, true, false, not, ◌&&◌, ◌==◌, nat_le, nat_lt, if◌then◌else◌, List, [], ◌∷◌, ◌++◌, length, Some, None, refl, sym, ◌∙◌, ap, arith, All, ◌-◌, ◌/◌, max, reverse, length-append}
+use Rattle.std.proofs.lemmas.List.Elements.{All-head, All-tail}
+use Rattle.std.proofs.lemmas.List.{get_or_push}
+use Rattle.std.proofs.lemmas.Bool.Decides.{nat_tests}
+use Rattle.esc_base.specs.declared.kind.Kind.{Kind}
+use Rattle.esc_base.specs.declared.kind.Kind.TheVariants as kind
+use Rattle.esc_base.specs.declared.signal.Edge.{Edge}
+use Rattle.esc_base.specs.declared.signal.Mode.{Mode}
+use Rattle.esc_base.specs.declared.event.Event.{Event}
+use Rattle.esc_base.specs.declared.event.Event.TheVariants as event
+use Rattle.esc_base.specs.declared.note.Note.{Note}
+use Rattle.esc_base.specs.declared.note.Note.TheVariants as note
+use Rattle.esc_base.specs.Journal.{Each, time_of}
+use Rattle.esc_base.specs.Trace.{line, tick_of, differ}
+use Rattle.esc_base.proofs.TraceLaws.{line-push}
+use Rattle.edge_capture.specs.Edges.{last_at, blank}
+use Rattle.edge_capture.specs.Burst.{burst, close, close_of, hears, is_closed, wait}
+use Rattle.edge_capture.proofs.Stable.{burst-push, closed_later}
+use Rattle.edge_capture.proofs.Grows.{burst_grows}
+use Rattle.timer_regs.specs.Effects.{mode_of, is_reached}
+use Rattle.arming.specs.ControlAt.{number_at}
+use Rattle.esc_laws.specs.Place.{Signal, Silent, Listens, Judged, Rests, place}
+use Rattle.esc_laws.specs.Windowed.{Answers, AnswersAt, WindowRule, Windowed}
+use Rattle.esc_laws.specs.Seen.{calls_cap, sees}
+use Rattle.esc_laws.specs.Steps.{past_stall, free}
+use Rattle.esc_laws.proofs.Pushes.{free-push}
+
+-- ---- windows
+
+-- the close of a window that is closed
+pub close_grows : (trace : List Event) (e : Event) (w c : ℕ) (m : Mode) → close (line trace).edges w m ≡ Some c → c ≤ tick_of e → close (line (trace ++ e ∷ [])).edges w m ≡ Some c
+close_grows trace e w c m h le = ap (close_of m) (burst_grows trace e w c m h le) ∙ h
+
+answers_grow : (trace : List Event) (e : Event) (w m entered t : ℕ) (n : Note) → t ≤ tick_of e → Answers trace w m entered t n → Answers (trace ++ e ∷ []) w m entered t n
+answers_grow trace e w m entered t n le a =
+    let before : a.closed_at ≤ tick_of e = (let x = a.waits in let y = a.entered_before in omega arith) in
+    record {
+      closed_at = a.closed_at;
+      closes = close_grows trace e w a.closed_at (mode_of m) a.closes before;
+      waits = a.waits;
+      entered_before = a.entered_before;
+      verdict_is = rw (burst_grows trace e w a.closed_at (mode_of m) a.closes before) a.verdict_is;
+    }
+
+answers_at_grow : (trace : List Event) (e : Event) (s : Signal) (entered t : ℕ) (n : Note) → t ≤ tick_of e → AnswersAt trace s entered t n → AnswersAt (trace ++ e ∷ []) s entered t n
+answers_at_grow trace e (Listens w m) entered t n le a = answers_grow trace e w m entered t n le a
+answers_at_grow trace e Silent entered t n le a = a
+answers_at_grow trace e (Judged f opens) entered t n le a = a
+answers_at_grow trace e (Rests f r) entered t n le a = a
+
+rule_grows : (trace : List Event) (e : Event) (before : List Note) (n : Note) → time_of n ≤ tick_of e → WindowRule trace before n → WindowRule (trace ++ e ∷ []) before n
+rule_grows trace e before (note.Good t v q) le r = answers_at_grow trace e (place before).signal (place before).cap_entered t.0 (note.Good t v q) le r
+rule_grows trace e before (note.Detected t m) le r = answers_at_grow trace e (place before).signal (place before).cap_entered t.0 (note.Detected t m) le r
+rule_grows trace e before (note.Nothing t) le r = answers_at_grow trace e (place before).signal (place before).cap_entered t.0 (note.Nothing t) le r
+rule_grows trace e before (note.Bad t w) le r = answers_at_grow trace e (place before).signal (place before).cap_entered t.0 (note.Bad t w) le r
+rule_grows trace e before (note.Window t m) le r = r
+rule_grows trace e before (note.Leave t k) le r = r
+rule_grows trace e before n le r = r
+
+windowed_from : (trace : List Event) (e : Event) (before notes : List Note) → All (λ n. time_of n ≤ tick_of e) notes → Each (WindowRule trace) before notes → Each (WindowRule (trace ++ e ∷ [])) before notes
+windowed_from trace e before [] past w = tt
+windowed_from trace e before (n ∷ notes) past w =
+    (rule_grows trace e before n (All-head (λ x. time_of x ≤ tick_of e) n notes past) w.0, windowed_from trace e (before ++ n ∷ []) notes (All-tail (λ x. time_of x ≤ tick_of e) n notes past) w.1)
+
+pub windowed_grows : (trace : List Event) (e : Event) (notes : List Note) → All (λ n. time_of n ≤ tick_of e) notes → Windowed trace notes → Windowed (trace ++ e ∷ []) notes
+windowed_grows trace e notes past w = windowed_from trace e [] notes past w
+
+-- ---- stalls
+
+past_before : (e : Event) (t : ℕ) → t < tick_of e → past_stall t e ≡ t
+past_before (event.Stall at n) t l = not_in at.0 n t l
+  where
+    not_in : (at n t : ℕ) → t < at → (if nat_le at t && nat_lt t (at + n) then at + n else t) ≡ t
+    not_in at n t l = grind (arith, nat_tests)
+past_before (event.Edge at level) t l = refl
+past_before (event.Comp at level) t l = refl
+past_before (event.Serial at byte) t l = refl
+
+pub free_before : (trace : List Event) (e : Event) (t u : ℕ) → free trace t ≡ u → u < tick_of e → free (trace ++ e ∷ []) t ≡ u
+free_before trace e t u f l = rw (free-push trace e t, f) (past_before e u l)
+
+pub past_later : (e : Event) (t : ℕ) → t ≤ past_stall t e
+past_later (event.Stall at n) t = later at.0 n t
+  where
+    later : (at n t : ℕ) → t ≤ (if nat_le at t && nat_lt t (at + n) then at + n else t)
+    later at n t = grind (arith, nat_tests)
+past_later (event.Edge at level) t = omega arith
+past_later (event.Comp at level) t = omega arith
+past_later (event.Serial at byte) t = omega arith
+
+-- ---- what is seen due
+
+-- over numbers: a close is reached exactly where the window is closed
+reached_at : (n l t : ℕ) → is_reached (if n == 0 then None else Some l) t ≡ (not (n == 0) && nat_le l t)
+reached_at n l t = by_none (n == 0) l t
+  where
+    by_none : (v : Bool) (l t : ℕ) → is_reached (if v then None else Some l) t ≡ (not v && nat_le l t)
+    by_none true l t = refl
+    by_none false l t = refl
+
+pub reached_closed : (m : Mode) (heard : List Edge) (t : ℕ) → is_reached (close_of m heard) t ≡ is_closed m heard t
+reached_closed m heard t = reached_at (length heard) (last_at heard + wait m (length heard)) t
+
+pub last_at-push : (heard : List Edge) (x : Edge) → last_at (heard ++ x ∷ []) ≡ x.t.0
+last_at-push heard x = ap (λ (y : Edge). y.t.0) (get_or_push heard x blank (length (heard ++ x ∷ []) - 1) (sym (simp length-append (omega arith))))
+
+pub length-push : (heard : List Edge) (x : Edge) → length (heard ++ x ∷ []) ≡ length heard + 1
+length-push heard x = simp length-append (omega arith)
+
+open_at : (n l t : ℕ) → t < l → (not (n == 0) && nat_le l t) ≡ false
+open_at n l t lt = grind (arith, nat_tests)
+
+-- a window that has heard an edge after t isn't closed at t
+open_before : (m : Mode) (heard : List Edge) (x : Edge) (t : ℕ) → t < x.t.0 → is_closed m (heard ++ x ∷ []) t ≡ false
+open_before m heard x t lt =
+    open_at (length (heard ++ x ∷ [])) (last_at (heard ++ x ∷ []) + wait m (length (heard ++ x ∷ []))) t (rw (last_at-push heard x) (omega arith))
+
+contra : (a b : Bool) → (a ≡ true → b ≡ true) → b ≡ false → a ≡ false
+contra true b f e = let g = f refl in (let z = sym g ∙ e in cc)
+contra false b f e = refl
+
+not_closed : (a c b : Bool) → (a && not c && b) ≡ true → c ≡ false
+not_closed true true true e = cc
+not_closed true true false e = cc
+not_closed true false b e = refl
+not_closed false c b e = cc
+
+heard_before : (v : Bool) (m : Mode) (w : ℕ) (heard : List Edge) (x : Edge) (t : ℕ) → hears m w heard x ≡ v → t < x.t.0 → is_closed m (if v then heard ++ x ∷ [] else heard) t ≡ is_closed m heard t
+heard_before true m w heard x t h lt =
+    let shut : is_closed m heard x.t.0 ≡ false = not_closed (nat_lt w x.t.0) (is_closed m heard x.t.0) _ h in
+    open_before m heard x t lt ∙ sym (contra (is_closed m heard t) (is_closed m heard x.t.0) (closed_later m heard t x.t.0 (omega arith)) shut)
+heard_before false m w heard x t h lt = refl
+
+heard_at : (v : Bool) (m : Mode) (w : ℕ) (heard : List Edge) (x : Edge) (t : ℕ) → hears m w heard x ≡ v → t ≤ x.t.0 → is_closed m heard t ≡ true → is_closed m (if v then heard ++ x ∷ [] else heard) t ≡ true
+heard_at true m w heard x t h le c =
+    let shut : is_closed m heard x.t.0 ≡ false = not_closed (nat_lt w x.t.0) (is_closed m heard x.t.0) _ h in
+    let open_too = closed_later m heard t x.t.0 le c in (let z = sym open_too ∙ shut in cc)
+heard_at false m w heard x t h le c = c
+
+edge_before : (v : Bool) (edges : List Edge) (x : Edge) (w t : ℕ) (m : Mode) → t < x.t.0 → is_closed m (burst (if v then edges ++ x ∷ [] else edges) w m) t ≡ is_closed m (burst edges w m) t
+edge_before true edges x w t m lt = rw (burst-push edges x w m) (heard_before (hears m w (burst edges w m) x) m w (burst edges w m) x t refl lt)
+edge_before false edges x w t m lt = refl
+
+edge_at_close : (v : Bool) (edges : List Edge) (x : Edge) (w t : ℕ) (m : Mode) → t ≤ x.t.0 → is_closed m (burst edges w m) t ≡ true → is_closed m (burst (if v then edges ++ x ∷ [] else edges) w m) t ≡ true
+edge_at_close true edges x w t m le c = rw (burst-push edges x w m) (heard_at (hears m w (burst edges w m) x) m w (burst edges w m) x t refl le c)
+edge_at_close false edges x w t m le c = c
+
+-- before a later event the window is closed exactly where it was
+pub closed_before : (trace : List Event) (e : Event) (w t : ℕ) (m : Mode) → t < tick_of e → is_closed m (burst (line (trace ++ e ∷ [])).edges w m) t ≡ is_closed m (burst (line trace).edges w m) t
+closed_before trace (event.Edge at level) w t m lt = rw (line-push trace (event.Edge at level)) (edge_before (differ (line trace).level level) (line trace).edges (record { t = at; level = level }) w t m lt)
+closed_before trace (event.Comp at level) w t m lt = rw (line-push trace (event.Comp at level)) refl
+closed_before trace (event.Serial at byte) w t m lt = rw (line-push trace (event.Serial at byte)) refl
+closed_before trace (event.Stall at n) w t m lt = rw (line-push trace (event.Stall at n)) refl
+
+pub closed_still : (trace : List Event) (e : Event) (w t : ℕ) (m : Mode) → t ≤ tick_of e → is_closed m (burst (line trace).edges w m) t ≡ true → is_closed m (burst (line (trace ++ e ∷ [])).edges w m) t ≡ true
+closed_still trace (event.Edge at level) w t m le c = rw (line-push trace (event.Edge at level)) (edge_at_close (differ (line trace).level level) (line trace).edges (record { t = at; level = level }) w t m le c)
+closed_still trace (event.Comp at level) w t m le c = rw (line-push trace (event.Comp at level)) c
+closed_still trace (event.Serial at byte) w t m le c = rw (line-push trace (event.Serial at byte)) c
+closed_still trace (event.Stall at n) w t m le c = rw (line-push trace (event.Stall at n)) c
+
+cap_before : (trace : List Event) (e : Event) (s : Signal) (t : ℕ) → t < tick_of e → calls_cap (trace ++ e ∷ []) s t ≡ calls_cap trace s t
+cap_before trace e Silent t lt = refl
+cap_before trace e (Listens w m) t lt =
+    reached_closed (mode_of m) (burst (line (trace ++ e ∷ [])).edges w (mode_of m)) t
+    ∙ closed_before trace e w t (mode_of m) lt
+    ∙ sym (reached_closed (mode_of m) (burst (line trace).edges w (mode_of m)) t)
+cap_before trace e (Judged f opens) t lt = refl
+cap_before trace e (Rests f r) t lt = refl
+
+cap_still : (trace : List Event) (e : Event) (s : Signal) (t : ℕ) → t ≤ tick_of e → calls_cap trace s t ≡ true → calls_cap (trace ++ e ∷ []) s t ≡ true
+cap_still trace e Silent t le c = c
+cap_still trace e (Listens w m) t le c =
+    reached_closed (mode_of m) (burst (line (trace ++ e ∷ [])).edges w (mode_of m)) t
+    ∙ closed_still trace e w t (mode_of m) le (sym (reached_closed (mode_of m) (burst (line trace).edges w (mode_of m)) t) ∙ c)
+cap_still trace e (Judged f opens) t le c = c
+cap_still trace e (Rests f r) t le c = c
+
+-- a later event changes nothing of what was seen due before it
+pub sees_before : (trace : List Event) (e : Event) (notes : List Note) (t : ℕ) (k : Kind) → t < tick_of e → sees (trace ++ e ∷ []) notes t k ≡ sees trace notes t k
+sees_before trace e notes t kind.Cap lt = cap_before trace e (place notes).signal t lt
+sees_before trace e notes t kind.Tick lt = refl
+sees_before trace e notes t kind.Main lt = refl
+sees_before trace e notes t kind.Uart lt = refl
+sees_before trace e notes t kind.Cmp lt = refl
+sees_before trace e notes t kind.Pwm lt = refl
+sees_before trace e notes t kind.Comm lt = refl
+
+-- and ends nothing at its own tick
+pub sees_still : (trace : List Event) (e : Event) (notes : List Note) (t : ℕ) (k : Kind) → t ≤ tick_of e → sees trace notes t k ≡ true → sees (trace ++ e ∷ []) notes t k ≡ true
+sees_still trace e notes t kind.Cap le s = cap_still trace e (place notes).signal t le s
+sees_still trace e notes t kind.Tick le s = s
+sees_still trace e notes t kind.Main le s = s
+sees_still trace e notes t kind.Uart le s = s
+sees_still trace e notes t kind.Cmp le s = s
+sees_still trace e notes t kind.Pwm le s = s
+sees_still trace e notes t kind.Comm le s = s
+
+-- as time goes on, what was seen due stays so
+cap_later : (trace : List Event) (s : Signal) (t u : ℕ) → t ≤ u → calls_cap trace s t ≡ true → calls_cap trace s u ≡ true
+cap_later trace Silent t u le c = c
+cap_later trace (Listens w m) t u le c =
+    let heard : List Edge = burst (line trace).edges w (mode_of m) in
+    reached_closed (mode_of m) heard u ∙ closed_later (mode_of m) heard t u le (sym (reached_closed (mode_of m) heard t) ∙ c)
+cap_later trace (Judged f opens) t u le c = c
+cap_later trace (Rests f r) t u le c = rest_later (max (f + 1200) r) t u le c
+  where
+    rest_later : (a t u : ℕ) → t ≤ u → nat_le a t ≡ true → nat_le a u ≡ true
+    rest_later a t u le e = grind (arith, nat_tests)
+
+number_later : (n t u : ℕ) → t ≤ u → nat_lt n (t / 2400) ≡ true → nat_lt n (u / 2400) ≡ true
+number_later n t u le e = let m : t / 2400 ≤ u / 2400 = omega arith in more n (t / 2400) (u / 2400) m e
+  where
+    more : (n a b : ℕ) → a ≤ b → nat_lt n a ≡ true → nat_lt n b ≡ true
+    more n a b le e = grind (arith, nat_tests)
+
+pub sees_later : (trace : List Event) (notes : List Note) (t u : ℕ) (k : Kind) → t ≤ u → sees trace notes t k ≡ true → sees trace notes u k ≡ true
+sees_later trace notes t u kind.Cap le s = cap_later trace (place notes).signal t u le s
+sees_later trace notes t u kind.Tick le s = number_later (number_at (reverse notes)) t u le s
+sees_later trace notes t u kind.Main le s = s
+sees_later trace notes t u kind.Uart le s = s
+sees_later trace notes t u kind.Cmp le s = s
+sees_later trace notes t u kind.Pwm le s = s
+sees_later trace notes t u kind.Comm le s = s

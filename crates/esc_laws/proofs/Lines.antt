@@ -1,0 +1,248 @@
+-- What the ties become as the trace grows by an event.
+use Rattle.std.proofs.Common.{◌≡◌, ◌≤◌, ◌<◌, ◌+◌, ◌-◌, ℕ, Bool, true, false, not, ◌&&◌, ◌==◌, nat_le, nat_lt, if◌then◌else◌, List, [], ◌∷◌, ◌++◌, length, refl, sym, ◌∙◌, ap, subst, arith, lit≤, All, ◌⊎◌, inl, inr, length-append}
+use Rattle.std.proofs.lemmas.Bool.Decides.{nat_tests}
+use Rattle.std.proofs.lemmas.List.{get_or_push, get_or_append_left}
+use Rattle.std.proofs.lemmas.List.Elements.{All-push}
+use Rattle.esc_base.specs.declared.signal.Edge.{Edge}
+use Rattle.esc_base.specs.declared.signal.Mode.{Mode}
+use Rattle.esc_base.specs.declared.signal.Mode.TheVariants as mode
+use Rattle.esc_base.specs.declared.event.Event.{Event}
+use Rattle.esc_base.specs.declared.event.Event.TheVariants as event
+use Rattle.esc_base.specs.Trace.{Line, line, differ, tick_of}
+use Rattle.esc_base.proofs.TraceLaws.{line-push}
+use Rattle.edge_capture.specs.Edges.{blank, edge_at, last_at, IsInOrder}
+use Rattle.edge_capture.specs.Modes.{most}
+use Rattle.edge_capture.specs.Burst.{burst, hear, hears, is_closed}
+use Rattle.edge_capture.specs.Window.{Window, after_edge, window_closed, window_hears}
+use Rattle.edge_capture.proofs.Stable.{burst-push, deaf}
+use Rattle.timer_regs.specs.Bank.{Bank}
+use Rattle.timer_regs.specs.Effects.{after_line, mode_of}
+use Rattle.esc_core.specs.Brain.{Brain}
+use Rattle.esc_core.specs.Cap.{tick_at}
+use Rattle.esc_laws.specs.Place.{Place, place}
+use Rattle.esc_laws.specs.Steps.{Turned, journal}
+use Rattle.esc_laws.specs.Tied.{CapView, cap_view, Hears, WindowSound}
+use Rattle.esc_laws.specs.Logged.{Ties}
+use Rattle.esc_laws.proofs.CapTies.{closing_closed}
+use Rattle.esc_laws.proofs.Dues.{Follows, signal_follows}
+use Rattle.esc_laws.proofs.Facts.{both}
+use Rattle.esc_laws.proofs.Growth.{close_grows}
+
+-- ---- an event that isn't of the line
+
+plain_follows : (trace : List Event) (e : Event) (c : Brain) (b : Bank) (p : Place) → line (trace ++ e ∷ []) ≡ line trace → b.time ≤ tick_of e → Follows (cap_view trace c b p) (cap_view (trace ++ e ∷ []) c b p)
+plain_follows trace e c b p same le = record {
+  later = omega arith;
+  taken = refl;
+  timer = refl;
+  mode = refl;
+  copied = refl;
+  paused = refl;
+  entered = refl;
+  windows = refl;
+  verdicts = refl;
+  hears = λ w m h. record { armed = h.armed; mode = h.mode; opened = h.opened; edges = rw same h.edges; core_mode = h.core_mode; running = h.running; no_timer = h.no_timer };
+  settled = λ w m i. refl;
+  closes = λ w m at h l. close_grows trace e w at (mode_of m) h (omega arith);
+}
+
+pub plain_ties : (trace : List Event) (e : Event) (c : Brain) (b : Bank) (log : List Turned) → line (trace ++ e ∷ []) ≡ line trace → b.time ≤ tick_of e → Ties trace c b log → Ties (trace ++ e ∷ []) c b log
+plain_ties trace e c b log same le t = record {
+  signal = signal_follows (place (journal log)).signal c.cap_at (cap_view trace c b (place (journal log))) (cap_view (trace ++ e ∷ []) c b (place (journal log)))
+      (plain_follows trace e c b (place (journal log)) same le) t.signal;
+  window = t.window;
+  tick = t.tick;
+  number = t.number;
+  read = t.read;
+  level = rw same t.level;
+  edges = rw same t.edges;
+  small = t.small;
+}
+
+-- ---- an edge
+
+-- the edge that stands at now
+abbrev edge_now : Bank → Bool → Edge
+edge_now b level = record { t = tick_at b.time; level = level }
+
+same_level : (a level : Bool) → differ a level ≡ false → a ≡ level
+same_level true true e = refl
+same_level true false e = cc
+same_level false true e = cc
+same_level false false e = refl
+
+-- a window that hears it, or doesn't
+heard_edges : (v : Bool) (w : Window) (x : Edge) → window_hears w x ≡ v → (after_edge w x).edges ≡ (if v then w.edges ++ x ∷ [] else w.edges)
+heard_edges v w x e = by_test (window_hears w x) v w x e
+  where
+    by_test : (a v : Bool) (w : Window) (x : Edge) → a ≡ v → (if a then record w { edges = w.edges ++ x ∷ [] } else w).edges ≡ (if v then w.edges ++ x ∷ [] else w.edges)
+    by_test true v w x e = rw (sym e) refl
+    by_test false v w x e = rw (sym e) refl
+
+-- what an edge leaves of a window
+record SameWindow (w w' : Window) : Type 0 where
+  armed : w'.armed ≡ w.armed
+  mode : w'.mode ≡ w.mode
+  opened : w'.opened ≡ w.opened
+
+edge_same : (v : Bool) (w : Window) (x : Edge) → SameWindow w (if v then record w { edges = w.edges ++ x ∷ [] } else w)
+edge_same true w x = record { armed = refl; mode = refl; opened = refl }
+edge_same false w x = record { armed = refl; mode = refl; opened = refl }
+
+edge_hears : (v : CapView) (w m : ℕ) (x : Edge) → Hears v w m → (after_edge v.window x).edges ≡ hear (mode_of m) w (burst (line v.trace).edges w (mode_of m)) x
+edge_hears v w m x h =
+    let same : window_hears v.window x ≡ hears (mode_of m) w (burst (line v.trace).edges w (mode_of m)) x = rw (h.armed, h.mode, h.opened, h.edges) refl in
+    heard_edges (hears (mode_of m) w (burst (line v.trace).edges w (mode_of m)) x) v.window x same
+    ∙ ap (λ (es : List Edge). if hears (mode_of m) w (burst (line v.trace).edges w (mode_of m)) x then es ++ x ∷ [] else es) h.edges
+
+closed_deaf : (w : Window) (x : Edge) → window_closed w x.t.0 ≡ true → window_hears w x ≡ false
+closed_deaf w x c = unheard w.armed (hears w.mode w.opened w.edges x) (deaf w.mode w.opened w.edges x (both w.armed (is_closed w.mode w.edges x.t.0) c).1)
+  where
+    unheard : (a b : Bool) → b ≡ false → (a && b) ≡ false
+    unheard true b e = e
+    unheard false b e = refl
+
+abbrev edge_bank : Bank → Bool → Bank
+edge_bank b level = record b { level = level; window = after_edge b.window (edge_now b level) }
+
+edge_follows : (trace : List Event) (c : Brain) (b : Bank) (p : Place) (level : Bool) → (line (trace ++ event.Edge (tick_at b.time) level ∷ [])).edges ≡ (line trace).edges ++ edge_now b level ∷ []
+    → Follows (cap_view trace c b p) (cap_view (trace ++ event.Edge (tick_at b.time) level ∷ []) c (edge_bank b level) p)
+edge_follows trace c b p level more =
+    let same = edge_same (window_hears b.window (edge_now b level)) b.window (edge_now b level) in
+    record {
+      later = omega arith;
+      taken = refl;
+      timer = refl;
+      mode = refl;
+      copied = refl;
+      paused = refl;
+      entered = refl;
+      windows = refl;
+      verdicts = refl;
+      hears = λ w m h. record {
+        armed = same.armed ∙ h.armed;
+        mode = same.mode ∙ h.mode;
+        opened = same.opened ∙ h.opened;
+        edges = edge_hears (cap_view trace c b p) w m (edge_now b level) h ∙ sym (burst-push (line trace).edges (edge_now b level) w (mode_of m)) ∙ ap (λ (es : List Edge). burst es w (mode_of m)) (sym more);
+        core_mode = h.core_mode;
+        running = h.running;
+        no_timer = h.no_timer;
+      };
+      settled = λ w m i. heard_edges false b.window (edge_now b level) (closed_deaf b.window (edge_now b level) (closing_closed (cap_view trace c b p) w m i));
+      closes = λ w m at h l. close_grows trace (event.Edge (tick_at b.time) level) w at (mode_of m) h l;
+    }
+
+-- ---- the window's edges stay few and in order
+
+most_some : (m : Mode) → 1 ≤ most m
+most_some mode.Unknown = lit≤ tt
+most_some mode.D300 = lit≤ tt
+most_some mode.D600 = lit≤ tt
+most_some mode.D300Inv = lit≤ tt
+most_some mode.D600Inv = lit≤ tt
+most_some mode.Servo = lit≤ tt
+
+-- a window with the most edges is closed from the last one on
+full_closed : (n most last limit t : ℕ) → 1 ≤ most → most ≤ n → last ≤ t → (not (n == 0) && nat_le (last + (if nat_le most n then 0 else limit)) t) ≡ true
+full_closed n most last limit t some full past = by_full (nat_le most n) n last limit t (is_full most n full) (omega arith) past
+  where
+    is_full : (most n : ℕ) → most ≤ n → nat_le most n ≡ true
+    is_full most n l = grind (arith, nat_tests)
+
+    now : (n last t : ℕ) → 1 ≤ n → last ≤ t → (not (n == 0) && nat_le (last + 0) t) ≡ true
+    now n last t some past = grind (arith, nat_tests)
+
+    by_full : (v : Bool) (n last limit t : ℕ) → v ≡ true → 1 ≤ n → last ≤ t → (not (n == 0) && nat_le (last + (if v then 0 else limit)) t) ≡ true
+    by_full true n last limit t e some past = now n last t some past
+    by_full false n last limit t e some past = cc
+
+last_past : (edges : List Edge) (t : ℕ) → All (λ e. e.t.0 ≤ t) edges → 1 ≤ length edges → last_at edges ≤ t
+last_past edges t past some = past (length edges - 1) blank (omega arith)
+
+heard_open : (m : Mode) (w : ℕ) (edges : List Edge) (x : Edge) → hears m w edges x ≡ true → is_closed m edges x.t.0 ≡ false
+heard_open m w edges x h = not_closed (nat_lt w x.t.0) (is_closed m edges x.t.0) _ h
+  where
+    not_closed : (a c b : Bool) → (a && not c && b) ≡ true → c ≡ false
+    not_closed true true true e = cc
+    not_closed true true false e = cc
+    not_closed true false b e = refl
+    not_closed false c b e = cc
+
+still_few : (w : Window) (x : Edge) → WindowSound w x.t.0 → hears w.mode w.opened w.edges x ≡ true → length w.edges + 1 ≤ most w.mode
+still_few w x s h = by_number (nat_le (most w.mode) (length w.edges)) refl
+  where
+    more : (a b : ℕ) → nat_le a b ≡ false → b + 1 ≤ a
+    more a b e = grind (arith, nat_tests)
+
+    le_from : (a b : ℕ) → nat_le a b ≡ true → a ≤ b
+    le_from a b e = grind (arith, nat_tests)
+
+    by_number : (v : Bool) → nat_le (most w.mode) (length w.edges) ≡ v → length w.edges + 1 ≤ most w.mode
+    by_number false e = more (most w.mode) (length w.edges) e
+    by_number true e =
+        let some = most_some w.mode in
+        let full = le_from (most w.mode) (length w.edges) e in
+        let past = last_past w.edges x.t.0 s.past (omega arith) in
+        let closed = full_closed (length w.edges) (most w.mode) (last_at w.edges) _ x.t.0 some full past in
+        let opened = heard_open w.mode w.opened w.edges x h in
+        absurd (let z : true ≡ false = sym closed ∙ opened in cc)
+
+front_edge : (edges : List Edge) (x : Edge) (i : ℕ) → i < length edges → edge_at (edges ++ x ∷ []) i ≡ edge_at edges i
+front_edge edges x i l = get_or_append_left edges (x ∷ []) blank i l
+
+in_order_push : (edges : List Edge) (x : Edge) → IsInOrder edges → All (λ e. e.t.0 ≤ x.t.0) edges → IsInOrder (edges ++ x ∷ [])
+in_order_push edges x o past i j le l = elim (by_place (nat_lt j (length edges)) refl) [
+  | inl inside ↦ rw (front_edge edges x i (omega arith), front_edge edges x j inside) (o i j le inside)
+  | inr last ↦ rw (get_or_push edges x blank j (sym last)) (All-push (λ e. e.t.0 ≤ x.t.0) edges x past (omega arith) i blank (omega arith))
+]
+  where
+    by_place : (v : Bool) → nat_lt j (length edges) ≡ v → (j < length edges) ⊎ (j ≡ length edges)
+    by_place true e = inl (lt_from j (length edges) e)
+      where
+        lt_from : (a b : ℕ) → nat_lt a b ≡ true → a < b
+        lt_from a b e = grind (arith, nat_tests)
+    by_place false e = inr (let more = ge_from j (length edges) e in let len = length-append edges (x ∷ []) in omega arith)
+      where
+        ge_from : (a b : ℕ) → nat_lt a b ≡ false → b ≤ a
+        ge_from a b e = grind (arith, nat_tests)
+
+edge_sound : (w : Window) (x : Edge) → WindowSound w x.t.0 → WindowSound (after_edge w x) x.t.0
+edge_sound w x s = by_test (window_hears w x) refl
+  where
+    by_test : (v : Bool) → window_hears w x ≡ v → WindowSound (if v then record w { edges = w.edges ++ x ∷ [] } else w) x.t.0
+    by_test true e = record {
+      past = All-push (λ y. y.t.0 ≤ x.t.0) w.edges x s.past (omega arith);
+      order = in_order_push w.edges x s.order s.past;
+      few = (let len = length-append w.edges (x ∷ []) in let f = still_few w x s (both w.armed (hears w.mode w.opened w.edges x) e).1 in omega arith);
+    }
+    by_test false e = s
+
+-- ---- the ties after an edge
+
+edge_ties : (v : Bool) (trace : List Event) (c : Brain) (b : Bank) (log : List Turned) (level : Bool) → differ b.level level ≡ v → Ties trace c b log
+    → Ties (trace ++ event.Edge (tick_at b.time) level ∷ []) c (if v then edge_bank b level else b) log
+edge_ties true trace c b log level d t =
+    let x : Edge = edge_now b level in
+    let e : Event = event.Edge (tick_at b.time) level in
+    let d' : differ (line trace).level level ≡ true = subst (λ (l : Bool). differ l level ≡ true) t.level d in
+    let new : line (trace ++ e ∷ []) ≡ record { level = level; edges = (line trace).edges ++ x ∷ [] } = line-push trace e ∙ rw d' refl in
+    record {
+      signal = signal_follows (place (journal log)).signal c.cap_at (cap_view trace c b (place (journal log))) (cap_view (trace ++ e ∷ []) c (edge_bank b level) (place (journal log)))
+          (edge_follows trace c b (place (journal log)) level (ap (λ (l : Line). l.edges) new)) t.signal;
+      window = edge_sound b.window x t.window;
+      tick = t.tick;
+      number = t.number;
+      read = t.read;
+      level = ap (λ (l : Line). l.level) (sym new);
+      edges = rw new (All-push (λ y. y.t.0 ≤ b.time) (line trace).edges x t.edges (omega arith));
+      small = t.small;
+    }
+edge_ties false trace c b log level d t =
+    let e : Event = event.Edge (tick_at b.time) level in
+    let d' : differ (line trace).level level ≡ false = subst (λ (l : Bool). differ l level ≡ false) t.level d in
+    let new : line (trace ++ e ∷ []) ≡ record { level = level; edges = (line trace).edges } = line-push trace e ∙ rw d' refl in
+    let same : line (trace ++ e ∷ []) ≡ line trace = new ∙ ap (λ (l : Bool). record { level = l; edges = (line trace).edges }) (sym (same_level (line trace).level level d')) in
+    plain_ties trace e c b log same (omega arith) t
+
+pub line_ties : (trace : List Event) (c : Brain) (b : Bank) (log : List Turned) (level : Bool) → Ties trace c b log → Ties (trace ++ event.Edge (tick_at b.time) level ∷ []) c (after_line b level) log
+line_ties trace c b log level t = edge_ties (differ b.level level) trace c b log level refl t

@@ -1,0 +1,232 @@
+-- What holds between any two steps holds after a step of the innermost handler, and so do the ties.
+use Rattle.std.proofs.Common.{◌≡◌, ◌≢◌, ◌≤◌, ◌<◌, ◌+◌, ◌-◌, ℕ, Bool, true, false, ◌||◌, ◌==◌, nat_lt, if◌then◌else◌, List, ◌∷◌, ◌++◌, Some, refl, sym, ◌∙◌, ap, subst, arith, lit≤, inl, inr}
+use Rattle.std.proofs.lemmas.Bool.Decides.{nat_tests}
+use Rattle.esc_base.specs.declared.kind.Kind.{Kind}
+use Rattle.esc_base.specs.declared.kind.Kind.TheVariants as kind
+use Rattle.esc_base.specs.declared.event.Event.{Event}
+use Rattle.esc_base.specs.declared.note.Note.{Note}
+use Rattle.esc_base.specs.Numbers.{kind_number}
+use Rattle.timer_regs.specs.Bank.{Bank}
+use Rattle.timer_regs.specs.Effects.{read_value}
+use Rattle.timer_regs.specs.declared.regs.Reg.TheVariants as reg
+use Rattle.interrupt_machine.specs.declared.nest.Nest.{Nest}
+use Rattle.interrupt_machine.specs.Did.{Reads, accessed}
+use Rattle.interrupt_machine.specs.Open.{innermost, is_open, IsStack}
+use Rattle.interrupt_machine.proofs.OpenKinds.{live_more, live_less, number_same, same_kind}
+use Rattle.arming.specs.Decide.{decide}
+use Rattle.arming.specs.Kept.{after_tick, view_of}
+use Rattle.esc_core.specs.declared.state.CapAt.{CapAt}
+use Rattle.esc_core.specs.declared.state.TickAt.{TickAt}
+use Rattle.esc_core.specs.declared.state.TickAt.TheVariants as tick
+use Rattle.esc_core.specs.Brain.{Brain}
+use Rattle.esc_core.specs.Stepped.{Stepped, goes_on}
+use Rattle.esc_core.specs.Cap.{cap_step}
+use Rattle.esc_core.specs.Tick.{tick_notes, ticked, tick_step}
+use Rattle.esc_core.specs.Firmware.{cap_left, tick_left, left_of, need_of, tick_need, kind_step, counted_down}
+use Rattle.esc_core.proofs.Bounds.{CapMoves, cap_moves, Bounds}
+use Rattle.esc_laws.specs.Place.{place}
+use Rattle.esc_laws.specs.Steps.{opening}
+use Rattle.esc_laws.specs.Tied.{Keeps, SignalTied, cap_view, TickTied, IsBuilt}
+use Rattle.esc_laws.proofs.Facts.{or_right}
+use Rattle.esc_laws.proofs.OwnSteps.{OwnIn, OwnOut, StepOut, cap_out}
+use Rattle.esc_laws.proofs.TickSteps.{tick_out}
+use Rattle.esc_laws.proofs.OwnTurns.{step_notes, open_left, cap_goes, tick_goes, goes_out, cap_back, tick_back}
+
+-- ---- the mask
+
+-- after a step of TICK: where the mask is up, it stands long enough, and TICK is still open
+pub record TickMask (b : Bank) (s : Stepped) : Type 0 where
+  pub enough : (accessed b s.access).masked ≡ true → (tick_need s.core.tick_at ≤ s.core.hold) × (s.over ≡ false)
+  pub stands : tick_need s.core.tick_at ≤ 8 → ((accessed b s.access).masked ≡ true) × (s.over ≡ false)
+
+counted_some : (m : Bool) (h n : ℕ) → (m ≡ true → n + 1 ≤ h) → m ≡ true → n ≤ (if m then h - 1 else h)
+counted_some true h n f e = let l = f refl in omega arith
+counted_some false h n f e = cc
+
+counted_most : (m : Bool) (h : ℕ) → h ≤ 8 → (if m then h - 1 else h) ≤ 8
+counted_most true h l = omega arith
+counted_most false h l = l
+
+read_mask : (v : Bool) (n : ℕ) (c : Brain) (b : Bank) → (b.masked ≡ true → 1 ≤ c.hold) → b.masked ≡ true
+    → TickMask b (if v then record {
+      core = record c { tick_at = tick.Lower; control = after_tick c.control n (decide (view_of c.control) n 0) };
+      access = Reads reg.TickState;
+      notes = tick_notes b.time n 0 (ticked c n 0);
+      over = false;
+    } else goes_on (record c { tick_at = tick.Lower }) (Reads reg.TickState))
+read_mask true n c b some up = record { enough = λ m. (some m, refl); stands = λ l. (up, refl) }
+read_mask false n c b some up = record { enough = λ m. (some m, refl); stands = λ l. (up, refl) }
+
+tick_mask : (at : TickAt) (c : Brain) (b : Bank) → 0 < tick_left at → c.hold ≤ 8 → (b.masked ≡ true → tick_need at ≤ c.hold) → (tick_need at ≤ 8 → b.masked ≡ true) → TickMask b (tick_step at (counted_down c b) b)
+tick_mask tick.Shut c b l le enough up = absurd (omega arith)
+tick_mask tick.Raise c b l le enough up = record { enough = λ m. (lit≤ tt, refl); stands = λ n. (refl, refl) }
+tick_mask tick.Read c b l le enough up =
+    read_mask (nat_lt c.control.number (read_value b reg.TickState)) (read_value b reg.TickState) (counted_down c b) b
+    (counted_some b.masked c.hold 1 enough) (up (lit≤ tt))
+tick_mask tick.Lower c b l le enough up = record { enough = λ m. cc; stands = λ n. absurd (omega arith) }
+tick_mask tick.Back c b l le enough up = record { enough = λ m. absurd (let n = enough m in omega arith); stands = λ n. absurd (omega arith) }
+
+read_hold : (v : Bool) (n : ℕ) (c : Brain) (b : Bank) → c.hold ≤ 8 → (if v then record {
+  core = record c { tick_at = tick.Lower; control = after_tick c.control n (decide (view_of c.control) n 0) };
+  access = Reads reg.TickState;
+  notes = tick_notes b.time n 0 (ticked c n 0);
+  over = false;
+} else goes_on (record c { tick_at = tick.Lower }) (Reads reg.TickState)).core.hold ≤ 8
+read_hold true n c b le = le
+read_hold false n c b le = le
+
+tick_hold : (at : TickAt) (c : Brain) (b : Bank) → c.hold ≤ 8 → (tick_step at c b).core.hold ≤ 8
+tick_hold tick.Shut c b le = le
+tick_hold tick.Raise c b le = lit≤ tt
+tick_hold tick.Read c b le = read_hold (nat_lt c.control.number (read_value b reg.TickState)) (read_value b reg.TickState) c b le
+tick_hold tick.Lower c b le = le
+tick_hold tick.Back c b le = le
+
+-- ---- the place of a handler that has returned
+
+tick_shut : (at : TickAt) (c : Brain) (b : Bank) → 0 < tick_left at → (tick_step at c b).over ≡ true → tick_left (tick_step at c b).core.tick_at ≡ 0
+tick_shut at c b l e = elim (tick_goes at c b l) [
+  | inl back ↦ rw back refl
+  | inr on ↦ (let z : false ≡ true = sym on.2 ∙ e in cc)
+]
+
+cap_shut : (at : CapAt) (c : Brain) (b : Bank) → 0 < cap_left at → (cap_step at c b).over ≡ true → cap_left (cap_step at c b).core.cap_at ≡ 0
+cap_shut at c b l e = elim (cap_goes at c b l) [
+  | inl back ↦ rw back refl
+  | inr on ↦ (let z : false ≡ true = sym on.2 ∙ e in cc)
+]
+
+-- ---- what holds between any two steps
+
+-- what a step of a handler does to the places and the mask
+pub record Moves (k : Kind) (c : Brain) (b : Bank) (outer : List Kind) (s : Stepped) : Type 0 where
+  pub hold : s.core.hold ≤ 8
+  pub enough : (accessed b s.access).masked ≡ true → (need_of s.core k ≤ s.core.hold) × (s.over ≡ false)
+  pub stands : tick_need s.core.tick_at ≤ 8 → ((accessed b s.access).masked ≡ true) × (innermost (open_left k outer s) ≡ Some kind.Tick)
+  pub left : s.over ≡ true → left_of s.core k ≡ 0
+
+cap_down : (c : Brain) (b : Bank) (outer : List Kind) → Keeps c b (kind.Cap ∷ outer) → b.masked ≡ false
+cap_down c b outer keeps = by_mask b.masked c.hold keeps.hold (λ m. keeps.enough m kind.Cap refl)
+  where
+    by_mask : (m : Bool) (h : ℕ) → h ≤ 8 → (m ≡ true → 9 ≤ h) → m ≡ false
+    by_mask true h le f = absurd (let n = f refl in omega arith)
+    by_mask false h le f = refl
+
+still_tick : (v : Bool) (outer : List Kind) → v ≡ false → innermost (if v then outer else kind.Tick ∷ outer) ≡ Some kind.Tick
+still_tick true outer e = cc
+still_tick false outer e = refl
+
+moves : (k : Kind) → IsBuilt k → (c : Brain) (b : Bank) (outer : List Kind) → Keeps c b (k ∷ outer) → 0 < left_of c k → Moves k c b outer (kind_step k (counted_down c b) b)
+moves kind.Tick t c b outer keeps l =
+    let m = tick_mask c.tick_at c b l keeps.hold (λ up. keeps.enough up kind.Tick refl) (λ n. (keeps.tick_masked n).0) in
+    record {
+      hold = tick_hold c.tick_at (counted_down c b) b (counted_most b.masked c.hold keeps.hold);
+      enough = m.enough;
+      stands = λ n. ((m.stands n).0, still_tick (tick_step c.tick_at (counted_down c b) b).over outer (m.stands n).1);
+      left = tick_shut c.tick_at (counted_down c b) b l;
+    }
+moves kind.Cap t c b outer keeps l =
+    let down = cap_down c b outer keeps in
+    let s : CapMoves (cap_left c.cap_at) (counted_down c b) b (cap_step c.cap_at (counted_down c b) b) = cap_moves c.cap_at (counted_down c b) b l in
+    record {
+      hold = rw s.hold (counted_most b.masked c.hold keeps.hold);
+      enough = λ m. (let z : false ≡ true = sym down ∙ sym s.masked ∙ m in cc);
+      stands = λ n. (let inner = (keeps.tick_masked (rw s.tick at n)).1 in let z : Some kind.Cap ≡ Some kind.Tick = inner in cc);
+      left = cap_shut c.cap_at (counted_down c b) b l;
+    }
+moves kind.Main t c b outer keeps l = absurd t
+moves kind.Uart t c b outer keeps l = absurd t
+moves kind.Cmp t c b outer keeps l = absurd t
+moves kind.Pwm t c b outer keeps l = absurd t
+moves kind.Comm t c b outer keeps l = absurd t
+
+inner_is : (v : Bool) (k j : Kind) (outer : List Kind) → v ≡ false → innermost (if v then outer else k ∷ outer) ≡ Some j → k ≡ j
+inner_is true k j outer e i = cc
+inner_is false k j outer e i = cc
+
+live_left : (v : Bool) (k : Kind) (c c' : Brain) (outer : List Kind) → IsStack (k ∷ outer) → ((j : Kind) → is_open (k ∷ outer) j ≡ true → 0 < left_of c j) → ((j : Kind) → j ≢ k → left_of c' j ≡ left_of c j)
+    → (v ≡ false → 0 < left_of c' k) → (j : Kind) → is_open (if v then outer else k ∷ outer) j ≡ true → 0 < left_of c' j
+live_left true k c c' outer sorted live others more j o = live_less (left_of c) (left_of c') k outer sorted live others j o
+live_left false k c c' outer sorted live others more j o = live_more (left_of c) (left_of c') k outer live (more refl) others j o
+
+shut_left : (v : Bool) (k : Kind) (c c' : Brain) (outer : List Kind) → ((j : Kind) → is_open (k ∷ outer) j ≡ false → left_of c j ≡ 0) → ((j : Kind) → j ≢ k → left_of c' j ≡ left_of c j)
+    → (v ≡ true → left_of c' k ≡ 0) → (j : Kind) → is_open (if v then outer else k ∷ outer) j ≡ false → left_of c' j ≡ 0
+shut_left true k c c' outer shut others none j f = elim (same_kind j k) [
+  | inl s ↦ subst (λ (x : Kind). left_of c' x ≡ 0) (sym s) (none refl)
+  | inr ne ↦ others j ne ∙ shut j (or_none k j outer ne f)
+]
+  where
+    none_by : (m n : ℕ) (b : Bool) → (m ≡ n → ⊥) → b ≡ false → ((m == n) || b) ≡ false
+    none_by m n b ne f = grind (arith, nat_tests)
+
+    or_none : (k j : Kind) (outer : List Kind) → j ≢ k → is_open outer j ≡ false → is_open (k ∷ outer) j ≡ false
+    or_none k j outer ne f = none_by (kind_number k) (kind_number j) (is_open outer j) (λ e. ne (sym (number_same k j e))) f
+shut_left false k c c' outer shut others none j f = others j (λ s. absurd (self_not (kind_number k) (kind_number j) (is_open outer j) f (sym (ap kind_number s)))) ∙ shut j f
+  where
+    self_not : (m n : ℕ) (b : Bool) → ((m == n) || b) ≡ false → m ≡ n → ⊥
+    self_not m n b f e = grind (arith, nat_tests)
+
+built_left : (v : Bool) (k : Kind) (outer : List Kind) → ((j : Kind) → is_open (k ∷ outer) j ≡ true → IsBuilt j) → (j : Kind) → is_open (if v then outer else k ∷ outer) j ≡ true → IsBuilt j
+built_left true k outer built j o = built j (or_right (kind_number k == kind_number j) (is_open outer j) o)
+built_left false k outer built j o = built j o
+
+pub keeps_own : (k : Kind) (c : Brain) (b : Bank) (outer : List Kind) → IsBuilt k → IsStack (k ∷ outer) → Keeps c b (k ∷ outer) → 0 < left_of c k → Bounds k c b (kind_step k (counted_down c b) b)
+    → Keeps (kind_step k (counted_down c b) b).core (accessed b (kind_step k (counted_down c b) b).access) (open_left k outer (kind_step k (counted_down c b) b))
+keeps_own k c b outer t sorted keeps l bounds =
+    let s : Stepped = kind_step k (counted_down c b) b in
+    let m = moves k t c b outer keeps l in
+    record {
+      hold = m.hold;
+      enough = λ up j i. (let e = m.enough up in subst (λ (x : Kind). need_of s.core x ≤ s.core.hold) (inner_is s.over k j outer e.1 i) e.0);
+      tick_masked = m.stands;
+      live = live_left s.over k c s.core outer sorted keeps.live bounds.others bounds.more;
+      shut = shut_left s.over k c s.core outer keeps.shut bounds.others m.left;
+      built = built_left s.over k outer keeps.built;
+    }
+
+-- ---- the ties
+
+counted_in : (nest : Nest) (trace : List Event) (c : Brain) (b : Bank) (rest : List Note) → OwnIn nest trace c b rest → OwnIn nest trace (counted_down c b) b rest
+counted_in nest trace c b rest i = record {
+  said = i.said;
+  control = i.control;
+  signal = i.signal;
+  window = i.window;
+  tick = i.tick;
+  number = i.number;
+  read = i.read;
+  edges = i.edges;
+  small = i.small;
+}
+
+cap_turn : (nest : Nest) (trace : List Event) (c : Brain) (b : Bank) (rest : List Note) (outer : List Kind) → OwnIn nest trace c b rest → (place (opening ++ rest)).stack ≡ kind.Cap ∷ outer → 0 < cap_left c.cap_at
+    → OwnOut nest trace (cap_step c.cap_at c b).core b (accessed b (cap_step c.cap_at c b).access) (rest ++ step_notes b.time kind.Cap (cap_step c.cap_at c b)) (open_left kind.Cap outer (cap_step c.cap_at c b))
+cap_turn nest trace c b rest outer i same l = elim (cap_goes c.cap_at c b l) [
+  | inl back ↦ rw back (cap_back nest trace c b rest outer i same (subst (λ (at : CapAt). SignalTied (place (opening ++ rest)).signal at (cap_view trace c b (place (opening ++ rest)))) back i.signal))
+  | inr on ↦ goes_out nest trace b rest (cap_step c.cap_at c b) kind.Cap outer on.2
+      (subst (λ (st : List Kind). StepOut nest trace b rest (cap_step c.cap_at c b) st) same (cap_out nest trace c b rest on.0 on.1 i (inside (place (opening ++ rest)).stack kind.Cap outer same)))
+]
+  where
+    inside : (stack : List Kind) (k : Kind) (outer : List Kind) → stack ≡ k ∷ outer → innermost stack ≡ Some k
+    inside stack k outer e = rw e refl
+
+tick_turn : (nest : Nest) (trace : List Event) (c : Brain) (b : Bank) (rest : List Note) (outer : List Kind) → OwnIn nest trace c b rest → (place (opening ++ rest)).stack ≡ kind.Tick ∷ outer → 0 < tick_left c.tick_at
+    → OwnOut nest trace (tick_step c.tick_at c b).core b (accessed b (tick_step c.tick_at c b).access) (rest ++ step_notes b.time kind.Tick (tick_step c.tick_at c b)) (open_left kind.Tick outer (tick_step c.tick_at c b))
+tick_turn nest trace c b rest outer i same l = elim (tick_goes c.tick_at c b l) [
+  | inl back ↦ rw back (tick_back nest trace c b rest outer i same (subst (λ (at : TickAt). TickTied at b.number_read b.time (place (opening ++ rest)).ticks) back i.tick))
+  | inr on ↦ goes_out nest trace b rest (tick_step c.tick_at c b) kind.Tick outer on.2
+      (subst (λ (st : List Kind). StepOut nest trace b rest (tick_step c.tick_at c b) st) same (tick_out nest trace c b rest on.0 on.1 i (inside (place (opening ++ rest)).stack kind.Tick outer same)))
+]
+  where
+    inside : (stack : List Kind) (k : Kind) (outer : List Kind) → stack ≡ k ∷ outer → innermost stack ≡ Some k
+    inside stack k outer e = rw e refl
+
+pub own_out : (k : Kind) → IsBuilt k → (nest : Nest) (trace : List Event) (c : Brain) (b : Bank) (rest : List Note) (outer : List Kind) → OwnIn nest trace c b rest → (place (opening ++ rest)).stack ≡ k ∷ outer → 0 < left_of c k
+    → OwnOut nest trace (kind_step k (counted_down c b) b).core b (accessed b (kind_step k (counted_down c b) b).access) (rest ++ step_notes b.time k (kind_step k (counted_down c b) b)) (open_left k outer (kind_step k (counted_down c b) b))
+own_out kind.Tick t nest trace c b rest outer i same l = tick_turn nest trace (counted_down c b) b rest outer (counted_in nest trace c b rest i) same l
+own_out kind.Cap t nest trace c b rest outer i same l = cap_turn nest trace (counted_down c b) b rest outer (counted_in nest trace c b rest i) same l
+own_out kind.Main t nest trace c b rest outer i same l = absurd t
+own_out kind.Uart t nest trace c b rest outer i same l = absurd t
+own_out kind.Cmp t nest trace c b rest outer i same l = absurd t
+own_out kind.Pwm t nest trace c b rest outer i same l = absurd t
+own_out kind.Comm t nest trace c b rest outer i same l = absurd t

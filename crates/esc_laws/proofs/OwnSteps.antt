@@ -1,0 +1,341 @@
+-- What an own step of CAP or TICK keeps, place by place: its notes fit, control stands for them, and the ties hold again.
+use Rattle.std.proofs.Common.{◌≡◌, ◌≢◌, ◌≤◌, ◌<◌, ◌+◌, ◌/◌, ℕ, Bool, true, false, if◌then◌else◌, List, [], ◌∷◌, ◌++◌, length, reverse, Option, Some, None, refl, sym, ◌∙◌, ap, subst, arith, All, ◌⊎◌, inl, inr, append-nil, append_assoc}
+use Rattle.std.specs.List.{fold}
+use Rattle.esc_base.specs.declared.kind.Kind.{Kind}
+use Rattle.esc_base.specs.declared.kind.Kind.TheVariants as kind
+use Rattle.esc_base.specs.declared.signal.Frame.{Frame}
+use Rattle.esc_base.specs.declared.signal.Mode.{Mode}
+use Rattle.esc_base.specs.declared.signal.Mode.TheVariants as mode
+use Rattle.esc_base.specs.declared.event.Event.{Event}
+use Rattle.esc_base.specs.declared.note.Note.{Note}
+use Rattle.esc_base.specs.declared.note.Note.TheVariants as note
+use Rattle.esc_base.specs.Journal.{time_of}
+use Rattle.esc_base.specs.Trace.{line}
+use Rattle.esc_base.specs.Numbers.{mode_number, why_number}
+use Rattle.edge_capture.specs.Modes.{most}
+use Rattle.timer_regs.specs.Bank.{Bank}
+use Rattle.timer_regs.specs.Effects.{read_value}
+use Rattle.timer_regs.specs.declared.regs.Reg.TheVariants as reg
+use Rattle.interrupt_machine.specs.declared.nest.Nest.{Nest}
+use Rattle.interrupt_machine.specs.Did.{Access, NoAccess, Reads, Writes, accessed}
+use Rattle.dshot_commands.specs.declared.act.Act.{Act}
+use Rattle.dshot_commands.specs.Act.{acting, number_of}
+use Rattle.arming.specs.Kept.{after_found, after_frame}
+use Rattle.arming.specs.Stands.{Stands, with_frame}
+use Rattle.arming.proofs.InOrder.{reverse-push}
+use Rattle.arming.proofs.FrameTies.{other_stands, found_stands, frame_stands}
+use Rattle.esc_core.specs.declared.state.CapAt.{CapAt}
+use Rattle.esc_core.specs.declared.state.CapAt.TheVariants as cap
+use Rattle.esc_core.specs.declared.judge.Judgement.{Judgement}
+use Rattle.esc_core.specs.declared.judge.Judgement.TheVariants.{Good, Bad, Found, Nothing}
+use Rattle.esc_core.specs.Brain.{Brain}
+use Rattle.esc_core.specs.Judge.{judged}
+use Rattle.esc_core.specs.Stepped.{Stepped, goes_on}
+use Rattle.esc_core.specs.Cap.{tick_at, bit_of, after_edges, after_copy, command_note, judge_step, next_edge, opens, takes, cap_step}
+use Rattle.esc_laws.specs.Place.{Signal, Silent, Listens, Judged, Rests, Place, next, place}
+use Rattle.esc_laws.specs.Windowed.{verdict_note, Answers, AnswersAt, OpensAt, WindowRule}
+use Rattle.esc_laws.specs.Nested.{NestRule, IsIn}
+use Rattle.esc_laws.specs.Steps.{opening}
+use Rattle.esc_laws.specs.Tied.{cap_view, IsClosing, IsCopying, IsJudged, SignalTied, WindowSound, TickTied}
+use Rattle.esc_laws.proofs.Pushes.{place-push}
+use Rattle.esc_laws.proofs.Notes.{Said, said_push, place-append}
+use Rattle.esc_laws.proofs.CapTies.{start_tied, copy_tied, judged_tied, opens_tied, pause_tied}
+
+-- before a step: what the journal so far and the ties say
+pub record OwnIn (nest : Nest) (trace : List Event) (c : Brain) (b : Bank) (rest : List Note) : Type 0 where
+  pub said : Said nest trace b.time rest
+  pub control : Stands c.control (reverse (opening ++ rest))
+  pub signal : SignalTied (place (opening ++ rest)).signal c.cap_at (cap_view trace c b (place (opening ++ rest)))
+  pub window : WindowSound b.window b.time
+  pub tick : TickTied c.tick_at b.number_read b.time (place (opening ++ rest)).ticks
+  pub number : b.number_read ≡ c.control.number
+  pub read : b.number_read ≤ b.time / 2400
+  pub edges : All (λ e. e.t.0 ≤ b.time) (line trace).edges
+  pub small : b.time < 2147483648
+
+-- after it, with the step's notes in the journal
+pub record OwnOut (nest : Nest) (trace : List Event) (c' : Brain) (b b' : Bank) (rest : List Note) (stack : List Kind) : Type 0 where
+  pub said : Said nest trace b.time rest
+  pub control : Stands c'.control (reverse (opening ++ rest))
+  pub signal : SignalTied (place (opening ++ rest)).signal c'.cap_at (cap_view trace c' b' (place (opening ++ rest)))
+  pub window : WindowSound b'.window b.time
+  pub tick : TickTied c'.tick_at b'.number_read b.time (place (opening ++ rest)).ticks
+  pub number : b'.number_read ≡ c'.control.number
+  pub read : b'.number_read ≤ b.time / 2400
+  pub stack_is : (place (opening ++ rest)).stack ≡ stack
+
+abbrev pub StepOut : Nest → List Event → Bank → List Note → Stepped → List Kind → Type 0
+StepOut nest trace b rest s stack = OwnOut nest trace s.core b (accessed b s.access) (rest ++ s.notes) stack
+
+-- a step without a note
+pub quiet : (nest : Nest) (trace : List Event) (b : Bank) (rest : List Note) (core : Brain) (access : Access) (over : Bool)
+    → OwnOut nest trace core b (accessed b access) rest (place (opening ++ rest)).stack
+    → StepOut nest trace b rest (record { core = core; access = access; notes = []; over = over }) (place (opening ++ rest)).stack
+quiet nest trace b rest core access over o = subst (λ (r : List Note). OwnOut nest trace core b (accessed b access) r (place (opening ++ rest)).stack) (sym (append-nil rest)) o
+
+most_few : (m : Mode) (n : ℕ) → n ≤ most m → n ≤ 32
+most_few mode.Unknown n le = le
+most_few mode.D300 n le = le
+most_few mode.D600 n le = le
+most_few mode.D300Inv n le = le
+most_few mode.D600Inv n le = le
+most_few mode.Servo n le = omega arith
+
+few : (b : Bank) → WindowSound b.window b.time → length b.window.edges ≤ 32
+few b w = most_few b.window.mode (length b.window.edges) w.few
+
+-- ---- CAP
+
+start_out : (nest : Nest) (trace : List Event) (c : Brain) (b : Bank) (rest : List Note) (w m : ℕ) → OwnIn nest trace c b rest → (place (opening ++ rest)).signal ≡ Listens w m
+    → IsClosing (cap_view trace c b (place (opening ++ rest))) w m
+    → StepOut nest trace b rest (goes_on (record c { burst = []; cap_at = after_edges (read_value b reg.CapState) }) (Reads reg.CapState)) (place (opening ++ rest)).stack
+start_out nest trace c b rest w m i e k =
+    quiet nest trace b rest (record c { burst = []; cap_at = after_edges (read_value b reg.CapState) }) (Reads reg.CapState) false (record {
+      said = i.said;
+      control = i.control;
+      signal = start_tied trace c b (place (opening ++ rest)) w m e (few b i.window) k;
+      window = i.window;
+      tick = i.tick;
+      number = i.number;
+      read = i.read;
+      stack_is = refl;
+    })
+
+copy_out : (nest : Nest) (trace : List Event) (c : Brain) (b : Bank) (rest : List Note) (w m left : ℕ) → OwnIn nest trace c b rest → (place (opening ++ rest)).signal ≡ Listens w m
+    → IsCopying (cap_view trace c b (place (opening ++ rest))) w m left
+    → StepOut nest trace b rest (cap_step (cap.Copy left) c b) (place (opening ++ rest)).stack
+copy_out nest trace c b rest w m left i e k =
+    quiet nest trace b rest (cap_step (cap.Copy left) c b).core (cap_step (cap.Copy left) c b).access false (record {
+      said = i.said;
+      control = copied_control (takes c.burst (next_edge c b)) i.control;
+      signal = copy_tied trace c b (place (opening ++ rest)) w m left e (few b i.window) i.window i.small k;
+      window = i.window;
+      tick = copied_tick (takes c.burst (next_edge c b)) i.tick;
+      number = i.number ∙ copied_number (takes c.burst (next_edge c b));
+      read = i.read;
+      stack_is = refl;
+    })
+  where
+    copied_control : (v : Bool) → Stands c.control (reverse (opening ++ rest)) → Stands (if v then record c { burst = c.burst ++ next_edge c b ∷ []; cap_at = after_copy left } else record c { cap_at = cap.Back }).control (reverse (opening ++ rest))
+    copied_control true s = s
+    copied_control false s = s
+
+    copied_tick : (v : Bool) → TickTied c.tick_at b.number_read b.time (place (opening ++ rest)).ticks
+        → TickTied (if v then record c { burst = c.burst ++ next_edge c b ∷ []; cap_at = after_copy left } else record c { cap_at = cap.Back }).tick_at b.number_read b.time (place (opening ++ rest)).ticks
+    copied_tick true s = s
+    copied_tick false s = s
+
+    copied_number : (v : Bool) → c.control.number ≡ (if v then record c { burst = c.burst ++ next_edge c b ∷ []; cap_at = after_copy left } else record c { cap_at = cap.Back }).control.number
+    copied_number true = refl
+    copied_number false = refl
+
+pause_out : (nest : Nest) (trace : List Event) (c : Brain) (b : Bank) (rest : List Note) (f at : ℕ) (opens_next : Bool) → OwnIn nest trace c b rest → (place (opening ++ rest)).signal ≡ Judged f opens_next
+    → IsJudged (cap_view trace c b (place (opening ++ rest))) → opens_next ≡ false → at ≡ f + 600
+    → StepOut nest trace b rest (cap_step (cap.Pause at) c b) (place (opening ++ rest)).stack
+pause_out nest trace c b rest f at opens_next i e k shuts is =
+    quiet nest trace b rest (record c { cap_at = cap.Back; paused = true }) (Writes reg.CapAt at) false (record {
+      said = i.said;
+      control = i.control;
+      signal = pause_tied trace c b (place (opening ++ rest)) f at opens_next e k shuts is;
+      window = i.window;
+      tick = i.tick;
+      number = i.number;
+      read = i.read;
+      stack_is = refl;
+    })
+
+-- the ties after a step with one note
+one_tied : (trace : List Event) (c' : Brain) (b' : Bank) (rest : List Note) (n : Note) → SignalTied (next (place (opening ++ rest)) n).signal c'.cap_at (cap_view trace c' b' (next (place (opening ++ rest)) n))
+    → SignalTied (place (opening ++ (rest ++ n ∷ []))).signal c'.cap_at (cap_view trace c' b' (place (opening ++ (rest ++ n ∷ []))))
+one_tied trace c' b' rest n t = subst (λ (p : Place). SignalTied p.signal c'.cap_at (cap_view trace c' b' p)) (sym (place-push (opening ++ rest) n)) t
+
+window_opens : (trace : List Event) (c : Brain) (t : ℕ) (rest : List Note) (s : Signal) → (place (opening ++ rest)).signal ≡ s → OpensAt s t → Stands c.control (reverse (opening ++ rest))
+    → WindowRule trace (opening ++ rest) (note.Window (tick_at t) (mode_number c.control.mode))
+window_opens trace c t rest s e o st = (rw e o, st.ties.mode_is)
+
+opens_out : (nest : Nest) (trace : List Event) (c : Brain) (b : Bank) (rest : List Note) (s : Signal) → OwnIn nest trace c b rest → (place (opening ++ rest)).signal ≡ s → OpensAt s b.time
+    → IsIn kind.Cap (place (opening ++ rest)) → b.timer ≡ None
+    → ((place (opening ++ rest)).verdicts ≡ 1) ⊎ (((place (opening ++ rest)).verdicts ≡ 0) × ((place (opening ++ rest)).windows ≡ 0))
+    → StepOut nest trace b rest (opens c b) (place (opening ++ rest)).stack
+opens_out nest trace c b rest s i e o inside none done =
+    let w : Note = note.Window (tick_at b.time) (mode_number c.control.mode) in
+    record {
+      said = said_push nest trace b.time rest w i.said refl (window_opens trace c b.time rest s e o i.control) inside;
+      control = rw (reverse-push (opening ++ rest) w) (other_stands w c.control (reverse (opening ++ rest)) refl refl i.control);
+      signal = one_tied trace (opens c b).core (accessed b (opens c b).access) rest w (opens_tied trace c b (place (opening ++ rest)) i.edges none done);
+      window = record { past = λ k d l. absurd (omega arith); order = λ x y le l. absurd (omega arith); few = omega arith };
+      tick = subst (λ (p : Place). TickTied c.tick_at b.number_read b.time p.ticks) (sym (place-push (opening ++ rest) w)) i.tick;
+      number = i.number;
+      read = i.read;
+      stack_is = ap (λ (p : Place). p.stack) (place-push (opening ++ rest) w);
+    }
+
+-- ---- the verdict
+
+answered : (trace : List Event) (rest : List Note) (w m t : ℕ) (n : Note) → (place (opening ++ rest)).signal ≡ Listens w m → Answers trace w m (place (opening ++ rest)).cap_entered t n
+    → AnswersAt trace (place (opening ++ rest)).signal (place (opening ++ rest)).cap_entered t n
+answered trace rest w m t n e a = rw e a
+
+verdict_rule : (j : Judgement) (trace : List Event) (rest : List Note) (w m t : ℕ) → (place (opening ++ rest)).signal ≡ Listens w m → Answers trace w m (place (opening ++ rest)).cap_entered t (verdict_note t j)
+    → WindowRule trace (opening ++ rest) (verdict_note t j)
+verdict_rule (Good frame) trace rest w m t e a = answered trace rest w m t _ e a
+verdict_rule (Bad why) trace rest w m t e a = answered trace rest w m t _ e a
+verdict_rule (Found mode) trace rest w m t e a = answered trace rest w m t _ e a
+verdict_rule Nothing trace rest w m t e a = answered trace rest w m t _ e a
+
+answers_is : (trace : List Event) (c : Brain) (b : Bank) (p : Place) (w m : ℕ) → IsClosing (cap_view trace c b p) w m → c.burst ≡ b.window.edges
+    → Answers trace w m p.cap_entered b.time (verdict_note b.time (judged c.window c.burst))
+answers_is trace c b p w m i e = record {
+  closed_at = i.closed_at;
+  closes = i.closes;
+  waits = i.waits;
+  entered_before = i.entered;
+  verdict_is = rw (i.hears.core_mode, e, i.hears.edges) refl;
+}
+
+-- the notes and control of each judgement
+pub record JudgeOut (nest : Nest) (trace : List Event) (t : ℕ) (rest : List Note) (s : Stepped) (stack : List Kind) : Type 0 where
+  pub said : Said nest trace t (rest ++ s.notes)
+  pub control : Stands s.core.control (reverse (opening ++ (rest ++ s.notes)))
+  pub stack_is : (place (opening ++ (rest ++ s.notes))).stack ≡ stack
+
+one_judged : (nest : Nest) (trace : List Event) (t : ℕ) (rest : List Note) (core : Brain) (n : Note) → Said nest trace t rest → time_of n ≡ t → WindowRule trace (opening ++ rest) n → NestRule nest (opening ++ rest) n
+    → Stands core.control (n ∷ reverse (opening ++ rest)) → (next (place (opening ++ rest)) n).stack ≡ (place (opening ++ rest)).stack
+    → JudgeOut nest trace t rest (record { core = core; access = NoAccess; notes = n ∷ []; over = false }) (place (opening ++ rest)).stack
+one_judged nest trace t rest core n said at w r st same = record {
+  said = said_push nest trace t rest n said at w r;
+  control = rw (reverse-push (opening ++ rest) n) st;
+  stack_is = ap (λ (p : Place). p.stack) (place-push (opening ++ rest) n) ∙ same;
+}
+
+good_judged : (o : Option Act) (nest : Nest) (trace : List Event) (c : Brain) (b : Bank) (rest : List Note) (frame : Frame) → Said nest trace b.time rest
+    → WindowRule trace (opening ++ rest) (verdict_note b.time (Good frame)) → IsIn kind.Cap (place (opening ++ rest))
+    → Stands (after_frame c.control frame.value) (with_frame (tick_at b.time) frame.value (bit_of frame.telemetry) o (reverse (opening ++ rest)))
+    → JudgeOut nest trace b.time rest (record { core = record c { cap_at = cap.Open; control = after_frame c.control frame.value }; access = NoAccess; notes = note.Good (tick_at b.time) frame.value (bit_of frame.telemetry) ∷ command_note b.time o; over = false }) (place (opening ++ rest)).stack
+good_judged None nest trace c b rest frame said w inside st =
+    one_judged nest trace b.time rest (record c { cap_at = cap.Open; control = after_frame c.control frame.value }) (note.Good (tick_at b.time) frame.value (bit_of frame.telemetry)) said refl w inside st refl
+good_judged (Some act) nest trace c b rest frame said w inside st =
+    let good : Note = note.Good (tick_at b.time) frame.value (bit_of frame.telemetry) in
+    let command : Note = note.Command (tick_at b.time) (number_of act) in
+    let both : rest ++ good ∷ command ∷ [] ≡ (rest ++ good ∷ []) ++ command ∷ [] = sym (append_assoc rest (good ∷ []) (command ∷ [])) in
+    let first = said_push nest trace b.time rest good said refl w inside in
+    let still : IsIn kind.Cap (place (opening ++ (rest ++ good ∷ []))) = subst (λ (p : Place). IsIn kind.Cap p) (sym (place-push (opening ++ rest) good)) inside in
+    record {
+      said = subst (λ (r : List Note). Said nest trace b.time r) (sym both) (said_push nest trace b.time (rest ++ good ∷ []) command first refl tt still);
+      control = subst (λ (r : List Note). Stands (after_frame c.control frame.value) (reverse (opening ++ r))) (sym both)
+          (rw (reverse-push (opening ++ (rest ++ good ∷ [])) command, reverse-push (opening ++ rest) good) st);
+      stack_is = subst (λ (r : List Note). (place (opening ++ r)).stack ≡ (place (opening ++ rest)).stack) (sym both)
+          (ap (λ (p : Place). p.stack) (place-push (opening ++ (rest ++ good ∷ [])) command) ∙ ap (λ (p : Place). p.stack) (place-push (opening ++ rest) good));
+    }
+
+judge_judged : (j : Judgement) (nest : Nest) (trace : List Event) (c : Brain) (b : Bank) (rest : List Note) → Said nest trace b.time rest → Stands c.control (reverse (opening ++ rest))
+    → WindowRule trace (opening ++ rest) (verdict_note b.time j) → IsIn kind.Cap (place (opening ++ rest))
+    → JudgeOut nest trace b.time rest (judge_step j c b) (place (opening ++ rest)).stack
+judge_judged (Good frame) nest trace c b rest said st w inside =
+    good_judged (acting (after_frame c.control frame.value).run.frames frame.value) nest trace c b rest frame said w inside
+    (frame_stands c.control (reverse (opening ++ rest)) (tick_at b.time) frame.value (bit_of frame.telemetry) st)
+judge_judged (Bad why) nest trace c b rest said st w inside =
+    one_judged nest trace b.time rest (record c { cap_at = cap.Pause (b.time + 600) }) (note.Bad (tick_at b.time) (why_number why)) said refl w inside
+    (other_stands (note.Bad (tick_at b.time) (why_number why)) c.control (reverse (opening ++ rest)) refl refl st) refl
+judge_judged (Found mode) nest trace c b rest said st w inside =
+    one_judged nest trace b.time rest (record c { cap_at = cap.Open; control = after_found c.control mode }) (note.Detected (tick_at b.time) (mode_number mode)) said refl w inside
+    (found_stands c.control (reverse (opening ++ rest)) (tick_at b.time) mode st) refl
+judge_judged Nothing nest trace c b rest said st w inside =
+    one_judged nest trace b.time rest (record c { cap_at = cap.Pause (b.time + 600) }) (note.Nothing (tick_at b.time)) said refl w inside
+    (other_stands (note.Nothing (tick_at b.time)) c.control (reverse (opening ++ rest)) refl refl st) refl
+
+-- no judgement touches TICK, and its notes are no K
+abbrev SameTick : Brain → Place → Stepped → Type 0
+SameTick c p s = (s.core.tick_at ≡ c.tick_at) × ((fold next p s.notes).ticks ≡ p.ticks) × (s.core.control.number ≡ c.control.number)
+
+judge_tick : (j : Judgement) (c : Brain) (b : Bank) (p : Place) → SameTick c p (judge_step j c b)
+judge_tick (Good frame) c b p = (refl, with_command (acting (after_frame c.control frame.value).run.frames frame.value) c b p frame, refl)
+  where
+    with_command : (o : Option Act) (c : Brain) (b : Bank) (p : Place) (frame : Frame) → (fold next p (note.Good (tick_at b.time) frame.value (bit_of frame.telemetry) ∷ command_note b.time o)).ticks ≡ p.ticks
+    with_command None c b p frame = refl
+    with_command (Some act) c b p frame = refl
+judge_tick (Bad why) c b p = (refl, refl, refl)
+judge_tick (Found mode) c b p = (refl, refl, refl)
+judge_tick Nothing c b p = (refl, refl, refl)
+
+judge_access : (j : Judgement) (c : Brain) (b : Bank) → (judge_step j c b).access ≡ NoAccess
+judge_access (Good frame) c b = refl
+judge_access (Bad why) c b = refl
+judge_access (Found mode) c b = refl
+judge_access Nothing c b = refl
+
+judge_out : (nest : Nest) (trace : List Event) (c : Brain) (b : Bank) (rest : List Note) (w m : ℕ) → OwnIn nest trace c b rest → (place (opening ++ rest)).signal ≡ Listens w m
+    → IsClosing (cap_view trace c b (place (opening ++ rest))) w m → c.burst ≡ b.window.edges → IsIn kind.Cap (place (opening ++ rest))
+    → StepOut nest trace b rest (judge_step (judged c.window c.burst) c b) (place (opening ++ rest)).stack
+judge_out nest trace c b rest w m i e k copied inside =
+    let p : Place = place (opening ++ rest) in
+    let j : Judgement = judged c.window c.burst in
+    let s : Stepped = judge_step j c b in
+    let rule = verdict_rule j trace rest w m b.time e (answers_is trace c b p w m k copied) in
+    let o = judge_judged j nest trace c b rest i.said i.control rule inside in
+    let t = judge_tick j c b p in
+    let at : place (opening ++ (rest ++ s.notes)) ≡ fold next p s.notes = place-append (opening ++ rest) s.notes in
+    let bank : accessed b s.access ≡ b = ap (λ (a : Access). accessed b a) (judge_access j c b) in
+    record {
+      said = o.said;
+      control = o.control;
+      signal = subst (λ (q : Place). SignalTied q.signal s.core.cap_at (cap_view trace s.core (accessed b s.access) q)) (sym at) (judged_tied j trace c b p w m k);
+      window = rw bank i.window;
+      tick = rw (at, bank, t.0, t.1) i.tick;
+      number = rw (bank, t.2) i.number;
+      read = rw bank i.read;
+      stack_is = o.stack_is;
+    }
+
+-- ---- CAP as a whole, but for its return
+
+pick_else : (P : Stepped → Type 0) (v : Bool) (x y : Stepped) → v ≡ false → P y → P (if v then x else y)
+pick_else P true x y e h = cc
+pick_else P false x y e h = h
+
+cap_listens : (nest : Nest) (trace : List Event) (c : Brain) (b : Bank) (rest : List Note) (w m : ℕ) (at : CapAt) → at ≢ cap.Back → at ≢ cap.Shut → OwnIn nest trace c b rest
+    → (place (opening ++ rest)).signal ≡ Listens w m → SignalTied (Listens w m) at (cap_view trace c b (place (opening ++ rest))) → IsIn kind.Cap (place (opening ++ rest))
+    → StepOut nest trace b rest (cap_step at c b) (place (opening ++ rest)).stack
+cap_listens nest trace c b rest w m cap.Shut nb ns i e k inside = absurd (ns refl)
+cap_listens nest trace c b rest w m cap.Start nb ns i e k inside =
+    pick_else (λ (s : Stepped). StepOut nest trace b rest s (place (opening ++ rest)).stack) c.paused (opens c b) (goes_on (record c { burst = []; cap_at = after_edges (read_value b reg.CapState) }) (Reads reg.CapState))
+    k.hears.running (start_out nest trace c b rest w m i e k)
+cap_listens nest trace c b rest w m (cap.Copy left) nb ns i e k inside = copy_out nest trace c b rest w m left i e k
+cap_listens nest trace c b rest w m cap.Judge nb ns i e k inside = judge_out nest trace c b rest w m i e k.0 k.1 inside
+cap_listens nest trace c b rest w m cap.Open nb ns i e k inside = absurd k
+cap_listens nest trace c b rest w m (cap.Pause at) nb ns i e k inside = absurd k
+cap_listens nest trace c b rest w m cap.Back nb ns i e k inside = absurd (nb refl)
+
+cap_judged : (nest : Nest) (trace : List Event) (c : Brain) (b : Bank) (rest : List Note) (f : ℕ) (opens_next : Bool) (at : CapAt) → at ≢ cap.Back → OwnIn nest trace c b rest
+    → (place (opening ++ rest)).signal ≡ Judged f opens_next → SignalTied (Judged f opens_next) at (cap_view trace c b (place (opening ++ rest))) → IsIn kind.Cap (place (opening ++ rest))
+    → StepOut nest trace b rest (cap_step at c b) (place (opening ++ rest)).stack
+cap_judged nest trace c b rest f opens_next cap.Shut nb i e k inside = absurd k
+cap_judged nest trace c b rest f opens_next cap.Start nb i e k inside = absurd k
+cap_judged nest trace c b rest f opens_next (cap.Copy left) nb i e k inside = absurd k
+cap_judged nest trace c b rest f opens_next cap.Judge nb i e k inside = absurd k
+cap_judged nest trace c b rest f opens_next cap.Open nb i e k inside = opens_out nest trace c b rest (Judged f opens_next) i e k.1 inside k.0.no_timer (inl k.0.verdict)
+cap_judged nest trace c b rest f opens_next (cap.Pause at) nb i e k inside = pause_out nest trace c b rest f at opens_next i e k.0 k.1.0 k.1.1
+cap_judged nest trace c b rest f opens_next cap.Back nb i e k inside = absurd (nb refl)
+
+cap_rests : (nest : Nest) (trace : List Event) (c : Brain) (b : Bank) (rest : List Note) (f r : ℕ) (at : CapAt) → at ≢ cap.Shut → OwnIn nest trace c b rest
+    → (place (opening ++ rest)).signal ≡ Rests f r → SignalTied (Rests f r) at (cap_view trace c b (place (opening ++ rest))) → IsIn kind.Cap (place (opening ++ rest))
+    → StepOut nest trace b rest (cap_step at c b) (place (opening ++ rest)).stack
+cap_rests nest trace c b rest f r cap.Shut ns i e k inside = absurd (ns refl)
+cap_rests nest trace c b rest f r cap.Start ns i e k inside = rw k.paused (opens_out nest trace c b rest (Rests f r) i e k.reached inside k.no_timer (inr (k.no_verdict, k.no_window)))
+cap_rests nest trace c b rest f r (cap.Copy left) ns i e k inside = absurd k
+cap_rests nest trace c b rest f r cap.Judge ns i e k inside = absurd k
+cap_rests nest trace c b rest f r cap.Open ns i e k inside = absurd k
+cap_rests nest trace c b rest f r (cap.Pause at) ns i e k inside = absurd k
+cap_rests nest trace c b rest f r cap.Back ns i e k inside = absurd k
+
+cap_by : (s : Signal) (nest : Nest) (trace : List Event) (c : Brain) (b : Bank) (rest : List Note) → c.cap_at ≢ cap.Back → c.cap_at ≢ cap.Shut → OwnIn nest trace c b rest
+    → (place (opening ++ rest)).signal ≡ s → SignalTied s c.cap_at (cap_view trace c b (place (opening ++ rest))) → IsIn kind.Cap (place (opening ++ rest))
+    → StepOut nest trace b rest (cap_step c.cap_at c b) (place (opening ++ rest)).stack
+cap_by Silent nest trace c b rest nb ns i e k inside = absurd k
+cap_by (Listens w m) nest trace c b rest nb ns i e k inside = cap_listens nest trace c b rest w m c.cap_at nb ns i e k inside
+cap_by (Judged f opens_next) nest trace c b rest nb ns i e k inside = cap_judged nest trace c b rest f opens_next c.cap_at nb i e k inside
+cap_by (Rests f r) nest trace c b rest nb ns i e k inside = cap_rests nest trace c b rest f r c.cap_at ns i e k inside
+
+pub cap_out : (nest : Nest) (trace : List Event) (c : Brain) (b : Bank) (rest : List Note) → c.cap_at ≢ cap.Back → c.cap_at ≢ cap.Shut → OwnIn nest trace c b rest → IsIn kind.Cap (place (opening ++ rest))
+    → StepOut nest trace b rest (cap_step c.cap_at c b) (place (opening ++ rest)).stack
+cap_out nest trace c b rest nb ns i inside = cap_by (place (opening ++ rest)).signal nest trace c b rest nb ns i refl i.signal inside

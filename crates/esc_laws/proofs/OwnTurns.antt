@@ -1,0 +1,240 @@
+-- A whole step of the innermost handler, its return too: which notes it has, what holds after it, and which ties.
+use Rattle.std.proofs.Common.{◌≡◌, ◌≢◌, ◌≤◌, ◌<◌, ℕ, Bool, true, false, ◌&&◌, nat_lt, if◌then◌else◌, List, [], ◌∷◌, ◌++◌, reverse, Option, Some, None, refl, sym, ◌∙◌, ap, subst, arith, All, ◌⊎◌, inl, inr, append-nil}
+use Rattle.std.proofs.lemmas.Bool.Decides.{nat_tests}
+use Rattle.std.proofs.lemmas.List.Elements.{All-nil, All-cons, All-append}
+use Rattle.esc_base.specs.declared.kind.Kind.{Kind}
+use Rattle.esc_base.specs.declared.kind.Kind.TheVariants as kind
+use Rattle.esc_base.specs.declared.event.Event.{Event}
+use Rattle.esc_base.specs.declared.note.Cause.{Cause}
+use Rattle.esc_base.specs.declared.note.Note.{Note}
+use Rattle.esc_base.specs.declared.note.Note.TheVariants as note
+use Rattle.esc_base.specs.Journal.{time_of}
+use Rattle.esc_base.specs.Numbers.{kind_number, mode_number, why_number}
+use Rattle.timer_regs.specs.Bank.{Bank}
+use Rattle.timer_regs.specs.Effects.{read_value}
+use Rattle.timer_regs.specs.declared.regs.Reg.TheVariants as reg
+use Rattle.interrupt_machine.specs.declared.nest.Nest.{Nest}
+use Rattle.interrupt_machine.specs.declared.firmware.Did.{Did}
+use Rattle.interrupt_machine.specs.declared.firmware.Did.TheVariants.{More, Return}
+use Rattle.interrupt_machine.specs.Did.{Reads, accessed}
+use Rattle.interrupt_machine.specs.Open.{innermost, outer_ones}
+use Rattle.interrupt_machine.specs.Turn.{leave_note, own_notes}
+use Rattle.dshot_commands.specs.declared.act.Act.{Act}
+use Rattle.dshot_commands.specs.Act.{acting}
+use Rattle.arming.specs.Decide.{decide}
+use Rattle.arming.specs.Kept.{after_frame, after_tick, view_of}
+use Rattle.arming.proofs.InOrder.{reverse-push}
+use Rattle.arming.proofs.FrameTies.{other_stands}
+use Rattle.esc_core.specs.declared.state.CapAt.{CapAt}
+use Rattle.esc_core.specs.declared.state.CapAt.TheVariants as cap
+use Rattle.esc_core.specs.declared.state.TickAt.{TickAt}
+use Rattle.esc_core.specs.declared.state.TickAt.TheVariants as tick
+use Rattle.esc_core.specs.declared.judge.Judgement.{Judgement}
+use Rattle.esc_core.specs.declared.judge.Judgement.TheVariants.{Good, Bad, Found, Nothing}
+use Rattle.esc_core.specs.Brain.{Brain}
+use Rattle.esc_core.specs.Judge.{judged}
+use Rattle.esc_core.specs.Stepped.{Stepped, IsStepped, is_return, goes_on}
+use Rattle.esc_core.specs.Cap.{tick_at, after_edges, bit_of, command_note, judge_step, opens, cap_step}
+use Rattle.esc_core.specs.Tick.{outcome_note, tick_notes, ticked, tick_step}
+use Rattle.esc_core.specs.Firmware.{cap_left, tick_left, need_of, kind_step, is_stray}
+use Rattle.esc_laws.specs.Place.{Place, next, place}
+use Rattle.esc_laws.specs.Steps.{opening, is_entry}
+use Rattle.esc_laws.specs.Tied.{Keeps, SignalTied, cap_view, TickTied, IsBuilt}
+use Rattle.esc_laws.proofs.Pushes.{place-push}
+use Rattle.esc_laws.proofs.Notes.{said_push}
+use Rattle.esc_laws.proofs.Facts.{SameGates, same_gates, plain_notes}
+use Rattle.esc_laws.proofs.CapTies.{back_tied, back_done, back_may}
+use Rattle.esc_laws.proofs.OwnSteps.{OwnIn, OwnOut, StepOut}
+
+-- ---- no step of a run is a stray one
+
+pub steady : (k : Kind) (c : Brain) (b : Bank) (stack : List Kind) → Keeps c b stack → innermost stack ≡ Some k → is_stray k c b ≡ false
+steady k c b stack keeps i = by_mask b.masked c.hold (need_of c k) (λ m. keeps.enough m k i)
+  where
+    not_less : (h n : ℕ) → n ≤ h → nat_lt h n ≡ false
+    not_less h n l = grind (arith, nat_tests)
+
+    by_mask : (m : Bool) (h n : ℕ) → (m ≡ true → n ≤ h) → (m && nat_lt h n) ≡ false
+    by_mask true h n f = not_less h n (f refl)
+    by_mask false h n f = refl
+
+-- ---- its notes
+
+-- the notes of a step, with its return
+abbrev pub step_notes : ℕ → Kind → Stepped → List Note
+step_notes t k s = s.notes ++ (if s.over then note.Leave (tick_at t) (kind_number k) ∷ [] else [])
+
+leave_is : (did : Did) (b' : Bank) (k : Kind) (v : Bool) → is_return did ≡ v → leave_note b' k did ≡ (if v then note.Leave (tick_at b'.time) (kind_number k) ∷ [] else [])
+leave_is (More own) b' k v e = rw (sym e) refl
+leave_is (Return own) b' k v e = rw (sym e) refl
+
+pub own_are : (k : Kind) (b b' : Bank) (s : Stepped) (did : Did) (c' : Brain) → IsStepped b s did c' b' → own_notes b.hi b.lo b' k did ≡ step_notes b.time k s
+own_are k b b' s did c' i =
+    let same : SameGates b b' = subst (λ (x : Bank). SameGates b x) (sym i.bank_is) (same_gates b s.access) in
+    plain_notes b b' k did same
+    ∙ ap (λ (ns : List Note). ns ++ leave_note b' k did) i.notes_are
+    ∙ ap (λ (ns : List Note). s.notes ++ ns) (leave_is did b' k s.over i.over_is ∙ ap (λ (t : ℕ). if s.over then note.Leave (tick_at t) (kind_number k) ∷ [] else []) same.time)
+
+-- a note of an own step stands at its tick, and is no I
+abbrev pub IsOwn : ℕ → Note → Type 0
+IsOwn t n = (time_of n ≡ t) × (is_entry n ≡ false)
+
+one_own : (t : ℕ) (n : Note) → IsOwn t n → All (IsOwn t) (n ∷ [])
+one_own t n h = All-cons (IsOwn t) n [] h (All-nil (IsOwn t))
+
+good_own : (o : Option Act) (t v q : ℕ) → All (IsOwn t) (note.Good (tick_at t) v q ∷ command_note t o)
+good_own None t v q = one_own t (note.Good (tick_at t) v q) (refl, refl)
+good_own (Some act) t v q = All-cons (IsOwn t) (note.Good (tick_at t) v q) (command_note t (Some act)) (refl, refl) (one_own t _ (refl, refl))
+
+judge_own : (j : Judgement) (c : Brain) (b : Bank) → All (IsOwn b.time) (judge_step j c b).notes
+judge_own (Good frame) c b = good_own (acting (after_frame c.control frame.value).run.frames frame.value) b.time frame.value (bit_of frame.telemetry)
+judge_own (Bad why) c b = one_own b.time (note.Bad (tick_at b.time) (why_number why)) (refl, refl)
+judge_own (Found mode) c b = one_own b.time (note.Detected (tick_at b.time) (mode_number mode)) (refl, refl)
+judge_own Nothing c b = one_own b.time (note.Nothing (tick_at b.time)) (refl, refl)
+
+opens_own : (c : Brain) (b : Bank) → All (IsOwn b.time) (opens c b).notes
+opens_own c b = one_own b.time (note.Window (tick_at b.time) (mode_number c.control.mode)) (refl, refl)
+
+begin_own : (v : Bool) (core : Brain) (c : Brain) (b : Bank) → All (IsOwn b.time) (if v then opens c b else goes_on core (Reads reg.CapState)).notes
+begin_own true core c b = opens_own c b
+begin_own false core c b = All-nil (IsOwn b.time)
+
+cap_own : (at : CapAt) (c : Brain) (b : Bank) → All (IsOwn b.time) (cap_step at c b).notes
+cap_own cap.Shut c b = All-nil (IsOwn b.time)
+cap_own cap.Start c b = begin_own c.paused (record c { burst = []; cap_at = after_edges (read_value b reg.CapState) }) c b
+cap_own (cap.Copy rest) c b = All-nil (IsOwn b.time)
+cap_own cap.Judge c b = judge_own (judged c.window c.burst) c b
+cap_own cap.Open c b = opens_own c b
+cap_own (cap.Pause at) c b = All-nil (IsOwn b.time)
+cap_own cap.Back c b = All-nil (IsOwn b.time)
+
+outcome_own : (lost : Option Cause) (armed_now : Bool) (t : ℕ) → All (IsOwn t) (outcome_note t lost armed_now)
+outcome_own (Some cause) armed_now t = one_own t _ (refl, refl)
+outcome_own None true t = one_own t _ (refl, refl)
+outcome_own None false t = All-nil (IsOwn t)
+
+read_own : (v : Bool) (n : ℕ) (c : Brain) (b : Bank) → All (IsOwn b.time) (if v then record {
+  core = record c { tick_at = tick.Lower; control = after_tick c.control n (decide (view_of c.control) n 0) };
+  access = Reads reg.TickState;
+  notes = tick_notes b.time n 0 (ticked c n 0);
+  over = false;
+} else goes_on (record c { tick_at = tick.Lower }) (Reads reg.TickState)).notes
+read_own true n c b =
+    All-cons (IsOwn b.time) (note.Control (tick_at b.time) n 0 (ticked c n 0).demand) (outcome_note b.time (ticked c n 0).lost (ticked c n 0).armed_now) (refl, refl)
+    (outcome_own (ticked c n 0).lost (ticked c n 0).armed_now b.time)
+read_own false n c b = All-nil (IsOwn b.time)
+
+tick_own : (at : TickAt) (c : Brain) (b : Bank) → All (IsOwn b.time) (tick_step at c b).notes
+tick_own tick.Shut c b = All-nil (IsOwn b.time)
+tick_own tick.Raise c b = All-nil (IsOwn b.time)
+tick_own tick.Read c b = read_own (nat_lt c.control.number (read_value b reg.TickState)) (read_value b reg.TickState) c b
+tick_own tick.Lower c b = All-nil (IsOwn b.time)
+tick_own tick.Back c b = All-nil (IsOwn b.time)
+
+kind_own : (k : Kind) → IsBuilt k → (c : Brain) (b : Bank) → All (IsOwn b.time) (kind_step k c b).notes
+kind_own kind.Tick t c b = tick_own c.tick_at c b
+kind_own kind.Cap t c b = cap_own c.cap_at c b
+kind_own kind.Main t c b = absurd t
+kind_own kind.Uart t c b = absurd t
+kind_own kind.Cmp t c b = absurd t
+kind_own kind.Pwm t c b = absurd t
+kind_own kind.Comm t c b = absurd t
+
+leave_own : (v : Bool) (t : ℕ) (k : Kind) → All (IsOwn t) (if v then note.Leave (tick_at t) (kind_number k) ∷ [] else [])
+leave_own true t k = one_own t (note.Leave (tick_at t) (kind_number k)) (refl, refl)
+leave_own false t k = All-nil (IsOwn t)
+
+pub step_own : (k : Kind) → IsBuilt k → (c : Brain) (b : Bank) → All (IsOwn b.time) (step_notes b.time k (kind_step k c b))
+step_own k t c b = All-append (IsOwn b.time) (kind_step k c b).notes _ (kind_own k t c b) (leave_own (kind_step k c b).over b.time k)
+
+-- ---- whether it returns
+
+begin_goes : (v : Bool) (core : Brain) (c : Brain) (b : Bank) → (if v then opens c b else goes_on core (Reads reg.CapState)).over ≡ false
+begin_goes true core c b = refl
+begin_goes false core c b = refl
+
+judge_goes : (j : Judgement) (c : Brain) (b : Bank) → (judge_step j c b).over ≡ false
+judge_goes (Good frame) c b = refl
+judge_goes (Bad why) c b = refl
+judge_goes (Found mode) c b = refl
+judge_goes Nothing c b = refl
+
+read_goes : (v : Bool) (n : ℕ) (c : Brain) (b : Bank) → (if v then record {
+  core = record c { tick_at = tick.Lower; control = after_tick c.control n (decide (view_of c.control) n 0) };
+  access = Reads reg.TickState;
+  notes = tick_notes b.time n 0 (ticked c n 0);
+  over = false;
+} else goes_on (record c { tick_at = tick.Lower }) (Reads reg.TickState)).over ≡ false
+read_goes true n c b = refl
+read_goes false n c b = refl
+
+-- CAP returns at its last place, and nowhere else
+pub cap_goes : (at : CapAt) (c : Brain) (b : Bank) → 0 < cap_left at → (at ≡ cap.Back) ⊎ ((at ≢ cap.Back) × (at ≢ cap.Shut) × ((cap_step at c b).over ≡ false))
+cap_goes cap.Shut c b l = absurd (omega arith)
+cap_goes cap.Start c b l = inr ((λ e. cc), (λ e. cc), begin_goes c.paused (record c { burst = []; cap_at = after_edges (read_value b reg.CapState) }) c b)
+cap_goes (cap.Copy rest) c b l = inr ((λ e. cc), (λ e. cc), refl)
+cap_goes cap.Judge c b l = inr ((λ e. cc), (λ e. cc), judge_goes (judged c.window c.burst) c b)
+cap_goes cap.Open c b l = inr ((λ e. cc), (λ e. cc), refl)
+cap_goes (cap.Pause at) c b l = inr ((λ e. cc), (λ e. cc), refl)
+cap_goes cap.Back c b l = inl refl
+
+pub tick_goes : (at : TickAt) (c : Brain) (b : Bank) → 0 < tick_left at → (at ≡ tick.Back) ⊎ ((at ≢ tick.Back) × (at ≢ tick.Shut) × ((tick_step at c b).over ≡ false))
+tick_goes tick.Shut c b l = absurd (omega arith)
+tick_goes tick.Raise c b l = inr ((λ e. cc), (λ e. cc), refl)
+tick_goes tick.Read c b l = inr ((λ e. cc), (λ e. cc), read_goes (nat_lt c.control.number (read_value b reg.TickState)) (read_value b reg.TickState) c b)
+tick_goes tick.Lower c b l = inr ((λ e. cc), (λ e. cc), refl)
+tick_goes tick.Back c b l = inl refl
+
+-- ---- the ties after it
+
+-- the open kinds after it
+abbrev pub open_left : Kind → List Kind → Stepped → List Kind
+open_left k outer s = if s.over then outer else k ∷ outer
+
+-- after a step that goes on
+pub goes_out : (nest : Nest) (trace : List Event) (b : Bank) (rest : List Note) (s : Stepped) (k : Kind) (outer : List Kind) → s.over ≡ false → StepOut nest trace b rest s (k ∷ outer)
+    → OwnOut nest trace s.core b (accessed b s.access) (rest ++ step_notes b.time k s) (open_left k outer s)
+goes_out nest trace b rest s k outer e o =
+    rw e (subst (λ (ns : List Note). OwnOut nest trace s.core b (accessed b s.access) (rest ++ ns) (k ∷ outer)) (sym (append-nil s.notes)) o)
+
+popped : (stack : List Kind) (k : Kind) (outer : List Kind) → stack ≡ k ∷ outer → outer_ones stack ≡ outer
+popped stack k outer e = rw e refl
+
+in_stack : (k : Kind) (outer stack : List Kind) → stack ≡ k ∷ outer → innermost stack ≡ Some k
+in_stack k outer stack e = rw e refl
+
+pub cap_back : (nest : Nest) (trace : List Event) (c : Brain) (b : Bank) (rest : List Note) (outer : List Kind) → OwnIn nest trace c b rest → (place (opening ++ rest)).stack ≡ kind.Cap ∷ outer
+    → SignalTied (place (opening ++ rest)).signal cap.Back (cap_view trace c b (place (opening ++ rest)))
+    → OwnOut nest trace (record c { cap_at = cap.Shut }) b b (rest ++ note.Leave (tick_at b.time) 3 ∷ []) outer
+cap_back nest trace c b rest outer i same tied =
+    let p : Place = place (opening ++ rest) in
+    let n : Note = note.Leave (tick_at b.time) 3 in
+    let at : place (opening ++ (rest ++ n ∷ [])) ≡ next p n = place-push (opening ++ rest) n in
+    record {
+      said = said_push nest trace b.time rest n i.said refl (λ e. back_may trace c b p p.signal tied) (in_stack kind.Cap outer p.stack same, back_done trace c b p p.signal tied);
+      control = rw (reverse-push (opening ++ rest) n) (other_stands n c.control (reverse (opening ++ rest)) refl refl i.control);
+      signal = subst (λ (q : Place). SignalTied q.signal cap.Shut (cap_view trace (record c { cap_at = cap.Shut }) b q)) (sym at) (back_tied trace c b p p.signal b.time refl tied);
+      window = i.window;
+      tick = subst (λ (q : Place). TickTied c.tick_at b.number_read b.time q.ticks) (sym at) i.tick;
+      number = i.number;
+      read = i.read;
+      stack_is = ap (λ (q : Place). q.stack) at ∙ popped p.stack kind.Cap outer same;
+    }
+
+pub tick_back : (nest : Nest) (trace : List Event) (c : Brain) (b : Bank) (rest : List Note) (outer : List Kind) → OwnIn nest trace c b rest → (place (opening ++ rest)).stack ≡ kind.Tick ∷ outer
+    → (place (opening ++ rest)).ticks ≡ 1
+    → OwnOut nest trace (record c { tick_at = tick.Shut }) b b (rest ++ note.Leave (tick_at b.time) 2 ∷ []) outer
+tick_back nest trace c b rest outer i same one =
+    let p : Place = place (opening ++ rest) in
+    let n : Note = note.Leave (tick_at b.time) 2 in
+    let at : place (opening ++ (rest ++ n ∷ [])) ≡ next p n = place-push (opening ++ rest) n in
+    record {
+      said = said_push nest trace b.time rest n i.said refl (λ e. cc) (in_stack kind.Tick outer p.stack same, one);
+      control = rw (reverse-push (opening ++ rest) n) (other_stands n c.control (reverse (opening ++ rest)) refl refl i.control);
+      signal = subst (λ (q : Place). SignalTied q.signal c.cap_at (cap_view trace (record c { tick_at = tick.Shut }) b q)) (sym at) i.signal;
+      window = i.window;
+      tick = tt;
+      number = i.number;
+      read = i.read;
+      stack_is = ap (λ (q : Place). q.stack) at ∙ popped p.stack kind.Tick outer same;
+    }

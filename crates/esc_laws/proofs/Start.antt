@@ -1,0 +1,127 @@
+-- The log of a run that has made no step.
+use Rattle.std.proofs.Common.{◌≡◌, ◌≤◌, ℕ, false, [], ◌∷◌, reverse, refl, sym, ◌∙◌, ap, arith, lit<}
+use Rattle.std.proofs.lemmas.List.Elements.{All-nil, All-cons}
+use Rattle.esc_base.specs.declared.kind.Kind.{Kind}
+use Rattle.esc_base.specs.declared.kind.Kind.TheVariants as kind
+use Rattle.esc_base.specs.declared.note.Note.TheVariants as note
+use Rattle.esc_base.specs.Journal.{Journal, time_of}
+use Rattle.esc_base.specs.Trace.{Line, line}
+use Rattle.edge_capture.proofs.Stable.{burst-nil}
+use Rattle.edge_capture.specs.Burst.{burst}
+use Rattle.timer_regs.specs.Effects.{mode_of}
+use Rattle.interrupt_machine.specs.declared.nest.Nest.{Nest}
+use Rattle.interrupt_machine.specs.Response.{Patient}
+use Rattle.arming.specs.Kept.{start}
+use Rattle.arming.specs.Stands.{Stands}
+use Rattle.arming.proofs.FrameTies.{start_stands, other_stands}
+use Rattle.esc_core.specs.Cap.{tick_at}
+use Rattle.esc_core.specs.Firmware.{left_of, new_core}
+use Rattle.esc_laws.specs.Place.{Listens, Place, place, nowhere}
+use Rattle.esc_laws.specs.Seen.{sees}
+use Rattle.esc_laws.specs.Steps.{opening, journal, after, called}
+use Rattle.esc_laws.specs.Windowed.{Windowed}
+use Rattle.esc_laws.specs.Tied.{Keeps}
+use Rattle.esc_laws.specs.Logged.{Marks, Ties, EndsBy, Logged, first_bank}
+use Rattle.esc_laws.proofs.Pushes.{after-none, free-none, called-none}
+
+place-opening : place opening ≡ record nowhere { signal = Listens 0 0; windows = 1; last = 0 }
+unfolding place
+place-opening = refl
+
+place-up : place (note.Up (tick_at 0) 1 ∷ []) ≡ nowhere
+unfolding place
+place-up = refl
+
+line-none : line [] ≡ record { level = false; edges = [] }
+unfolding line
+line-none = refl
+
+opening_in_time : Journal opening
+opening_in_time =
+    (All-nil (λ b. time_of b ≤ 0), (All-cons (λ b. time_of b ≤ 0) (note.Up (tick_at 0) 1) [] (omega arith) (All-nil (λ b. time_of b ≤ 0)), tt))
+
+opening_windowed : Windowed [] opening
+opening_windowed = (tt, (rw place-up (refl, refl), tt))
+
+opening_stands : Stands start (reverse opening)
+opening_stands =
+    other_stands (note.Window (tick_at 0) 0) start (note.Up (tick_at 0) 1 ∷ []) refl refl (other_stands (note.Up (tick_at 0) 1) start [] refl refl start_stands)
+
+start_keeps : Keeps new_core first_bank []
+start_keeps = record {
+  hold = omega arith;
+  enough = λ m. cc;
+  tick_masked = λ n. absurd (omega arith);
+  live = λ k o. cc;
+  shut = λ k o. shut_at k;
+  built = λ k o. cc;
+}
+  where
+    shut_at : (k : Kind) → left_of new_core k ≡ 0
+    shut_at kind.Main = refl
+    shut_at kind.Uart = refl
+    shut_at kind.Tick = refl
+    shut_at kind.Cap = refl
+    shut_at kind.Cmp = refl
+    shut_at kind.Pwm = refl
+    shut_at kind.Comm = refl
+
+start_marks : (nest : Nest) → Marks nest [] new_core first_bank [] []
+start_marks nest = record {
+  in_time = opening_in_time;
+  windowed = opening_windowed;
+  nested = tt;
+  control = opening_stands;
+  stack_is = ap (λ (p : Place). p.stack) (sym place-opening);
+  past = All-cons (λ n. time_of n ≤ 0) (note.Up (tick_at 0) 1) (note.Window (tick_at 0) 0 ∷ []) (omega arith)
+      (All-cons (λ n. time_of n ≤ 0) (note.Window (tick_at 0) 0) [] (omega arith) (All-nil (λ n. time_of n ≤ 0)));
+}
+
+no_burst : [] ≡ burst (line []).edges 0 (mode_of 0)
+no_burst = sym (ap (λ (l : Line). burst l.edges 0 (mode_of 0)) line-none ∙ burst-nil 0 (mode_of 0))
+
+start_ties : Ties [] new_core first_bank []
+start_ties = record {
+  signal = rw place-opening (record {
+    hears = record { armed = refl; mode = refl; opened = refl; edges = no_burst; core_mode = refl; running = refl; no_timer = refl };
+    untaken = refl;
+  });
+  window = record { past = λ k d l. absurd (omega arith); order = λ x y le l. absurd (omega arith); few = omega arith };
+  tick = tt;
+  number = refl;
+  read = omega arith;
+  level = ap (λ (l : Line). l.level) (sym line-none);
+  edges = rw line-none (All-nil (λ e. e.t.0 ≤ 0));
+  small = lit< tt;
+}
+
+start_patient : (nest : Nest) → Patient nest 0 false [] (sees [] (journal []) 0) (called nest [] [])
+start_patient nest = record {
+  bound = λ k w. rw (called-none nest [] k) (omega arith);
+  calm = λ k w. called-none nest [] k;
+  held = λ m. cc;
+}
+
+after_start : (cost : ℕ) → after cost [] [] ≡ 0
+after_start cost = after-none cost [] ∙ free-none 0
+
+pub logged_start : (nest : Nest) (cost : ℕ) → Logged nest cost [] 0 new_core first_bank [] []
+logged_start nest cost =
+    let zero_after = after_start cost in
+    record {
+      keeps = start_keeps;
+      sorted = tt;
+      marks = start_marks nest;
+      ties = start_ties;
+      patient = start_patient nest;
+      owes = λ k o. cc;
+      reached = λ k o. cc;
+      reached_by = λ k o. cc;
+      fits = tt;
+      past = omega arith;
+      awaits = record { open_step = λ o. omega arith; idle = λ o t from below f k. absurd (omega arith) };
+      time = omega arith;
+      put_off = λ u from below. absurd (omega arith);
+      stalls = All-nil (EndsBy 0);
+      at_next = λ o. absurd (o refl);
+    }

@@ -1,0 +1,266 @@
+-- An entry and an own step carry the log on.
+use Rattle.std.proofs.Common.{◌≡◌, nat_lt, ◌≢◌, ◌≤◌, ◌<◌, ◌+◌, ◌/◌, ℕ, Bool, true, false, not, ◌||◌, ◌==◌, if◌then◌else◌, List, [], ◌∷◌, ◌++◌, reverse, Some, None, refl, sym, ◌∙◌, subst, arith, All, ◌⊎◌, inl, inr}
+use Rattle.std.proofs.lemmas.Bool.Decides.{nat_tests}
+use Rattle.std.proofs.lemmas.List.Elements.{All-nil, All-cons, All-weaker}
+use Rattle.esc_base.specs.declared.kind.Kind.{Kind}
+use Rattle.esc_base.specs.declared.kind.Kind.TheVariants as kind
+use Rattle.esc_base.specs.declared.event.Event.{Event}
+use Rattle.esc_base.specs.declared.note.Note.{Note}
+use Rattle.esc_base.specs.Journal.{time_of}
+use Rattle.esc_base.specs.Numbers.{kind_number}
+use Rattle.timer_regs.specs.Bank.{Bank}
+use Rattle.timer_regs.specs.Effects.{after_entry}
+use Rattle.interrupt_machine.specs.declared.nest.Nest.{Nest}
+use Rattle.interrupt_machine.specs.declared.firmware.Did.{Did}
+use Rattle.interrupt_machine.specs.declared.firmware.Did.TheVariants.{More, Return}
+use Rattle.interrupt_machine.specs.Did.{most, accessed}
+use Rattle.interrupt_machine.specs.Open.{is_open, due_now, next_entry, IsStack}
+use Rattle.interrupt_machine.specs.Response.{is_waiting}
+use Rattle.interrupt_machine.specs.Turn.{open_after}
+use Rattle.interrupt_machine.proofs.OpenKinds.{entry_above, same_kind}
+use Rattle.interrupt_machine.proofs.Waiting.{entry_patient, own_patient, entry_highest, entry_masked, highest_is_due, highest_most}
+use Rattle.arming.specs.ControlAt.{number_at}
+use Rattle.esc_core.specs.declared.state.CapAt.{CapAt}
+use Rattle.esc_core.specs.declared.state.TickAt.{TickAt}
+use Rattle.esc_core.specs.declared.state.TickAt.TheVariants as tick
+use Rattle.esc_core.specs.Brain.{Brain}
+use Rattle.esc_core.specs.Stepped.{Stepped, is_return}
+use Rattle.esc_core.specs.Firmware.{left_of, need_of, tick_need, entered_core, kind_step, counted_down}
+use Rattle.esc_core.proofs.Bounds.{Bounds, bounds, core_step-goes}
+use Rattle.esc_laws.specs.Place.{place}
+use Rattle.esc_laws.specs.Seen.{sees}
+use Rattle.esc_laws.specs.Steps.{Turned, notes_in, journal, after, uses, is_of, is_entry, own_steps, steps_since, entered_at, called, StepFits, Below}
+use Rattle.esc_laws.specs.Tied.{Keeps, SignalTied, cap_view, IsBuilt}
+use Rattle.esc_laws.specs.Logged.{Marks, Ties, Logged}
+use Rattle.esc_laws.proofs.Pushes.{own-push, since-push}
+use Rattle.esc_laws.proofs.Facts.{both, same_gates, due_built, tick_due, cap_shut, or_right}
+use Rattle.esc_laws.proofs.Dues.{cap_called}
+use Rattle.esc_laws.proofs.Entries.{enters, entry_same, entered_others, entry_out, keeps_entry}
+use Rattle.esc_laws.proofs.OwnTurns.{IsOwn, steady, step_notes, step_own, open_left}
+use Rattle.esc_laws.proofs.OwnKeeps.{keeps_own, own_out}
+use Rattle.esc_laws.proofs.Turns.{of_self, of_other, some_open, free_ended, reached_on, reached_new, by_on, by_new, own_in, logged_after}
+
+-- ---- what is seen due, and isn't open, is due
+
+not_false : (a : Bool) → not a ≡ true → a ≡ false
+not_false true e = cc
+not_false false e = refl
+
+less_from : (m n : ℕ) → nat_lt m n ≡ true → m < n
+less_from m n e = grind (arith, nat_tests)
+
+waits_due : (nest : Nest) (trace : List Event) (c : Brain) (b : Bank) (stack : List Kind) (log : List Turned) → Keeps c b stack → Marks nest trace c b stack log → Ties trace c b log
+    → (k : Kind) → sees trace (journal log) b.time k ≡ true → is_open stack k ≡ false → due_now false b k ≡ true
+waits_due nest trace c b stack log keeps m t kind.Tick s f =
+    tick_due b (rw (t.number, m.control.ties.number_is) (less_from (number_at (reverse (journal log))) (b.time / 2400) s))
+waits_due nest trace c b stack log keeps m t kind.Cap s f =
+    cap_called (place (journal log)).signal trace c b (place (journal log))
+    (subst (λ (at : CapAt). SignalTied (place (journal log)).signal at (cap_view trace c b (place (journal log)))) (cap_shut c.cap_at (keeps.shut kind.Cap f)) t.signal) s
+waits_due nest trace c b stack log keeps m t kind.Main s f = cc
+waits_due nest trace c b stack log keeps m t kind.Uart s f = cc
+waits_due nest trace c b stack log keeps m t kind.Cmp s f = cc
+waits_due nest trace c b stack log keeps m t kind.Pwm s f = cc
+waits_due nest trace c b stack log keeps m t kind.Comm s f = cc
+
+pub sees_due : (nest : Nest) (trace : List Event) (c : Brain) (b : Bank) (stack : List Kind) (log : List Turned) → Keeps c b stack → Marks nest trace c b stack log → Ties trace c b log
+    → (k : Kind) → is_waiting (sees trace (journal log) b.time) stack k ≡ true → due_now false b k ≡ true
+sees_due nest trace c b stack log keeps m t k e =
+    let parts = both (sees trace (journal log) b.time k) (not (is_open stack k)) e in
+    waits_due nest trace c b stack log keeps m t k parts.0 (not_false (is_open stack k) parts.1)
+
+-- ---- an entry
+
+abbrev entry_of : ℕ → Kind → Turned
+entry_of t k = record { tick = t; kind = k; enters = true; notes = enters k t ∷ [] }
+
+empty_open : (stack : List Kind) (k : Kind) → stack ≡ [] → is_open stack k ≡ false
+empty_open stack k e = rw e refl
+
+entry_fits : (nest : Nest) (cost : ℕ) (trace : List Event) (c : Brain) (b : Bank) (stack : List Kind) (log : List Turned) (k : Kind) → Logged nest cost trace b.time c b stack log
+    → next_entry nest stack (due_now false b) ≡ Some k → ((j : Kind) → called nest trace (log ++ entry_of b.time k ∷ []) j ≤ 8) → StepFits nest cost trace log (entry_of b.time k)
+entry_fits nest cost trace c b stack log k l chosen calls = record {
+  later = l.past;
+  free_at = free_ended trace b.time b.time l.stalls (omega arith);
+  open_step = λ o. l.at_next (λ e. o (sym l.marks.stack_is ∙ e));
+  idle = λ o. l.awaits.idle o;
+  first = λ o. (
+    refl,
+    λ j s. highest_most (due_now false b) k j
+        (waits_due nest trace c b stack log l.keeps l.marks l.ties j s (empty_open stack j (l.marks.stack_is ∙ o))) (entry_highest nest stack (due_now false b) k chosen),
+  );
+  entry = λ e. refl;
+  own = λ e. cc;
+  reached = λ e. cc;
+  some = λ e. cc;
+  few = λ e. cc;
+  at_tick = All-cons (λ n. time_of n ≡ b.time) (enters k b.time) [] refl (All-nil (λ n. time_of n ≡ b.time));
+  no_entry = λ e. cc;
+  patient = calls;
+}
+
+other_open : (k j : Kind) (stack : List Kind) → j ≢ k → is_open (k ∷ stack) j ≡ true → is_open stack j ≡ true
+other_open k j stack ne o = rest_open (kind_number k == kind_number j) (is_open stack j) (of_other k j (λ e. ne (sym e))) o
+  where
+    rest_open : (a b : Bool) → a ≡ false → (a || b) ≡ true → b ≡ true
+    rest_open true b e o = cc
+    rest_open false b e o = o
+
+-- an open kind has as many steps left as its places show
+entry_owes : (c : Brain) (b : Bank) (stack : List Kind) (log : List Turned) (k : Kind) → ((j : Kind) → is_open stack j ≡ true → own_steps j log + left_of c j ≤ most j) → IsBuilt k
+    → (j : Kind) → is_open (k ∷ stack) j ≡ true → own_steps j (log ++ entry_of b.time k ∷ []) + left_of (entered_core c k) j ≤ most j
+entry_owes c b stack log k owes t j o = elim (same_kind j k) [
+  | inl s ↦ subst (λ (x : Kind). own_steps x (log ++ entry_of b.time k ∷ []) + left_of (entered_core c k) x ≤ most x) (sym s) (entered_owes k t)
+  | inr ne ↦ rw (own-push j log (entry_of b.time k), of_other j k ne, entered_other k j t ne) (owes j (other_open k j stack ne o))
+]
+  where
+    entered_owes : (k : Kind) → IsBuilt k → own_steps k (log ++ entry_of b.time k ∷ []) + left_of (entered_core c k) k ≤ most k
+    entered_owes kind.Tick t = rw (own-push kind.Tick log (entry_of b.time kind.Tick)) (omega arith)
+    entered_owes kind.Cap t = rw (own-push kind.Cap log (entry_of b.time kind.Cap)) (omega arith)
+    entered_owes kind.Main t = absurd t
+    entered_owes kind.Uart t = absurd t
+    entered_owes kind.Cmp t = absurd t
+    entered_owes kind.Pwm t = absurd t
+    entered_owes kind.Comm t = absurd t
+
+    entered_other : (k j : Kind) → IsBuilt k → j ≢ k → left_of (entered_core c k) j ≡ left_of c j
+    entered_other k j t ne = entered_others k t c j ne
+
+entry_reached : (cost : ℕ) (trace : List Event) (b : Bank) (stack : List Kind) (log : List Turned) (k : Kind) → (stack ≢ [] → b.time ≡ after cost trace log)
+    → ((j : Kind) → is_open stack j ≡ true → after cost trace log ≡ uses cost trace (steps_since j log + 1) (entered_at j log))
+    → (j : Kind) → is_open (k ∷ stack) j ≡ true
+    → after cost trace (log ++ entry_of b.time k ∷ []) ≡ uses cost trace (steps_since j (log ++ entry_of b.time k ∷ []) + 1) (entered_at j (log ++ entry_of b.time k ∷ []))
+entry_reached cost trace b stack log k at reached j o = elim (same_kind j k) [
+  | inl s ↦ reached_new cost trace log (entry_of b.time k) j (subst (λ (x : Kind). is_of x (entry_of b.time k) ≡ true) (sym s) (of_self k))
+  | inr ne ↦ reached_on cost trace log (entry_of b.time k) j (of_other j k ne) (at (some_open stack j (other_open k j stack ne o))) (reached j (other_open k j stack ne o))
+]
+
+entry_by : (cost : ℕ) (trace : List Event) (b : Bank) (stack : List Kind) (log : List Turned) (k : Kind) → (stack ≢ [] → b.time ≡ after cost trace log)
+    → ((j : Kind) → is_open stack j ≡ true → after cost trace log ≡ uses cost trace (steps_since j log + 1) (entered_at j log))
+    → (j : Kind) → is_open (k ∷ stack) j ≡ true → (t : ℕ) → Below t (log ++ entry_of b.time k ∷ [])
+    → uses cost trace (steps_since j (log ++ entry_of b.time k ∷ [])) (entered_at j (log ++ entry_of b.time k ∷ [])) < t
+entry_by cost trace b stack log k at reached j o t below = elim (same_kind j k) [
+  | inl s ↦ by_new cost trace log (entry_of b.time k) j t (subst (λ (x : Kind). is_of x (entry_of b.time k) ≡ true) (sym s) (of_self k)) below
+  | inr ne ↦ by_on cost trace log (entry_of b.time k) j t (of_other j k ne) (at (some_open stack j (other_open k j stack ne o))) (reached j (other_open k j stack ne o)) below
+]
+
+pub entry_turn : (nest : Nest) (cost : ℕ) (trace : List Event) (c : Brain) (b : Bank) (stack : List Kind) (log : List Turned) (k : Kind) → 1 ≤ cost → Logged nest cost trace b.time c b stack log
+    → b.masked ≡ false → next_entry nest stack (due_now false b) ≡ Some k
+    → Logged nest cost trace (b.time + cost) (entered_core c k) (after_entry b k) (k ∷ stack) (log ++ entry_of b.time k ∷ [])
+entry_turn nest cost trace c b stack log k some l down chosen =
+    let due = highest_is_due (due_now false b) k (entry_highest nest stack (due_now false b) k chosen) in
+    let built : IsBuilt k = due_built b k due in
+    let s = entry_same k built c b in
+    let still : (after_entry b k).masked ≡ false = entry_masked b k ∙ down in
+    logged_after nest cost trace c (entered_core c k) b (after_entry b k) stack (k ∷ stack) log (entry_of b.time k) some refl l (record {
+      keeps = keeps_entry nest c b stack k l.keeps l.sorted down chosen;
+      sorted = (entry_above nest stack (due_now false b) k chosen, l.sorted);
+      same = record { time = s.time; level = s.level };
+      out = entry_out nest trace c b (notes_in log) stack k (own_in nest trace c b stack log l.marks l.ties) l.keeps l.sorted l.marks.stack_is chosen;
+      patient = rw still (entry_patient nest stack (due_now false b) (sees trace (journal log) b.time) (sees trace (journal (log ++ entry_of b.time k ∷ [])) b.time) k c.hold (entered_core c k).hold (called nest trace log)
+          (sees_due nest trace c b stack log l.keeps l.marks l.ties) chosen (rw down at l.patient));
+      owes = entry_owes c b stack log k l.owes built;
+      reached = entry_reached cost trace b stack log k l.at_next l.reached;
+      reached_by = entry_by cost trace b stack log k l.at_next l.reached;
+      fits = entry_fits nest cost trace c b stack log k l chosen;
+    })
+
+-- ---- an own step
+
+need_some : (k : Kind) (c : Brain) → 1 ≤ need_of c k
+need_some kind.Tick c = tick_some c.tick_at
+  where
+    tick_some : (at : TickAt) → 1 ≤ tick_need at
+    tick_some tick.Shut = omega arith
+    tick_some tick.Raise = omega arith
+    tick_some tick.Read = omega arith
+    tick_some tick.Lower = omega arith
+    tick_some tick.Back = omega arith
+need_some kind.Cap c = omega arith
+need_some kind.Main c = omega arith
+need_some kind.Uart c = omega arith
+need_some kind.Cmp c = omega arith
+need_some kind.Pwm c = omega arith
+need_some kind.Comm c = omega arith
+
+abbrev own_of : ℕ → Kind → List Note → Turned
+own_of t k notes = record { tick = t; kind = k; enters = false; notes = notes }
+
+left_open : (v : Bool) (k j : Kind) (outer : List Kind) → is_open (if v then outer else k ∷ outer) j ≡ true → is_open (k ∷ outer) j ≡ true
+left_open true k j outer o = or_right (kind_number k == kind_number j) (is_open outer j) o
+left_open false k j outer o = o
+
+self_open : (k : Kind) (outer : List Kind) → is_open (k ∷ outer) k ≡ true
+self_open k outer = rw (of_self k) refl
+
+left_stack : (v : Bool) (k : Kind) (outer : List Kind) → IsStack (k ∷ outer) → IsStack (if v then outer else k ∷ outer)
+left_stack true k outer s = s.1
+left_stack false k outer s = s
+
+-- the mask is down after a return
+left_goes : (v m : Bool) (k : Kind) (outer : List Kind) → (v ≡ true → m ≡ false) → ((if v then outer else k ∷ outer) ≡ k ∷ outer) ⊎ (m ≡ false)
+left_goes true m k outer back = inr (back refl)
+left_goes false m k outer back = inl refl
+
+own_owes : (c c' : Brain) (outer : List Kind) (log : List Turned) (k : Kind) (t : ℕ) (notes : List Note) (v : Bool) → ((j : Kind) → is_open (k ∷ outer) j ≡ true → own_steps j log + left_of c j ≤ most j)
+    → left_of c' k < left_of c k → ((j : Kind) → j ≢ k → left_of c' j ≡ left_of c j)
+    → (j : Kind) → is_open (if v then outer else k ∷ outer) j ≡ true → own_steps j (log ++ own_of t k notes ∷ []) + left_of c' j ≤ most j
+own_owes c c' outer log k t notes v owes less others j o = elim (same_kind j k) [
+  | inl s ↦ subst (λ (x : Kind). own_steps x (log ++ own_of t k notes ∷ []) + left_of c' x ≤ most x) (sym s)
+      (rw (own-push k log (own_of t k notes), of_self k) (let a = owes k (self_open k outer) in omega arith))
+  | inr ne ↦ rw (own-push j log (own_of t k notes), of_other j k ne, others j ne) (owes j (left_open v k j outer o))
+]
+
+own_fits : (nest : Nest) (cost : ℕ) (trace : List Event) (c : Brain) (b : Bank) (outer : List Kind) (log : List Turned) (k : Kind) (notes : List Note) → Logged nest cost trace b.time c b (k ∷ outer) log
+    → All (IsOwn b.time) notes → ((j : Kind) → called nest trace (log ++ own_of b.time k notes ∷ []) j ≤ 8) → StepFits nest cost trace log (own_of b.time k notes)
+own_fits nest cost trace c b outer log k notes l own calls =
+    let inside : is_open (k ∷ outer) k ≡ true = self_open k outer in
+    let at : b.time ≡ after cost trace log = l.at_next (λ e. cc) in
+    record {
+      later = l.past;
+      free_at = free_ended trace b.time b.time l.stalls (omega arith);
+      open_step = λ o. at;
+      idle = λ o. l.awaits.idle o;
+      first = λ o. (let z : k ∷ outer ≡ [] = l.marks.stack_is ∙ o in cc);
+      entry = λ e. cc;
+      own = λ e. rw (sym l.marks.stack_is) refl;
+      reached = λ e. rw (since-push k log (own_of b.time k notes)) (at ∙ l.reached k inside);
+      some = λ e. rw (own-push k log (own_of b.time k notes), of_self k) (omega arith);
+      few = λ e. rw (own-push k log (own_of b.time k notes), of_self k) (let a = l.owes k inside in let left = l.keeps.live k inside in omega arith);
+      at_tick = All-weaker (IsOwn b.time) (λ n. time_of n ≡ b.time) (λ n p. p.0) notes own;
+      no_entry = λ e. All-weaker (IsOwn b.time) (λ n. is_entry n ≡ false) (λ n p. p.1) notes own;
+      patient = calls;
+    }
+
+abbrev pub stepped_by : Kind → Brain → Bank → Stepped
+stepped_by k c b = kind_step k (counted_down c b) b
+
+pub own_turn : (nest : Nest) (cost : ℕ) (trace : List Event) (c : Brain) (b : Bank) (outer : List Kind) (log : List Turned) (k : Kind) → 1 ≤ cost → Logged nest cost trace b.time c b (k ∷ outer) log
+    → (b.masked ≡ false → next_entry nest (k ∷ outer) (due_now false b) ≡ None)
+    → Logged nest cost trace (b.time + cost) (stepped_by k c b).core (accessed b (stepped_by k c b).access) (open_left k outer (stepped_by k c b)) (log ++ own_of b.time k (step_notes b.time k (stepped_by k c b)) ∷ [])
+own_turn nest cost trace c b outer log k some l none =
+    let s : Stepped = stepped_by k c b in
+    let b' : Bank = accessed b s.access in
+    let notes : List Note = step_notes b.time k s in
+    let inside : is_open (k ∷ outer) k ≡ true = self_open k outer in
+    let built : IsBuilt k = l.keeps.built k inside in
+    let left : 0 < left_of c k = l.keeps.live k inside in
+    let held : b.masked ≡ true → 0 < c.hold = (λ m. (let a = l.keeps.enough m k refl in let n = need_some k c in omega arith)) in
+    let bound : Bounds k c b s = subst (λ (x : Stepped). Bounds k c b x) (core_step-goes k c b (steady k c b (k ∷ outer) l.keeps refl)) (bounds k c b left l.keeps.hold held) in
+    let gates = same_gates b s.access in
+    logged_after nest cost trace c s.core b b' (k ∷ outer) (open_left k outer s) log (own_of b.time k notes) some refl l (record {
+      keeps = keeps_own k c b outer built l.sorted l.keeps left bound;
+      sorted = left_stack s.over k outer l.sorted;
+      same = record { time = gates.time; level = gates.level };
+      out = own_out k built nest trace c b (notes_in log) outer (own_in nest trace c b (k ∷ outer) log l.marks l.ties) (sym l.marks.stack_is) left;
+      patient = own_patient nest k outer (open_left k outer s) (due_now false b) (sees trace (journal log) b.time) (sees trace (journal (log ++ own_of b.time k notes ∷ [])) b.time) b.masked b'.masked c.hold s.core.hold (called nest trace log)
+          (sees_due nest trace c b (k ∷ outer) log l.keeps l.marks l.ties) none (left_goes s.over b'.masked k outer bound.back) held bound.mask.most bound.mask.less l.patient;
+      owes = own_owes c s.core outer log k b.time notes s.over l.owes bound.less bound.others;
+      reached = λ j o. reached_on cost trace log (own_of b.time k notes) j refl (l.at_next (λ e. cc)) (l.reached j (left_open s.over k j outer o));
+      reached_by = λ j o t below. by_on cost trace log (own_of b.time k notes) j t refl (l.at_next (λ e. cc)) (l.reached j (left_open s.over k j outer o)) below;
+      fits = own_fits nest cost trace c b outer log k notes l (step_own k built (counted_down c b) b);
+    })
+
+-- the open kinds after it, by what the handler did
+pub left_is : (k : Kind) (outer : List Kind) (did : Did) (v : Bool) → is_return did ≡ v → open_after k outer did ≡ (if v then outer else k ∷ outer)
+left_is k outer (More own) v e = rw (sym e) refl
+left_is k outer (Return own) v e = rw (sym e) refl

@@ -1,0 +1,201 @@
+-- One step more: the log, the journal, the core and the registers after it.
+use Rattle.std.proofs.Common.{◌≡◌, ◌≢◌, ◌≤◌, ◌<◌, ◌+◌, ℕ, Bool, true, false, ◌&&◌, ◌==◌, nat_le, nat_lt, if◌then◌else◌, List, [], ◌∷◌, ◌++◌, Option, Some, refl, sym, ◌∙◌, ap, subst, arith, All}
+use Rattle.std.specs.List.{fold}
+use Rattle.std.proofs.lemmas.Bool.Decides.{nat_tests}
+use Rattle.std.proofs.lemmas.List.Elements.{All-head, All-tail, All-weaker}
+use Rattle.esc_base.specs.declared.kind.Kind.{Kind}
+use Rattle.esc_base.specs.declared.event.Event.{Event}
+use Rattle.esc_base.specs.declared.event.Event.TheVariants as event
+use Rattle.esc_base.specs.declared.note.Note.{Note}
+use Rattle.esc_base.specs.Journal.{time_of}
+use Rattle.esc_base.specs.Numbers.{kind_number}
+use Rattle.esc_base.specs.Trace.{line}
+use Rattle.timer_regs.specs.Bank.{Bank}
+use Rattle.interrupt_machine.specs.declared.nest.Nest.{Nest}
+use Rattle.interrupt_machine.specs.Did.{most}
+use Rattle.interrupt_machine.specs.Open.{is_open, IsStack}
+use Rattle.interrupt_machine.specs.Response.{is_waiting, wait_next, Patient}
+use Rattle.interrupt_machine.proofs.OpenKinds.{number_same}
+use Rattle.interrupt_machine.proofs.Waiting.{same_patient, patient_most}
+use Rattle.esc_core.specs.Brain.{Brain}
+use Rattle.esc_core.specs.Firmware.{left_of}
+use Rattle.esc_laws.specs.Seen.{sees}
+use Rattle.esc_laws.specs.Steps.{Turned, notes_in, journal, open_in, past_stall, free, next_step, after, uses, is_of, own_steps, steps_since, entered_at, called, StepFits, Below}
+use Rattle.esc_laws.specs.Tied.{Keeps, WindowSound}
+use Rattle.esc_laws.specs.Logged.{Marks, Ties, EndsBy, Logged}
+use Rattle.esc_laws.proofs.Pushes.{notes-push, after-push, entered-push, since-push, called-push, uses-more, step-push}
+use Rattle.esc_laws.proofs.OwnSteps.{OwnIn, OwnOut}
+
+-- ---- kinds
+
+pub of_self : (k : Kind) → (kind_number k == kind_number k) ≡ true
+of_self k = same (kind_number k)
+  where
+    same : (n : ℕ) → (n == n) ≡ true
+    same n = grind (arith, nat_tests)
+
+pub of_other : (j k : Kind) → j ≢ k → (kind_number j == kind_number k) ≡ false
+of_other j k ne = differ (kind_number j) (kind_number k) (λ e. ne (number_same j k e))
+  where
+    differ : (m n : ℕ) → (m ≡ n → ⊥) → (m == n) ≡ false
+    differ m n ne = grind (arith, nat_tests)
+
+pub some_open : (stack : List Kind) (k : Kind) → is_open stack k ≡ true → stack ≢ []
+some_open [] k o = cc
+some_open (x ∷ outer) k o = λ e. cc
+
+-- ---- stalls that are over
+
+stall_over : (e : Event) (t u : ℕ) → EndsBy t e → t ≤ u → past_stall u e ≡ u
+stall_over (event.Stall at n) t u ends le = let l : at.0 + n ≤ u = (let h : at.0 + n ≤ t = ends in omega arith) in kept (nat_le at.0 u) (nat_lt u (at.0 + n)) (at.0 + n) u (late u (at.0 + n) l)
+  where
+    late : (u x : ℕ) → x ≤ u → nat_lt u x ≡ false
+    late u x l = grind (arith, nat_tests)
+
+    kept : (a b : Bool) (x u : ℕ) → b ≡ false → (if a && b then x else u) ≡ u
+    kept true true x u e = cc
+    kept true false x u e = refl
+    kept false b x u e = refl
+stall_over (event.Edge at level) t u ends le = refl
+stall_over (event.Comp at level) t u ends le = refl
+stall_over (event.Serial at byte) t u ends le = refl
+
+ended_from : (trace : List Event) (t u : ℕ) → All (EndsBy t) trace → t ≤ u → fold past_stall u trace ≡ u
+ended_from [] t u ends le = refl
+ended_from (e ∷ trace) t u ends le =
+    ap (λ (x : ℕ). fold past_stall x trace) (stall_over e t u (All-head (EndsBy t) e trace ends) le)
+    ∙ ended_from trace t u (All-tail (EndsBy t) e trace ends) le
+
+-- from there on each tick is free
+pub free_ended : (trace : List Event) (t u : ℕ) → All (EndsBy t) trace → t ≤ u → free trace u ≡ u
+unfolding free
+free_ended trace t u ends le = ended_from trace t u ends le
+
+ends_later : (t u : ℕ) → t ≤ u → (e : Event) → EndsBy t e → EndsBy u e
+ends_later t u le (event.Stall at n) ends = let h : at.0 + n ≤ t = ends in omega arith
+ends_later t u le (event.Edge at level) ends = tt
+ends_later t u le (event.Comp at level) ends = tt
+ends_later t u le (event.Serial at byte) ends = tt
+
+pub all_end_later : (trace : List Event) (t u : ℕ) → t ≤ u → All (EndsBy t) trace → All (EndsBy u) trace
+all_end_later trace t u le ends = All-weaker (EndsBy t) (EndsBy u) (ends_later t u le) trace ends
+
+-- ---- counts of an open kind
+
+pub reached_on : (cost : ℕ) (trace : List Event) (log : List Turned) (e : Turned) (j : Kind) → (e.enters && is_of j e) ≡ false → e.tick ≡ after cost trace log
+    → after cost trace log ≡ uses cost trace (steps_since j log + 1) (entered_at j log)
+    → after cost trace (log ++ e ∷ []) ≡ uses cost trace (steps_since j (log ++ e ∷ []) + 1) (entered_at j (log ++ e ∷ []))
+reached_on cost trace log e j f at h =
+    rw (since-push j log e, entered-push j log e, f)
+    (after-push cost trace log e ∙ ap (λ (t : ℕ). next_step cost trace t) (at ∙ h) ∙ sym (uses-more cost trace (steps_since j log + 1) (entered_at j log)))
+
+pub reached_new : (cost : ℕ) (trace : List Event) (log : List Turned) (e : Turned) (j : Kind) → (e.enters && is_of j e) ≡ true
+    → after cost trace (log ++ e ∷ []) ≡ uses cost trace (steps_since j (log ++ e ∷ []) + 1) (entered_at j (log ++ e ∷ []))
+reached_new cost trace log e j f = rw (since-push j log e, entered-push j log e, f) (after-push cost trace log e)
+
+-- a log's newest step
+last_below : (log : List Turned) (e : Turned) (t : ℕ) → Below t (log ++ e ∷ []) → e.tick < t
+last_below [] e t b = All-head (λ (x : Turned). x.tick < t) e [] b
+last_below (x ∷ log) e t b = last_below log e t (All-tail (λ (y : Turned). y.tick < t) x (log ++ e ∷ []) b)
+
+pub by_on : (cost : ℕ) (trace : List Event) (log : List Turned) (e : Turned) (j : Kind) (t : ℕ) → (e.enters && is_of j e) ≡ false → e.tick ≡ after cost trace log
+    → after cost trace log ≡ uses cost trace (steps_since j log + 1) (entered_at j log) → Below t (log ++ e ∷ [])
+    → uses cost trace (steps_since j (log ++ e ∷ [])) (entered_at j (log ++ e ∷ [])) < t
+by_on cost trace log e j t f at h b =
+    rw (since-push j log e, entered-push j log e, f) (subst (λ (x : ℕ). x < t) (at ∙ h) (last_below log e t b))
+
+pub by_new : (cost : ℕ) (trace : List Event) (log : List Turned) (e : Turned) (j : Kind) (t : ℕ) → (e.enters && is_of j e) ≡ true → Below t (log ++ e ∷ [])
+    → uses cost trace (steps_since j (log ++ e ∷ [])) (entered_at j (log ++ e ∷ [])) < t
+by_new cost trace log e j t f b = rw (since-push j log e, entered-push j log e, f) (last_below log e t b)
+
+-- ---- what holds before a step, for the laws of single steps
+
+pub own_in : (nest : Nest) (trace : List Event) (c : Brain) (b : Bank) (stack : List Kind) (log : List Turned) → Marks nest trace c b stack log → Ties trace c b log → OwnIn nest trace c b (notes_in log)
+own_in nest trace c b stack log m t = record {
+  said = record { journal = m.in_time; windowed = m.windowed; nested = m.nested; past = m.past };
+  control = m.control;
+  signal = t.signal;
+  window = t.window;
+  tick = t.tick;
+  number = t.number;
+  read = t.read;
+  edges = t.edges;
+  small = t.small;
+}
+
+-- a step leaves the time and the line's level
+pub record SameNow (b b' : Bank) : Type 0 where
+  pub time : b'.time ≡ b.time
+  pub level : b'.level ≡ b.level
+
+marks_of : (nest : Nest) (trace : List Event) (c' : Brain) (b b' : Bank) (stack' : List Kind) (log : List Turned) → SameNow b b' → OwnOut nest trace c' b b' (notes_in log) stack' → Marks nest trace c' b' stack' log
+marks_of nest trace c' b b' stack' log s o = record {
+  in_time = o.said.journal;
+  windowed = o.said.windowed;
+  nested = o.said.nested;
+  control = o.control;
+  stack_is = sym o.stack_is;
+  past = subst (λ (t : ℕ). All (λ n. time_of n ≤ t) (journal log)) (sym s.time) o.said.past;
+}
+
+ties_of : (nest : Nest) (trace : List Event) (c' : Brain) (b b' : Bank) (stack' : List Kind) (log before : List Turned) (c : Brain) → SameNow b b' → Ties trace c b before → OwnOut nest trace c' b b' (notes_in log) stack' → Ties trace c' b' log
+ties_of nest trace c' b b' stack' log before c s t o = record {
+  signal = o.signal;
+  window = subst (λ (x : ℕ). WindowSound b'.window x) (sym s.time) o.window;
+  tick = rw s.time o.tick;
+  number = o.number;
+  read = rw s.time o.read;
+  level = s.level ∙ t.level;
+  edges = subst (λ (x : ℕ). All (λ y. y.t.0 ≤ x) (line trace).edges) (sym s.time) t.edges;
+  small = rw s.time t.small;
+}
+
+-- ---- the new log
+
+-- what a step of a kind gives, by its log entry
+pub record Given (nest : Nest) (cost : ℕ) (trace : List Event) (c' : Brain) (b b' : Bank) (stack stack' : List Kind) (log : List Turned) (e : Turned) : Type 0 where
+  pub keeps : Keeps c' b' stack'
+  pub sorted : IsStack stack'
+  pub same : SameNow b b'
+  pub out : OwnOut nest trace c' b b' (notes_in log ++ e.notes) stack'
+  pub patient : Patient nest c'.hold b'.masked stack' (sees trace (journal (log ++ e ∷ [])) b.time)
+      (λ k. wait_next nest k (is_waiting (sees trace (journal log) b.time) stack k) (is_waiting (sees trace (journal (log ++ e ∷ [])) b.time) stack' k) (Some e.kind) (called nest trace log k))
+  pub owes : (k : Kind) → is_open stack' k ≡ true → own_steps k (log ++ e ∷ []) + left_of c' k ≤ most k
+  pub reached : (k : Kind) → is_open stack' k ≡ true → after cost trace (log ++ e ∷ []) ≡ uses cost trace (steps_since k (log ++ e ∷ []) + 1) (entered_at k (log ++ e ∷ []))
+  pub reached_by : (k : Kind) → is_open stack' k ≡ true → (t : ℕ) → Below t (log ++ e ∷ []) → uses cost trace (steps_since k (log ++ e ∷ [])) (entered_at k (log ++ e ∷ [])) < t
+  pub fits : ((k : Kind) → called nest trace (log ++ e ∷ []) k ≤ 8) → StepFits nest cost trace log e
+
+counts_by : (nest : Nest) (k : Kind) (by : Option Kind) (n : ℕ) (seen seen' : ℕ → Kind → Bool) (t u : ℕ) (st now st' now' : List Kind) → t ≡ u → now ≡ st → now' ≡ st'
+    → wait_next nest k (is_waiting (seen t) st k) (is_waiting (seen' t) st' k) by n ≡ wait_next nest k (is_waiting (seen u) now k) (is_waiting (seen' u) now' k) by n
+counts_by nest k by n seen seen' t u st now st' now' e f g = rw (e, f, g) refl
+
+pub logged_after : (nest : Nest) (cost : ℕ) (trace : List Event) (c c' : Brain) (b b' : Bank) (stack stack' : List Kind) (log : List Turned) (e : Turned) → 1 ≤ cost
+    → e.tick ≡ b.time → Logged nest cost trace b.time c b stack log → Given nest cost trace c' b b' stack stack' log e
+    → Logged nest cost trace (b.time + cost) c' b' stack' (log ++ e ∷ [])
+logged_after nest cost trace c c' b b' stack stack' log e some at l g =
+    let out : OwnOut nest trace c' b b' (notes_in (log ++ e ∷ [])) stack' = subst (λ (r : List Note). OwnOut nest trace c' b b' r stack') (sym (notes-push log e)) g.out in
+    let marks = marks_of nest trace c' b b' stack' (log ++ e ∷ []) g.same out in
+    let ends : All (EndsBy (b.time + cost)) trace = all_end_later trace b.time (b.time + cost) (omega arith) l.stalls in
+    let next : after cost trace (log ++ e ∷ []) ≡ b.time + cost = after-push cost trace log e ∙ ap (λ (t : ℕ). next_step cost trace t) at ∙ free_ended trace b.time (b.time + cost) l.stalls (omega arith) in
+    let counts : (k : Kind) → called nest trace (log ++ e ∷ []) k ≡ wait_next nest k (is_waiting (sees trace (journal log) b.time) stack k) (is_waiting (sees trace (journal (log ++ e ∷ [])) b.time) stack' k) (Some e.kind) (called nest trace log k) =
+    (λ k. called-push nest trace log e k
+    ∙ counts_by nest k (Some e.kind) (called nest trace log k) (λ t. sees trace (journal log) t) (λ t. sees trace (journal (log ++ e ∷ [])) t) e.tick b.time (open_in log) stack (open_in (log ++ e ∷ [])) stack'
+    at l.marks.stack_is marks.stack_is) in
+    let patient = same_patient nest c'.hold b'.masked stack' (sees trace (journal (log ++ e ∷ [])) b.time) _ (called nest trace (log ++ e ∷ [])) counts g.patient in
+    record {
+      keeps = g.keeps;
+      sorted = g.sorted;
+      marks = marks;
+      ties = ties_of nest trace c' b b' stack' (log ++ e ∷ []) log c g.same l.ties out;
+      patient = subst (λ (t : ℕ). Patient nest c'.hold b'.masked stack' (sees trace (journal (log ++ e ∷ [])) t) (called nest trace (log ++ e ∷ []))) (sym g.same.time) patient;
+      owes = g.owes;
+      reached = g.reached;
+      reached_by = g.reached_by;
+      fits = step-push (StepFits nest cost trace) [] log e l.fits (g.fits (patient_most nest c'.hold b'.masked stack' (sees trace (journal (log ++ e ∷ [])) b.time) (called nest trace (log ++ e ∷ [])) patient));
+      past = rw next (omega arith);
+      awaits = record { open_step = λ o. rw next (omega arith); idle = λ o t from below f k. absurd (let n = next in omega arith) };
+      time = rw g.same.time (omega arith);
+      put_off = λ u from below past f. absurd (let n = next in omega arith);
+      stalls = ends;
+      at_next = λ o. sym next;
+    }

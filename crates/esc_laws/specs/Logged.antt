@@ -1,0 +1,89 @@
+-- For which trace and which log of steps the core, the registers and the open kinds stand.
+use Rattle.std.specs.Prelude.{◌≡◌, ◌≢◌, ◌<◌, ◌≤◌, ◌+◌, ◌/◌, ℕ, true, false, List, [], reverse, All}
+use Rattle.std.proofs.Common.{inl, inr}
+use Rattle.esc_base.specs.declared.kind.Kind.{Kind}
+use Rattle.esc_base.specs.declared.event.Event.{Event}
+use Rattle.esc_base.specs.declared.event.Event.TheVariants as event
+use Rattle.esc_base.specs.declared.note.Note.{Note}
+use Rattle.esc_base.specs.Journal.{Journal, time_of}
+use Rattle.esc_base.specs.Trace.{line}
+use Rattle.timer_regs.specs.Bank.{Bank}
+use Rattle.timer_regs.specs.Effects.{reset, written}
+use Rattle.timer_regs.specs.declared.regs.Reg.TheVariants as reg
+use Rattle.interrupt_machine.specs.declared.nest.Nest.{Nest}
+use Rattle.interrupt_machine.specs.Did.{most}
+use Rattle.interrupt_machine.specs.Open.{is_open, IsStack}
+use Rattle.interrupt_machine.specs.Response.{Patient}
+use Rattle.interrupt_machine.specs.Turn.{Turn}
+use Rattle.arming.specs.Stands.{Stands}
+use Rattle.esc_core.specs.Brain.{Brain}
+use Rattle.esc_core.specs.Stepped.{IsStepped}
+use Rattle.esc_core.specs.Firmware.{core_step, entered_core, left_of}
+use Rattle.esc_laws.specs.Place.{place}
+use Rattle.esc_laws.specs.Windowed.{Windowed}
+use Rattle.esc_laws.specs.Nested.{NestedAfter}
+use Rattle.esc_laws.specs.Seen.{sees}
+use Rattle.esc_laws.specs.Steps.{Turned, opening, notes_in, journal, open_in, free, after, uses, own_steps, steps_since, entered_at, called, EachStep, StepFits, Awaits, Below}
+use Rattle.esc_laws.specs.Tied.{Keeps, SignalTied, cap_view, WindowSound, TickTied}
+
+-- the registers at the start of a run: the first window is open in mode 0
+abbrev pub first_bank : Bank
+first_bank = written reset reg.CapArm 0
+
+-- the journal keeps its laws, and is no later than now
+pub record Marks (nest : Nest) (trace : List Event) (c : Brain) (b : Bank) (stack : List Kind) (log : List Turned) : Type 0 where
+  pub in_time : Journal (journal log)
+  pub windowed : Windowed trace (journal log)
+  pub nested : NestedAfter nest opening (notes_in log)
+  pub control : Stands c.control (reverse (journal log))
+  pub stack_is : stack ≡ open_in log
+  pub past : All (λ n. time_of n ≤ b.time) (journal log)
+
+-- the core and the registers are what the notes and the trace say
+pub record Ties (trace : List Event) (c : Brain) (b : Bank) (log : List Turned) : Type 0 where
+  pub signal : SignalTied (place (journal log)).signal c.cap_at (cap_view trace c b (place (journal log)))
+  pub window : WindowSound b.window b.time
+  pub tick : TickTied c.tick_at b.number_read b.time (place (journal log)).ticks
+  pub number : b.number_read ≡ c.control.number
+  pub read : b.number_read ≤ b.time / 2400
+  pub level : b.level ≡ (line trace).level
+  pub edges : All (λ e. e.t.0 ≤ b.time) (line trace).edges
+  pub small : b.time < 2147483648
+
+abbrev pub EndsBy : ℕ → Event → Type 0
+EndsBy t (event.Stall at n) = at.0 + n ≤ t
+EndsBy t (event.Edge at level) = Unit {0}
+EndsBy t (event.Comp at level) = Unit {0}
+EndsBy t (event.Serial at byte) = Unit {0}
+
+-- `next` is the tick of the next step, or earlier than it while nothing is due
+pub record Logged (nest : Nest) (cost : ℕ) (trace : List Event) (next : ℕ) (c : Brain) (b : Bank) (stack : List Kind) (log : List Turned) : Type 0 where
+  pub keeps : Keeps c b stack
+  pub sorted : IsStack stack
+  pub marks : Marks nest trace c b stack log
+  pub ties : Ties trace c b log
+  pub patient : Patient nest c.hold b.masked stack (sees trace (journal log) b.time) (called nest trace log)
+  pub owes : (k : Kind) → is_open stack k ≡ true → own_steps k log + left_of c k ≤ most k
+  pub reached : (k : Kind) → is_open stack k ≡ true → after cost trace log ≡ uses cost trace (steps_since k log + 1) (entered_at k log)
+  -- and the newest step of the log stands where `next_step` leads from the entry
+  pub reached_by : (k : Kind) → is_open stack k ≡ true → (t : ℕ) → Below t log → uses cost trace (steps_since k log) (entered_at k log) < t
+  pub fits : EachStep (StepFits nest cost trace) [] log
+  pub past : after cost trace log ≤ next
+  pub awaits : Awaits cost trace next log
+  pub time : b.time ≤ next
+  -- from now to the next step there is no tick that a step could have
+  pub put_off : (u : ℕ) → b.time ≤ u → u < next → after cost trace log ≤ u → free trace u ≢ u
+  -- all stalls are over at the next step
+  pub stalls : All (EndsBy next) trace
+  -- while a kind is open the next step stands at the next tick
+  pub at_next : stack ≢ [] → next ≡ after cost trace log
+
+-- one step of the machine over the core
+abbrev pub CoreTurn : Nest → Brain → List Kind → Bank → List Note → Brain → List Kind → Bank → Type 0
+CoreTurn nest c stack b notes c' stack' b' =
+    Turn (λ x k y. y ≡ entered_core x k) (λ x a k did y a'. IsStepped a (core_step k x a) did y a') (λ x. false) nest c stack b notes c' stack' b'
+
+-- the log's entry for a step, at a tick
+abbrev pub turned : {nest : Nest} {c c' : Brain} {stack stack' : List Kind} {b b' : Bank} → ℕ → (notes : List Note) → CoreTurn nest c stack b notes c' stack' b' → Turned
+turned t notes (inl e) = record { tick = t; kind = e.0; enters = true; notes = notes }
+turned t notes (inr e) = record { tick = t; kind = e.0; enters = false; notes = notes }

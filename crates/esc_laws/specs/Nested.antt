@@ -1,0 +1,50 @@
+-- How activations nest, and which notes belong to which activation.
+use Rattle.std.specs.Prelude.{◌≡◌, ◌<◌, ◌⊎◌, ℕ, List, Some, All}
+use Rattle.esc_base.specs.declared.kind.Kind.{Kind}
+use Rattle.esc_base.specs.declared.kind.Kind.TheVariants as kind
+use Rattle.esc_base.specs.declared.note.Note.{Note}
+use Rattle.esc_base.specs.declared.note.Note.TheVariants as note
+use Rattle.esc_base.specs.Numbers.{kind_number}
+use Rattle.esc_base.specs.Journal.{Each}
+use Rattle.interrupt_machine.specs.declared.nest.Nest.{Nest}
+use Rattle.interrupt_machine.specs.declared.nest.Nest.TheVariants.{One, Full}
+use Rattle.interrupt_machine.specs.Open.{kind_of, innermost}
+use Rattle.esc_laws.specs.Place.{Place, place}
+
+-- an entered kind has a higher number than each open one; with nest 1 none above MAIN is open
+abbrev pub IsAboveAll : Nest → List Kind → ℕ → Type 0
+IsAboveAll Full stack k = All (λ j. kind_number j < k) stack
+IsAboveAll One stack k = All (λ j. (kind_number j ≡ 0) × (0 < k)) stack
+
+-- the innermost open kind
+abbrev pub IsIn : Kind → Place → Type 0
+IsIn k p = innermost p.stack ≡ Some k
+
+-- a TICK that returns has one K; a CAP that returns has one F, or one W without an F
+abbrev pub HasDone : Kind → Place → Type 0
+HasDone kind.Tick p = p.ticks ≡ 1
+HasDone kind.Cap p = (p.verdicts ≡ 1) ⊎ ((p.verdicts ≡ 0) × (p.windows ≡ 1))
+HasDone kind.Main p = Unit {0}
+HasDone kind.Uart p = Unit {0}
+HasDone kind.Cmp p = Unit {0}
+HasDone kind.Pwm p = Unit {0}
+HasDone kind.Comm p = Unit {0}
+
+abbrev pub NestRule : Nest → List Note → Note → Type 0
+NestRule nest before (note.Enter t k) = IsAboveAll nest (place before).stack k
+NestRule nest before (note.Leave t k) = IsIn (kind_of k) (place before) × HasDone (kind_of k) (place before)
+NestRule nest before (note.Window t m) = IsIn kind.Cap (place before)
+NestRule nest before (note.Good t v q) = IsIn kind.Cap (place before)
+NestRule nest before (note.Detected t m) = IsIn kind.Cap (place before)
+NestRule nest before (note.Nothing t) = IsIn kind.Cap (place before)
+NestRule nest before (note.Bad t w) = IsIn kind.Cap (place before)
+NestRule nest before (note.Command t c) = IsIn kind.Cap (place before)
+NestRule nest before (note.Control t n s d) = IsIn kind.Tick (place before)
+NestRule nest before (note.Armed t) = IsIn kind.Tick (place before)
+NestRule nest before (note.Lost t c) = IsIn kind.Tick (place before)
+-- the others don't stand in a journal yet
+NestRule nest before n = ⊥
+
+-- the notes after `before` nest
+abbrev pub NestedAfter : Nest → List Note → List Note → Type 0
+NestedAfter nest before notes = Each (NestRule nest) before notes

@@ -1,0 +1,152 @@
+-- The log of the machine's steps with their ticks, of which the journal is the notes. No value keeps it: an entry has
+-- its own step alone, and each count is a fold over the log.
+use Rattle.std.specs.Prelude.{◌≡◌, ◌≢◌, ◌<◌, ◌≤◌, ◌+◌, ℕ, zero, suc, Bool, true, false, ◌&&◌, ◌==◌, if◌then◌else◌, nat_lt, nat_le, List, [], ◌∷◌, ◌++◌, Some, All}
+use Rattle.std.specs.List.{fold, flat_map}
+use Rattle.esc_base.specs.declared.kind.Kind.{Kind}
+use Rattle.esc_base.specs.declared.event.Event.{Event}
+use Rattle.esc_base.specs.declared.event.Event.TheVariants as event
+use Rattle.esc_base.specs.declared.note.Note.{Note}
+use Rattle.esc_base.specs.declared.note.Note.TheVariants as note
+use Rattle.esc_base.specs.Numbers.{kind_number}
+use Rattle.esc_base.specs.Journal.{time_of}
+use Rattle.interrupt_machine.specs.declared.nest.Nest.{Nest}
+use Rattle.interrupt_machine.specs.Did.{most}
+use Rattle.interrupt_machine.specs.Open.{innermost, is_open}
+use Rattle.interrupt_machine.specs.Response.{is_waiting, wait_next}
+use Rattle.esc_core.specs.Cap.{tick_at}
+use Rattle.esc_laws.specs.Place.{place}
+use Rattle.esc_laws.specs.Seen.{sees}
+
+-- one step of the machine: an entry of the kind, or a step of its own
+pub record Turned : Type 0 where
+  pub tick : ℕ
+  pub kind : Kind
+  pub enters : Bool
+  pub notes : List Note
+
+-- the two first notes: the settings, and the first window
+abbrev pub opening : List Note
+opening = note.Up (tick_at 0) 1 ∷ note.Window (tick_at 0) 0 ∷ []
+
+abbrev pub notes_in : List Turned → List Note
+notes_in log = flat_map (λ e. e.notes) log
+
+abbrev pub journal : List Turned → List Note
+journal log = opening ++ notes_in log
+
+abbrev pub open_in : List Turned → List Kind
+open_in log = (place (journal log)).stack
+
+-- ---- the tick of the next step
+
+-- a tick is put off to the end of a stall that it lies in
+abbrev pub past_stall : ℕ → Event → ℕ
+past_stall t (event.Stall at n) = if nat_le at.0 t && nat_lt t (at.0 + n) then at.0 + n else t
+past_stall t (event.Edge at level) = t
+past_stall t (event.Comp at level) = t
+past_stall t (event.Serial at byte) = t
+
+-- the least tick from t on that lies in no stall, for stalls in the order of their ticks
+unfoldable pub free : List Event → ℕ → ℕ
+free trace t = fold past_stall t trace
+
+-- the least tick that a step after one at t can have
+abbrev pub next_step : ℕ → List Event → ℕ → ℕ
+next_step cost trace t = free trace (t + cost)
+
+-- the same after these steps
+unfoldable pub after : ℕ → List Event → List Turned → ℕ
+after cost trace log = fold (λ n e. next_step cost trace e.tick) (free trace 0) log
+
+-- the tick that so many uses of `next_step` reach
+abbrev pub uses : ℕ → List Event → ℕ → ℕ → ℕ
+uses cost trace zero t = t
+uses cost trace (suc m) t = next_step cost trace (uses cost trace m t)
+
+-- ---- counts over the log
+
+abbrev pub is_of : Kind → Turned → Bool
+is_of k e = kind_number k == kind_number e.kind
+
+-- how many own steps a kind has made since its newest entry
+abbrev pub own_next : Kind → ℕ → Turned → ℕ
+own_next k n e = if is_of k e then (if e.enters then 0 else n + 1) else n
+
+unfoldable pub own_steps : Kind → List Turned → ℕ
+own_steps k log = fold (own_next k) 0 log
+
+-- the tick of a kind's newest entry
+abbrev pub entered_next : Kind → ℕ → Turned → ℕ
+entered_next k t e = if e.enters && is_of k e then e.tick else t
+
+unfoldable pub entered_at : Kind → List Turned → ℕ
+entered_at k log = fold (entered_next k) 0 log
+
+-- how many steps have been made since a kind's newest entry
+abbrev pub since_next : Kind → ℕ → Turned → ℕ
+since_next k n e = if e.enters && is_of k e then 0 else n + 1
+
+unfoldable pub steps_since : Kind → List Turned → ℕ
+steps_since k log = fold (since_next k) 0 log
+
+-- a kind is seen due and isn't open, at a tick after these steps
+abbrev pub is_called : List Event → List Turned → ℕ → Kind → Bool
+is_called trace log t k = is_waiting (sees trace (journal log) t) (open_in log) k
+
+-- for how many counted steps a kind has been called
+abbrev pub called_next : Nest → List Event → Kind → List Turned → ℕ → Turned → ℕ
+called_next nest trace k before n e =
+    wait_next nest k (is_called trace before e.tick k) (is_called trace (before ++ e ∷ []) e.tick k) (Some e.kind) n
+
+abbrev pub called_from : Nest → List Event → Kind → List Turned → ℕ → List Turned → ℕ
+called_from nest trace k before n [] = n
+called_from nest trace k before n (e ∷ rest) = called_from nest trace k (before ++ e ∷ []) (called_next nest trace k before n e) rest
+
+unfoldable pub called : Nest → List Event → List Turned → Kind → ℕ
+called nest trace log k = called_from nest trace k [] 0 log
+
+-- ---- the rules of each step, which look at it and at the steps before
+
+abbrev pub EachStep : (List Turned → Turned → Type 0) → List Turned → List Turned → Type 0
+EachStep P before [] = Unit {0}
+EachStep P before (e ∷ rest) = P before e × EachStep P (before ++ e ∷ []) rest
+
+abbrev pub is_entry : Note → Bool
+is_entry (note.Enter t k) = true
+is_entry n = false
+
+pub record StepFits (nest : Nest) (cost : ℕ) (trace : List Event) (before : List Turned) (e : Turned) : Type 0 where
+  pub later : after cost trace before ≤ e.tick
+  -- no step stands in a stall
+  pub free_at : free trace e.tick ≡ e.tick
+  -- while a kind is open each step stands at the next tick
+  pub open_step : open_in before ≢ [] → e.tick ≡ after cost trace before
+  -- while none is open no kind is seen due at an earlier tick outside of stalls, and the step enters the highest kind that
+  -- is seen due, or a higher one
+  pub idle : open_in before ≡ [] → (t : ℕ) → after cost trace before ≤ t → t < e.tick → free trace t ≡ t → (k : Kind) → sees trace (journal before) t k ≡ false
+  pub first : open_in before ≡ [] → (e.enters ≡ true) × ((k : Kind) → sees trace (journal before) e.tick k ≡ true → kind_number k ≤ kind_number e.kind)
+  -- an entry is its I note, and other steps are those of the innermost kind
+  pub entry : e.enters ≡ true → e.notes ≡ note.Enter (tick_at e.tick) (kind_number e.kind) ∷ []
+  pub own : e.enters ≡ false → innermost (open_in before) ≡ Some e.kind
+  -- an own step, the return too, stands where `next_step` leads from the entry, and is one of 1 to the most of its kind
+  pub reached : e.enters ≡ false → e.tick ≡ uses cost trace (steps_since e.kind (before ++ e ∷ [])) (entered_at e.kind before)
+  pub some : e.enters ≡ false → 1 ≤ own_steps e.kind (before ++ e ∷ [])
+  pub few : e.enters ≡ false → own_steps e.kind (before ++ e ∷ []) ≤ most e.kind
+  -- its notes stand at its tick, at most six, and an own step has no I
+  pub at_tick : All (λ n. time_of n ≡ e.tick) e.notes
+  pub no_entry : e.enters ≡ false → All (λ n. is_entry n ≡ false) e.notes
+  -- no kind that is seen due waits for more than 8 counted steps
+  pub patient : (k : Kind) → called nest trace (before ++ e ∷ []) k ≤ 8
+
+-- no step is due at a tick below this one
+pub record Awaits (cost : ℕ) (trace : List Event) (until : ℕ) (log : List Turned) : Type 0 where
+  pub open_step : open_in log ≢ [] → until ≤ after cost trace log
+  pub idle : open_in log ≡ [] → (t : ℕ) → after cost trace log ≤ t → t < until → free trace t ≡ t → (k : Kind) → sees trace (journal log) t k ≡ false
+
+-- an open activation has made fewer own steps than the most of its kind
+abbrev pub OpenFew : List Turned → Type 0
+OpenFew log = (k : Kind) → is_open (open_in log) k ≡ true → own_steps k log < most k
+
+-- each step stands below this tick
+abbrev pub Below : ℕ → List Turned → Type 0
+Below t log = All (λ e. e.tick < t) log

@@ -1,0 +1,169 @@
+-- What ties the core and the registers to what the notes and the trace say, by where CAP and TICK stand. Each fact holds
+-- between any two steps, whatever higher kinds do meanwhile.
+use Rattle.std.specs.Prelude.{◌≡◌, ◌<◌, ◌≤◌, ◌+◌, ◌-◌, ◌/◌, ◌⊎◌, ℕ, Bool, true, false, List, length, take, Option, Some, None, All}
+use Rattle.esc_base.specs.declared.kind.Kind.{Kind}
+use Rattle.esc_base.specs.declared.kind.Kind.TheVariants as kind
+use Rattle.esc_base.specs.declared.event.Event.{Event}
+use Rattle.esc_base.specs.declared.signal.Edge.{Edge}
+use Rattle.esc_base.specs.declared.signal.Mode.{Mode}
+use Rattle.esc_base.specs.Trace.{line}
+use Rattle.edge_capture.specs.Burst.{burst, close}
+use Rattle.edge_capture.specs.Edges.{IsInOrder}
+use Rattle.edge_capture.specs.Modes.{most}
+use Rattle.edge_capture.specs.Window.{Window}
+use Rattle.timer_regs.specs.Bank.{Bank}
+use Rattle.timer_regs.specs.Effects.{mode_of}
+use Rattle.interrupt_machine.specs.Open.{innermost, is_open}
+use Rattle.esc_core.specs.declared.state.CapAt.{CapAt}
+use Rattle.esc_core.specs.declared.state.CapAt.TheVariants as cap
+use Rattle.esc_core.specs.declared.state.TickAt.{TickAt}
+use Rattle.esc_core.specs.declared.state.TickAt.TheVariants as tick
+use Rattle.esc_core.specs.Brain.{Brain}
+use Rattle.esc_core.specs.Firmware.{left_of, need_of, tick_need}
+use Rattle.esc_laws.specs.Place.{Signal, Silent, Listens, Judged, Rests, Place}
+
+-- what the core, the registers and the notes say of the signal line
+pub record CapView : Type 0 where
+  pub trace : List Event
+  pub time : ℕ
+  pub window : Window
+  pub taken : Bool
+  pub timer : Option ℕ
+  pub mode : Mode
+  pub copied : List Edge
+  pub paused : Bool
+  pub entered : ℕ
+  pub windows : ℕ
+  pub verdicts : ℕ
+
+abbrev pub cap_view : List Event → Brain → Bank → Place → CapView
+cap_view trace c b p = record {
+  trace = trace;
+  time = b.time;
+  window = b.window;
+  taken = b.taken;
+  timer = b.timer;
+  mode = c.window;
+  copied = c.burst;
+  paused = c.paused;
+  entered = p.cap_entered;
+  windows = p.windows;
+  verdicts = p.verdicts;
+}
+
+-- the capture has heard what the window that opened at w in this mode hears of the trace
+pub record Hears (v : CapView) (w m : ℕ) : Type 0 where
+  pub armed : v.window.armed ≡ true
+  pub mode : v.window.mode ≡ mode_of m
+  pub opened : v.window.opened ≡ w
+  pub edges : v.window.edges ≡ burst (line v.trace).edges w (mode_of m)
+  pub core_mode : v.mode ≡ mode_of m
+  pub running : v.paused ≡ false
+  pub no_timer : v.timer ≡ None
+
+-- CAP was entered at or after the window's close, and has noted nothing
+pub record IsClosing (v : CapView) (w m : ℕ) : Type 0 where
+  pub hears : Hears v w m
+  pub closed_at : ℕ
+  pub closes : close (line v.trace).edges w (mode_of m) ≡ Some closed_at
+  pub waits : closed_at ≤ v.entered
+  pub entered : v.entered ≤ v.time
+  pub taken : v.taken ≡ true
+  pub no_window : v.windows ≡ 0
+  pub no_verdict : v.verdicts ≡ 0
+
+-- and has copied all edges of the burst but so many
+pub record IsCopying (v : CapView) (w m rest : ℕ) : Type 0 where
+  pub closing : IsClosing v w m
+  pub copied : v.copied ≡ take (length v.window.edges - rest) v.window.edges
+  pub some : 1 ≤ rest
+  pub within : rest ≤ length v.window.edges
+
+-- the window listens, and no close of it was taken
+pub record IsListening (v : CapView) (w m : ℕ) : Type 0 where
+  pub hears : Hears v w m
+  pub untaken : v.taken ≡ false
+
+-- a verdict stands, and the window timer is not set
+pub record IsJudged (v : CapView) : Type 0 where
+  pub verdict : v.verdicts ≡ 1
+  pub taken : v.taken ≡ true
+  pub running : v.paused ≡ false
+  pub no_timer : v.timer ≡ None
+
+-- the window timer is set for 600 ticks after the F
+pub record IsPaused (v : CapView) (f : ℕ) : Type 0 where
+  pub taken : v.taken ≡ true
+  pub paused : v.paused ≡ true
+  pub timer : v.timer ≡ Some (f + 600)
+
+-- it was reached, and CAP has noted nothing
+pub record IsOver (v : CapView) (f : ℕ) : Type 0 where
+  pub taken : v.taken ≡ true
+  pub paused : v.paused ≡ true
+  pub no_timer : v.timer ≡ None
+  pub reached : f + 600 ≤ v.time
+  pub no_window : v.windows ≡ 0
+  pub no_verdict : v.verdicts ≡ 0
+
+-- what a CAP that is about to return has done
+abbrev pub CapIsDone : CapView → Type 0
+CapIsDone v = (v.verdicts ≡ 1) ⊎ ((v.verdicts ≡ 0) × (v.windows ≡ 1))
+
+abbrev pub SignalTied : Signal → CapAt → CapView → Type 0
+SignalTied Silent at v = ⊥
+SignalTied (Listens w m) cap.Shut v = IsListening v w m
+SignalTied (Listens w m) cap.Start v = IsClosing v w m
+SignalTied (Listens w m) (cap.Copy rest) v = IsCopying v w m rest
+SignalTied (Listens w m) cap.Judge v = IsClosing v w m × (v.copied ≡ v.window.edges)
+SignalTied (Listens w m) cap.Open v = ⊥
+SignalTied (Listens w m) (cap.Pause at) v = ⊥
+SignalTied (Listens w m) cap.Back v = IsListening v w m × CapIsDone v
+SignalTied (Judged f opens) cap.Open v = IsJudged v × (opens ≡ true)
+SignalTied (Judged f opens) (cap.Pause at) v = IsJudged v × ((opens ≡ false) × (at ≡ f + 600))
+SignalTied (Judged f opens) cap.Back v = IsPaused v f × ((opens ≡ false) × (v.verdicts ≡ 1))
+SignalTied (Judged f opens) cap.Shut v = ⊥
+SignalTied (Judged f opens) cap.Start v = ⊥
+SignalTied (Judged f opens) (cap.Copy rest) v = ⊥
+SignalTied (Judged f opens) cap.Judge v = ⊥
+SignalTied (Rests f r) cap.Shut v = IsPaused v f
+SignalTied (Rests f r) cap.Start v = IsOver v f
+SignalTied (Rests f r) (cap.Copy rest) v = ⊥
+SignalTied (Rests f r) cap.Judge v = ⊥
+SignalTied (Rests f r) cap.Open v = ⊥
+SignalTied (Rests f r) (cap.Pause at) v = ⊥
+SignalTied (Rests f r) cap.Back v = ⊥
+
+-- the edges that the capture has heard
+pub record WindowSound (w : Window) (time : ℕ) : Type 0 where
+  pub past : All (λ e. e.t.0 ≤ time) w.edges
+  pub order : IsInOrder w.edges
+  pub few : length w.edges ≤ most w.mode
+
+-- how far TICK has come: the control tick's number that was read, the time, and the K since its entry
+abbrev pub TickTied : TickAt → ℕ → ℕ → ℕ → Type 0
+TickTied tick.Shut read time ticks = Unit {0}
+TickTied tick.Raise read time ticks = (read < time / 2400) × (ticks ≡ 0)
+TickTied tick.Read read time ticks = (read < time / 2400) × (ticks ≡ 0)
+TickTied tick.Lower read time ticks = ticks ≡ 1
+TickTied tick.Back read time ticks = ticks ≡ 1
+
+-- the kinds that are built
+abbrev pub IsBuilt : Kind → Type 0
+IsBuilt kind.Tick = Unit {0}
+IsBuilt kind.Cap = Unit {0}
+IsBuilt kind.Main = ⊥
+IsBuilt kind.Uart = ⊥
+IsBuilt kind.Cmp = ⊥
+IsBuilt kind.Pwm = ⊥
+IsBuilt kind.Comm = ⊥
+
+-- what holds between any two steps of the core, the registers and the open kinds
+pub record Keeps (c : Brain) (b : Bank) (stack : List Kind) : Type 0 where
+  pub hold : c.hold ≤ 8
+  -- the mask stands long enough for the innermost handler to lower it, which is TICK at a masked place
+  pub enough : b.masked ≡ true → (k : Kind) → innermost stack ≡ Some k → need_of c k ≤ c.hold
+  pub tick_masked : tick_need c.tick_at ≤ 8 → (b.masked ≡ true) × (innermost stack ≡ Some kind.Tick)
+  pub live : (k : Kind) → is_open stack k ≡ true → 0 < left_of c k
+  pub shut : (k : Kind) → is_open stack k ≡ false → left_of c k ≡ 0
+  pub built : (k : Kind) → is_open stack k ≡ true → IsBuilt k
