@@ -1,0 +1,187 @@
+-- A step more, and what time and events do to the steps' places.
+use Rattle.std.proofs.Common.{◌≡◌, ◌<◌, ◌≤◌, ◌+◌, ℕ, Bool, false, List, [], ◌∷◌, ◌++◌, append-nil, append_assoc, length, All, Option, Some, None, inl, inr, max, refl, sym, ◌∙◌, ap, subst, arith}
+use Rattle.std.proofs.lemmas.List.Elements.{All-push, All-weaker, All-append, All-nil, All-cons, All-head, All-tail}
+use Rattle.esc_base.specs.declared.event.Event.{Event}
+use Rattle.esc_base.specs.declared.event.Event.TheVariants as event
+use Rattle.esc_base.specs.declared.tick.Tick.{Tick}
+use Rattle.esc_base.specs.Journal.{time_of}
+use Rattle.esc_base.specs.Trace.{tick_of as tick_of_event}
+use Rattle.esc_base.specs.declared.kind.Kind.{Kind}
+use Rattle.esc_base.specs.declared.note.Note.{Note}
+use Rattle.timer_regs.specs.Bank.{Bank}
+use Rattle.timer_regs.specs.Effects.{advanced, after_line}
+use Rattle.timer_regs.specs.NextDue.{tick_of, IsNext, IsNextDue}
+use Rattle.esc_core.specs.Cap.{tick_at}
+use Rattle.interrupt_machine.specs.declared.nest.Nest.{Nest}
+use Rattle.interrupt_machine.specs.Open.{due_now, is_idle}
+use Rattle.esc_core.specs.Brain.{Brain}
+use Rattle.esc_laws.specs.Steps.{Turned, journal, Below, EachStep, StepFits}
+use Rattle.esc_laws.specs.Legal.{Legal}
+use Rattle.esc_laws.specs.Logged.{Logged, CoreTurn, turned}
+use Rattle.esc_laws.proofs.Pushes.{step-push}
+use Rattle.trace_runner.specs.Run.{IsApart, StepBound, LeftBelow, StandsFor, nest_of, cost_of, newest}
+use Rattle.trace_runner.specs.declared.state.Runner.{Runner}
+use Rattle.esc_laws.proofs.Carried.{turn_logged, time_logged, edge_logged, comp_logged, serial_logged, stall_logged, legal_logged, front_logged}
+
+pub bound_push : (cost until : ℕ) (steps : List Turned) (e : Turned) → StepBound cost until steps → All (λ d. d.tick + cost ≤ e.tick) steps → e.tick < until → length e.notes ≤ 6 → StepBound cost until (steps ++ e ∷ [])
+bound_push cost until steps e b s lt few = record {
+  apart = step-push (IsApart cost) [] steps e b.apart s;
+  below = All-push (λ d. d.tick < until) steps e b.below lt;
+  few = All-push (λ d. length d.notes ≤ 6) steps e b.few few;
+}
+
+pub bound_until : (cost t until : ℕ) (steps : List Turned) → t ≤ until → StepBound cost t steps → StepBound cost until steps
+bound_until cost t until steps le b = record {
+  apart = b.apart;
+  below = All-weaker (λ d. d.tick < t) (λ d. d.tick < until) (λ d lt. omega arith) steps b.below;
+  few = b.few;
+}
+
+pub spaced_later : (cost t next : ℕ) (steps : List Turned) → t ≤ next → All (λ d. d.tick + cost ≤ t) steps → All (λ d. d.tick + cost ≤ next) steps
+spaced_later cost t next steps le s = All-weaker (λ d. d.tick + cost ≤ t) (λ d. d.tick + cost ≤ next) (λ d lt. omega arith) steps s
+
+pub spaced_push : (cost next : ℕ) (steps : List Turned) (e : Turned) → e.tick ≡ next → All (λ d. d.tick + cost ≤ next) steps → All (λ d. d.tick + cost ≤ next + cost) (steps ++ e ∷ [])
+spaced_push cost next steps e at s =
+    All-push (λ d. d.tick + cost ≤ next + cost) steps e (spaced_later cost next (next + cost) steps (omega arith) s) (omega arith)
+
+pub tick_bound : (cost next limit : ℕ) (steps : List Turned) (e : Turned) → e.tick ≡ next → next < limit → length e.notes ≤ 6 → All (λ d. d.tick + cost ≤ next) steps → StepBound cost limit steps → StepBound cost limit (steps ++ e ∷ [])
+tick_bound cost next limit steps e at lt few s b = bound_push cost limit steps e b (spaced_later cost next e.tick steps (omega arith) s) (omega arith) few
+
+pub below_next : (cost next : ℕ) (steps : List Turned) → 1 ≤ cost → All (λ d. d.tick + cost ≤ next) steps → Below next steps
+below_next cost next steps some s = All-weaker (λ d. d.tick + cost ≤ next) (λ d. d.tick < next) (λ d lt. omega arith) steps s
+
+-- ---- one step
+
+pub turned-tick : {nest : Nest} {c c' : Brain} {stack stack' : List Kind} {b b' : Bank} (t : ℕ) (notes : List Note) (e : CoreTurn nest c stack b notes c' stack' b') → (turned t notes e).tick ≡ t
+turned-tick t notes (inl e) = refl
+turned-tick t notes (inr e) = refl
+
+pub turned-notes : {nest : Nest} {c c' : Brain} {stack stack' : List Kind} {b b' : Bank} (t : ℕ) (notes : List Note) (e : CoreTurn nest c stack b notes c' stack' b') → (turned t notes e).notes ≡ notes
+turned-notes t notes (inl e) = refl
+turned-notes t notes (inr e) = refl
+
+-- ---- what `Logged` becomes, with the numbers that the runner has at hand
+
+pub step_logged : (nest nest' : Nest) (cost next : ℕ) (trace : List Event) (c c' : Brain) (b b' : Bank) (stack stack' : List Kind) (steps : List Turned) (notes : List Note)
+    → nest' ≡ nest → b.time ≡ next → 1 ≤ cost → next + cost < 2147483648 → Logged nest cost trace next c b stack steps → is_idle stack (due_now false b) ≡ false
+    → (t : CoreTurn nest c stack b notes c' stack' b')
+    → Logged nest' cost trace (next + cost) c' b' stack' (steps ++ turned b.time notes t ∷ [])
+step_logged nest nest' cost next trace c c' b b' stack stack' steps notes same at some small l busy t =
+    rw same (subst (λ (n : ℕ). Logged nest cost trace (n + cost) c' b' stack' (steps ++ turned b.time notes t ∷ [])) at
+    (turn_logged nest cost trace c c' b b' stack stack' steps notes some (omega arith) (subst (λ (n : ℕ). Logged nest cost trace n c b stack steps) (sym at) l) busy t))
+
+each_last : (P : List Turned → Turned → Type 0) (before log : List Turned) (e : Turned) → EachStep P before (log ++ e ∷ []) → P (before ++ log) e
+each_last P before [] e s = rw (append-nil before) s.0
+each_last P before (x ∷ log) e s = subst (λ (es : List Turned). P es e) (append_assoc before (x ∷ []) log) (each_last P (before ++ x ∷ []) log e s.1)
+
+all_front : (P : Note → Type 0) (xs ys : List Note) → All P (xs ++ ys) → All P xs
+all_front P [] ys a = All-nil P
+all_front P (x ∷ xs) ys a = All-cons P x xs (All-head P x (xs ++ ys) a) (all_front P xs ys (All-tail P x (xs ++ ys) a))
+
+-- the notes of a step stand at its tick
+own_below : (nest : Nest) (cost until : ℕ) (trace : List Event) (steps : List Turned) (e : Turned) (front rest : List Note) → e.notes ≡ front ++ rest → e.tick < until
+    → EachStep (StepFits nest cost trace) [] (steps ++ e ∷ []) → All (λ n. time_of n < until) front
+own_below nest cost until trace steps e front rest split lt fits =
+    let f : StepFits nest cost trace steps e = each_last (StepFits nest cost trace) [] steps e fits in
+    let at : All (λ n. time_of n ≡ e.tick) (front ++ rest) = subst (λ (ns : List Note). All (λ n. time_of n ≡ e.tick) ns) split f.at_tick in
+    All-weaker (λ n. time_of n ≡ e.tick) (λ n. time_of n < until) (λ n is. omega arith) front (all_front (λ n. time_of n ≡ e.tick) front rest at)
+
+-- what is left where only a front of a step's notes was written
+pub step_breaks : (nest : Nest) (cost next until : ℕ) (trace : List Event) (c c' : Brain) (b b' : Bank) (stack stack' : List Kind) (steps : List Turned) (notes front rest : List Note)
+    → b.time ≡ next → next < until → 1 ≤ cost → next + cost < 2147483648 → Logged nest cost trace next c b stack steps → is_idle stack (due_now false b) ≡ false
+    → CoreTurn nest c stack b notes c' stack' b' → Below next steps → notes ≡ front ++ rest → LeftBelow nest cost until trace (journal steps ++ front)
+step_breaks nest cost next until trace c c' b b' stack stack' steps notes front rest at lt some small l busy t below split =
+    let e : Turned = turned b.time notes t in
+    let tick : e.tick ≡ next = turned-tick b.time notes t ∙ at in
+    let own : e.notes ≡ front ++ rest = turned-notes b.time notes t ∙ split in
+    let after : Logged nest cost trace (next + cost) c' b' stack' (steps ++ e ∷ []) = step_logged nest nest cost next trace c c' b b' stack stack' steps notes refl at some small l busy t in
+    record {
+      legal = front_logged nest cost trace (next + cost) c' b' stack' steps e front rest own (subst (λ (n : ℕ). Below n steps) (sym tick) below) after;
+      below = All-append (λ n. time_of n < until) (journal steps) front
+          (All-weaker (λ n. time_of n ≤ b.time) (λ n. time_of n < until) (λ n le. omega arith) (journal steps) l.marks.past)
+          (own_below nest cost until trace steps e front rest own (omega arith) after.fits);
+    }
+
+-- ---- an idle jump
+
+-- a jump reaches a tick that isn't after the one at which something becomes due
+pub record JumpsTo (time limit : ℕ) (due : Option ℕ) (to : ℕ) : Type 0 where
+  pub later : time ≤ to
+  pub within : to ≤ limit
+  pub no_later : (d : ℕ) → due ≡ Some d → to ≤ d
+
+tick_is : (o : Option Tick) (u : Tick) (d : ℕ) → o ≡ Some u → tick_of o ≡ Some d → u.0 ≡ d
+tick_is o u d e h = let f : Some u.0 ≡ Some d = sym (ap (λ (x : Option Tick). tick_of x) e) ∙ h in cc
+
+pub jumps_to_due : (b : Bank) (limit : ℕ) (o : Option Tick) (u to : Tick) → IsNextDue b (tick_of o) → o ≡ Some u → u.0 < limit → to ≡ u → JumpsTo b.time limit (tick_of o) to.0
+jumps_to_due b limit o u to next e lt same =
+    let n : IsNext b u.0 = subst (λ (x : Option Tick). IsNextDue b (tick_of x)) e next in
+    let l : b.time < u.0 = n.later in
+    let s : to.0 ≡ u.0 = ap (λ (x : Tick). x.0) same in
+    record { later = omega arith; within = omega arith; no_later = λ d h. (let f : u.0 ≡ d = tick_is o u d e h in omega arith) }
+
+pub jumps_to_limit : (b : Bank) (limit to : Tick) (o : Option Tick) → b.time ≤ limit.0 → to ≡ limit → ((d : ℕ) → tick_of o ≡ Some d → limit.0 ≤ d) → JumpsTo b.time limit.0 (tick_of o) to.0
+jumps_to_limit b limit to o le same f =
+    let s : to.0 ≡ limit.0 = ap (λ (x : Tick). x.0) same in
+    record { later = omega arith; within = omega arith; no_later = λ d h. (let g : limit.0 ≤ d = f d h in omega arith) }
+
+pub due_after : (o : Option Tick) (u : Tick) (limit : ℕ) → o ≡ Some u → limit ≤ u.0 → (d : ℕ) → tick_of o ≡ Some d → limit ≤ d
+due_after o u limit e le d h = let f : u.0 ≡ d = tick_is o u d e h in omega arith
+
+pub none_due : (o : Option Tick) (limit : ℕ) → o ≡ None → (d : ℕ) → tick_of o ≡ Some d → limit ≤ d
+none_due o limit e d h = let f : None ≡ Some d = sym (ap (λ (x : Option Tick). tick_of x) e) ∙ h in absurd (cc)
+
+-- ---- events, at the limit
+
+at_limit : (t : Tick) (n : ℕ) → n ≡ t.0 → t ≡ tick_at n
+at_limit t n e = rw e refl
+
+with_event : (nest : Nest) (cost : ℕ) (trace : List Event) (e e' : Event) (next : ℕ) (c : Brain) (b b' : Bank) (stack : List Kind) (steps : List Turned) → e ≡ e' → b ≡ b'
+    → Logged nest cost (trace ++ e' ∷ []) next c b' stack steps → Logged nest cost (trace ++ e ∷ []) next c b stack steps
+with_event nest cost trace e e' next c b b' stack steps same bank l = rw (same, bank) l
+
+-- the runner's place before an event: all steps are below it
+pub record IsReady (nest : Nest) (cost : ℕ) (trace : List Event) (next : ℕ) (c : Brain) (b : Bank) (stack : List Kind) (steps : List Turned) (limit : ℕ) : Type 0 where
+  pub logged : Logged nest cost trace next c b stack steps
+  pub below : Below limit steps
+  pub later : b.time ≤ limit
+  pub reached : limit ≤ next
+  pub small : limit < 2147483648
+
+module _ (nest : Nest) (cost : ℕ) (trace : List Event) (next : ℕ) (c : Brain) (b b' : Bank) (stack : List Kind) (steps : List Turned) (limit : ℕ) (e : Event) (t : Tick) where
+  at_event : IsReady nest cost trace next c b stack steps limit → Logged nest cost trace next c (advanced b limit) stack steps
+  at_event r = time_logged nest cost trace next c b stack steps limit r.later r.reached r.small r.logged
+
+  pub edge_later : (level : Bool) → e ≡ event.Edge t level → limit ≡ tick_of_event e → b' ≡ after_line (advanced b limit) level → IsReady nest cost trace next c b stack steps limit
+      → Logged nest cost (trace ++ e ∷ []) next c b' stack steps
+  edge_later level is at bank r =
+      let n : limit ≡ t.0 = subst (λ (x : Event). limit ≡ tick_of_event x) is at in
+      with_event nest cost trace e (event.Edge (tick_at limit) level) next c b' (after_line (advanced b limit) level) stack steps (is ∙ ap (λ (u : Tick). event.Edge u level) (at_limit t limit n)) bank
+      (edge_logged nest cost trace next c (advanced b limit) stack steps level r.below (at_event r))
+
+  pub comp_later : (level : Bool) → e ≡ event.Comp t level → limit ≡ tick_of_event e → b' ≡ advanced b limit → IsReady nest cost trace next c b stack steps limit
+      → Logged nest cost (trace ++ e ∷ []) next c b' stack steps
+  comp_later level is at bank r =
+      let n : limit ≡ t.0 = subst (λ (x : Event). limit ≡ tick_of_event x) is at in
+      with_event nest cost trace e (event.Comp (tick_at limit) level) next c b' (advanced b limit) stack steps (is ∙ ap (λ (u : Tick). event.Comp u level) (at_limit t limit n)) bank
+      (comp_logged nest cost trace next c (advanced b limit) stack steps level r.below (at_event r))
+
+  pub serial_later : (byte : ℕ) → e ≡ event.Serial t byte → limit ≡ tick_of_event e → b' ≡ advanced b limit → IsReady nest cost trace next c b stack steps limit
+      → Logged nest cost (trace ++ e ∷ []) next c b' stack steps
+  serial_later byte is at bank r =
+      let n : limit ≡ t.0 = subst (λ (x : Event). limit ≡ tick_of_event x) is at in
+      with_event nest cost trace e (event.Serial (tick_at limit) byte) next c b' (advanced b limit) stack steps (is ∙ ap (λ (u : Tick). event.Serial u byte) (at_limit t limit n)) bank
+      (serial_logged nest cost trace next c (advanced b limit) stack steps byte r.below (at_event r))
+
+  pub stall_later : (n next' : ℕ) → e ≡ event.Stall t n → limit ≡ tick_of_event e → b' ≡ advanced b limit → next' ≡ max next (t.0 + n) → IsReady nest cost trace next c b stack steps limit
+      → Logged nest cost (trace ++ e ∷ []) next' c b' stack steps
+  stall_later n next' is at bank put_off r =
+      let u : limit ≡ t.0 = subst (λ (x : Event). limit ≡ tick_of_event x) is at in
+      subst (λ (k : ℕ). Logged nest cost (trace ++ e ∷ []) k c b' stack steps) (ap (λ (k : ℕ). max next (k + n)) u ∙ sym put_off)
+      (with_event nest cost trace e (event.Stall (tick_at limit) n) (max next (limit + n)) c b' (advanced b limit) stack steps (is ∙ ap (λ (x : Tick). event.Stall x n) (at_limit t limit u)) bank
+      (stall_logged nest cost trace next c (advanced b limit) stack steps n r.below (at_event r)))
+
+-- ---- what a runner that stands says
+
+pub legal_at : (r : Runner) (trace : List Event) (steps : List Turned) → StandsFor r trace steps → Legal (nest_of r) (cost_of r) trace (newest r) (journal steps)
+legal_at r trace steps st = legal_logged r.machine.nest r.cost trace r.next.0 r.machine.firmware r.regs r.machine.open_kinds steps r.limit.0 st.reached st.runs.bound.below st.runs.logged

@@ -1,0 +1,11 @@
+//! A run of the core on a trace of outside events: time, the step cost and stalls, the events, and the journal's lines.
+#![tactic(auto)]
+
+mod lines;
+mod runner;
+mod start;
+mod state;
+#[cfg(test)]
+mod tests;
+
+pub use state::{RunConfig, Runner, WriteFault};

@@ -1,0 +1,203 @@
+//! All steps before an event's tick, the lines of their notes, and then the event.
+ghost use Rattle.std.specs.Prelude.{◌≡◌, ◌<◌, ◌≤◌, ◌+◌, ◌++◌, ◌∷◌, [], List, OnOk, OnErr, true, false};
+ghost use Rattle.esc_base.specs.declared.event.Event.{Event as AnEvent};
+ghost use Rattle.esc_base.specs.Outside.{Rose};
+ghost use Rattle.esc_base.specs.Trace.{tick_of as tick_of_event};
+ghost use Rattle.trace_text.specs.Ahead.{StallFits};
+ghost use Rattle.interrupt_machine.specs.Open.{due_now, is_idle};
+ghost use Rattle.esc_laws.specs.Steps.{Turned, journal};
+ghost use Rattle.esc_laws.specs.Legal.{Legal};
+ghost use Rattle.trace_runner.specs.Run.{Runs, StandsFor, StepBound, LeftBelow, GoesOn, BreaksOff, nest_of, cost_of, newest};
+
+use crate::lines::put_notes;
+use crate::{Runner, WriteFault};
+use esc_base::{Event, Sink, Tick};
+
+fn tick_of(e: Event) -> Tick
+    ensures { result.0 ≡ tick_of_event e }
+{
+    match e {
+        Event::Edge { t, .. } => t,
+        Event::Comp { t, .. } => t,
+        Event::Serial { t, .. } => t,
+        Event::Stall { t, .. } => t,
+    }
+}
+
+impl Runner {
+    /// Makes all steps before the event's tick, and then applies the event. Its tick, at most 1073741824, isn't before
+    /// that of the last event.
+    pub fn feed<K: Sink>(&mut self, e: Event, out: &mut K) -> Result<(), WriteFault>
+        requires small { tick_of_event e ≤ 1073741824 }
+        requires later { newest self.old ≤ tick_of_event e }
+        requires stall { StallFits e }
+
+        // What stood for a trace and some steps stands for them with this event and the new steps, whose lines the sink
+        // took; or some lines were taken, and one was refused, all of notes before the event's tick.
+        ensures goes { OnOk result (GoesOn K.given K.took (StandsFor self.old) (StandsFor self.new) (e ∷ []) out.old out.new) }
+        ensures breaks { OnErr result (BreaksOff K.given K.took K.broke (StandsFor self.old) (LeftBelow (nest_of self.old) (cost_of self.old) (newest self.new)) out.old out.new) }
+        ensures failed { OnErr result (Rose (K.faults out.old) (K.faults out.new)) }
+        ensures no_fewer { K.faults out.old ≤ K.faults out.new }
+
+        // What it stands for is a legal journal up to the event's tick, whose steps are by the cost apart.
+        ensures legal { OnOk result ((trace : List AnEvent) (steps : List Turned) → StandsFor self.new trace steps → Legal (nest_of self.new) (cost_of self.new) trace (newest self.new) (journal steps)) }
+        ensures apart { OnOk result ((trace : List AnEvent) (steps : List Turned) → StandsFor self.new trace steps → StepBound (cost_of self.new) (newest self.new) steps) }
+
+        ensures newest { newest self.new ≡ tick_of_event e }
+        ensures nest { nest_of self.new ≡ nest_of self.old }
+        ensures cost { cost_of self.new ≡ cost_of self.old }
+    {
+        self.run_to(tick_of(e), out)?;
+        self.apply(e);
+        Ok(())
+    }
+
+    /// Makes all steps before the end of the trace, at most 1073741824 and not before the last event.
+    pub fn end<K: Sink>(&mut self, t: Tick, out: &mut K) -> Result<(), WriteFault>
+        requires small { t.0 ≤ 1073741824 }
+        requires later { newest self.old ≤ t.0 }
+
+        ensures goes { OnOk result (GoesOn K.given K.took (StandsFor self.old) (StandsFor self.new) [] out.old out.new) }
+        ensures breaks { OnErr result (BreaksOff K.given K.took K.broke (StandsFor self.old) (LeftBelow (nest_of self.old) (cost_of self.old) (newest self.new)) out.old out.new) }
+        ensures failed { OnErr result (Rose (K.faults out.old) (K.faults out.new)) }
+        ensures no_fewer { K.faults out.old ≤ K.faults out.new }
+
+        ensures legal { OnOk result ((trace : List AnEvent) (steps : List Turned) → StandsFor self.new trace steps → Legal (nest_of self.new) (cost_of self.new) trace (newest self.new) (journal steps)) }
+        ensures apart { OnOk result ((trace : List AnEvent) (steps : List Turned) → StandsFor self.new trace steps → StepBound (cost_of self.new) (newest self.new) steps) }
+
+        ensures newest { newest self.new ≡ t.0 }
+        ensures nest { nest_of self.new ≡ nest_of self.old }
+        ensures cost { cost_of self.new ≡ cost_of self.old }
+    {
+        self.run_to(t, out)
+    }
+
+    /// Makes all steps at ticks below the limit.
+    fn run_to<K: Sink>(&mut self, limit: Tick, out: &mut K) -> Result<(), WriteFault>
+        requires small { limit.0 ≤ 1073741824 }
+        requires later { self.old.limit.0 ≤ limit.0 }
+        ensures reached { OnOk result (self.new.limit.0 ≤ self.new.next.0) }
+        ensures goes { OnOk result (GoesOn K.given K.took (Runs self.old) (Runs self.new) [] out.old out.new) }
+        ensures breaks { OnErr result (BreaksOff K.given K.took K.broke (Runs self.old) (LeftBelow (nest_of self.old) (cost_of self.old) (newest self.new)) out.old out.new) }
+        ensures failed { OnErr result (Rose (K.faults out.old) (K.faults out.new)) }
+        ensures no_fewer { K.faults out.old ≤ K.faults out.new }
+        ensures limit { self.new.limit ≡ limit }
+        ensures nest { nest_of self.new ≡ nest_of self.old }
+        ensures cost { cost_of self.new ≡ cost_of self.old }
+    {
+        self.limit = limit;
+        self.run_on(out)
+    }
+
+    fn run_on<K: Sink>(&mut self, out: &mut K) -> Result<(), WriteFault>
+        ensures reached { OnOk result (self.new.limit.0 ≤ self.new.next.0) }
+        ensures goes { OnOk result (GoesOn K.given K.took (Runs self.old) (Runs self.new) [] out.old out.new) }
+        ensures breaks { OnErr result (BreaksOff K.given K.took K.broke (Runs self.old) (LeftBelow (nest_of self.old) (cost_of self.old) (newest self.new)) out.old out.new) }
+        ensures failed { OnErr result (Rose (K.faults out.old) (K.faults out.new)) }
+        ensures no_fewer { K.faults out.old ≤ K.faults out.new }
+        ensures limit { self.new.limit ≡ self.old.limit }
+        ensures nest { nest_of self.new ≡ nest_of self.old }
+        ensures cost { cost_of self.new ≡ cost_of self.old }
+    {
+        while self.next.0 < self.limit.0 {
+            self.go_on(out)?;
+        }
+        Ok(())
+    }
+
+    /// Makes the next step, or lets idle time pass.
+    fn go_on<K: Sink>(&mut self, out: &mut K) -> Result<(), WriteFault>
+        requires { self.old.next.0 < self.old.limit.0 }
+        ensures later { OnOk result (self.old.next.0 < self.new.next.0) }
+        ensures goes { OnOk result (GoesOn K.given K.took (Runs self.old) (Runs self.new) [] out.old out.new) }
+        ensures breaks { OnErr result (BreaksOff K.given K.took K.broke (Runs self.old) (LeftBelow (nest_of self.old) (cost_of self.old) (newest self.new)) out.old out.new) }
+        ensures failed { OnErr result (Rose (K.faults out.old) (K.faults out.new)) }
+        ensures no_fewer { K.faults out.old ≤ K.faults out.new }
+        ensures limit { self.new.limit ≡ self.old.limit }
+        ensures nest { nest_of self.new ≡ nest_of self.old }
+        ensures cost { cost_of self.new ≡ cost_of self.old }
+    {
+        self.pass();
+        if self.machine.idle(&self.regs) {
+            self.jump();
+            Ok(())
+        } else {
+            self.step(out)
+        }
+    }
+
+    /// Time goes on to the tick of the next step.
+    fn pass(&mut self)
+        requires { self.old.next.0 < self.old.limit.0 }
+        ensures now { self.new.regs.time ≡ self.new.next.0 }
+        ensures runs { (trace : List AnEvent) (steps : List Turned) → Runs self.old trace steps → Runs self.new trace steps }
+        ensures next { self.new.next ≡ self.old.next }
+        ensures limit { self.new.limit ≡ self.old.limit }
+        ensures nest { nest_of self.new ≡ nest_of self.old }
+        ensures cost { cost_of self.new ≡ cost_of self.old }
+    {
+        self.regs.advance(self.next);
+    }
+
+    /// Time goes on to the tick at which a kind becomes due, or to the limit.
+    fn jump(&mut self)
+        requires now { self.old.regs.time ≡ self.old.next.0 }
+        requires idle { is_idle self.old.machine.open_kinds (due_now false self.old.regs) ≡ true }
+        requires below { self.old.next.0 < self.old.limit.0 }
+        ensures later { self.old.next.0 < self.new.next.0 }
+        ensures runs { (trace : List AnEvent) (steps : List Turned) → Runs self.old trace steps → Runs self.new trace steps }
+        ensures limit { self.new.limit ≡ self.old.limit }
+        ensures nest { nest_of self.new ≡ nest_of self.old }
+        ensures cost { cost_of self.new ≡ cost_of self.old }
+    {
+        let to = match self.regs.next_due() {
+            Some(due) if due.0 < self.limit.0 => due,
+            _ => self.limit,
+        };
+        self.regs.advance(to);
+        self.next = to;
+    }
+
+    /// Makes one step of the machine, at now, and writes the lines of its notes.
+    fn step<K: Sink>(&mut self, out: &mut K) -> Result<(), WriteFault>
+        requires now { self.old.regs.time ≡ self.old.next.0 }
+        requires busy { is_idle self.old.machine.open_kinds (due_now false self.old.regs) ≡ false }
+        requires below { self.old.next.0 < self.old.limit.0 }
+        ensures next { self.new.next.0 ≡ self.old.next.0 + self.old.cost }
+        ensures goes { OnOk result (GoesOn K.given K.took (Runs self.old) (Runs self.new) [] out.old out.new) }
+        ensures breaks { OnErr result (BreaksOff K.given K.took K.broke (Runs self.old) (LeftBelow (nest_of self.old) (cost_of self.old) (newest self.new)) out.old out.new) }
+        ensures failed { OnErr result (Rose (K.faults out.old) (K.faults out.new)) }
+        ensures no_fewer { K.faults out.old ≤ K.faults out.new }
+        ensures limit { self.new.limit ≡ self.old.limit }
+        ensures nest { nest_of self.new ≡ nest_of self.old }
+        ensures cost { cost_of self.new ≡ cost_of self.old }
+    {
+        self.machine.step_into(&mut self.regs, &mut self.notes);
+        self.next = Tick(self.next.0 + self.cost as u64);
+        put_notes(self.notes.as_slice(), out)
+    }
+
+    /// Applies an event at the limit. A stall puts off the next step.
+    fn apply(&mut self, e: Event)
+        requires at { self.old.limit.0 ≡ tick_of_event e }
+        requires reached { self.old.limit.0 ≤ self.old.next.0 }
+        requires stall { StallFits e }
+        ensures reached { self.new.limit.0 ≤ self.new.next.0 }
+        ensures runs { (trace : List AnEvent) (steps : List Turned) → Runs self.old trace steps → Runs self.new (trace ++ e ∷ []) steps }
+        ensures limit { self.new.limit ≡ self.old.limit }
+        ensures nest { nest_of self.new ≡ nest_of self.old }
+        ensures cost { cost_of self.new ≡ cost_of self.old }
+    {
+        self.regs.advance(self.limit);
+        match e {
+            Event::Edge { level, .. } => self.regs.edge(level),
+            Event::Comp { level, .. } => self.regs.comp(level),
+            Event::Serial { byte, .. } => {
+                let _ = self.regs.serial(byte);
+            }
+            Event::Stall { t, n } => {
+                self.next = Tick(self.next.0.max(t.0 + n as u64));
+            }
+        }
+    }
+}

@@ -1,0 +1,61 @@
+//! The start of a run, and its two first lines.
+ghost use Rattle.std.specs.Prelude.{◌≡◌, ◌≤◌, OnOk, OnErr, []};
+ghost use Rattle.std.specs.Io.KnownBytes.{append_known};
+ghost use Rattle.esc_base.specs.Outside.{Rose};
+ghost use Rattle.trace_text.specs.Text.{Text};
+ghost use Rattle.esc_laws.specs.Steps.{opening, journal};
+ghost use Rattle.esc_laws.specs.Legal.{Legal};
+ghost use Rattle.trace_runner.specs.Lines.{TookLines, BrokeLines};
+ghost use Rattle.trace_runner.specs.Run.{StandsFor, nest_of, cost_of, newest};
+
+use crate::lines::put_notes;
+use crate::{RunConfig, Runner, WriteFault};
+use arrayvec::ArrayVec;
+use esc_base::{Note, Sink, Tick};
+use esc_core::Core;
+use interrupt_machine::Machine;
+use timer_regs::{Reg, Regs};
+
+/// The number of a start with the default settings, since there is no settings block.
+const DEFAULT_SETTINGS: u8 = 1;
+
+impl Runner {
+    /// A run at tick 0: no handler is open, and the first window is open in the unknown mode.
+    pub fn start(cfg: RunConfig) -> Runner
+        requires some { 1 ≤ cfg.cost }
+        requires most { cfg.cost ≤ 16 }
+        ensures stands { StandsFor result [] [] }
+        ensures legal { Legal (nest_of result) (cost_of result) [] 0 (journal []) }
+        ensures nest { nest_of result ≡ cfg.nest }
+        ensures cost { cost_of result ≡ cfg.cost }
+        ensures newest { newest result ≡ 0 }
+    {
+        let mut regs = Regs::new();
+        regs.write(Reg::CapArm, 0);
+        Runner {
+            machine: Machine::new(Core::new(), cfg.nest),
+            regs,
+            cost: cfg.cost,
+            next: Tick(0),
+            limit: Tick(0),
+            notes: ArrayVec::new(),
+        }
+    }
+
+    /// Writes the two first lines: the settings, and the first window. It is called once, before all other calls.
+    pub fn begin<K: Sink>(&mut self, out: &mut K) -> Result<(), WriteFault>
+        ensures same { self.new ≡ self.old }
+        ensures lines { OnOk result (TookLines K.took out.old opening out.new) }
+        ensures given { OnOk result (K.given out.new ≡ append_known (K.given out.old) (Text opening)) }
+        ensures breaks { OnErr result (BrokeLines K.given K.took K.broke out.old opening out.new) }
+        ensures no_fewer { K.faults out.old ≤ K.faults out.new }
+        ensures failed { OnErr result (Rose (K.faults out.old) (K.faults out.new)) }
+    {
+        let settings = Note::Up {
+            t: Tick(0),
+            r: DEFAULT_SETTINGS,
+        };
+        let window = Note::Window { t: Tick(0), m: 0 };
+        put_notes(&[settings, window], out)
+    }
+}

@@ -1,0 +1,75 @@
+ghost use Rattle.std.specs.Prelude.{◌≡◌};
+ghost use Rattle.esc_base.specs.Trace.{tick_of};
+ghost use Rattle.trace_text.specs.Ahead.{StallFits};
+
+use crate::{RunConfig, Runner, WriteFault};
+use esc_base::{Event, MemSink, Tick};
+use interrupt_machine::Nest;
+use std::alloc::Global;
+use std::test::Fail;
+
+/// A run to tick 5000 with an event at tick 2400.
+fn run(event: Event, out: &mut MemSink) -> Result<(), WriteFault>
+    requires at { tick_of event ≡ 2400 }
+    requires stall { StallFits event }
+{
+    let mut runner = Runner::start(RunConfig {
+        cost: 2,
+        nest: Nest::One,
+    });
+    runner.begin(out)?;
+    runner.feed(event, out)?;
+    runner.end(Tick(5000), out)
+}
+
+/// How such a run ends and what it writes, where the puts with these numbers fail.
+fn ran(alloc: Global, event: Event, fails: &[u64]) -> Result<(Result<(), WriteFault>, String), Fail>
+    requires at { tick_of event ≡ 2400 }
+    requires stall { StallFits event }
+{
+    let mut out = MemSink::new(alloc, 1024, fails)?;
+    let answer = run(event, &mut out);
+    Ok((answer, String::from_utf8_lossy(alloc, out.given())?))
+}
+
+#[test]
+fn a_control_tick_is_due_each_2400_ticks(rt: HostRuntime) -> Result<(), Fail> {
+    let event = Event::Comp {
+        t: Tick(2400),
+        level: true,
+    };
+    let (answer, journal) = ran(rt.alloc(), event, &[])?;
+    assert_eq!(rt; answer, Ok(()));
+    assert_eq!(rt;
+        journal.as_str(),
+        "U 0 1\nW 0 0\nI 2400 2\nK 2404 1 0 0\nO 2408 2\nI 4800 2\nK 4804 2 0 0\nO 4808 2\n"
+    );
+    Ok(())
+}
+
+#[test]
+fn a_stall_puts_off_the_step_at_its_tick(rt: HostRuntime) -> Result<(), Fail> {
+    let event = Event::Stall {
+        t: Tick(2400),
+        n: 100,
+    };
+    let (answer, journal) = ran(rt.alloc(), event, &[])?;
+    assert_eq!(rt; answer, Ok(()));
+    assert_eq!(rt;
+        journal.as_str(),
+        "U 0 1\nW 0 0\nI 2500 2\nK 2504 1 0 0\nO 2508 2\nI 4800 2\nK 4804 2 0 0\nO 4808 2\n"
+    );
+    Ok(())
+}
+
+#[test]
+fn a_line_that_fails_ends_the_run(rt: HostRuntime) -> Result<(), Fail> {
+    let event = Event::Comp {
+        t: Tick(2400),
+        level: true,
+    };
+    let (answer, journal) = ran(rt.alloc(), event, &[4])?;
+    assert_eq!(rt; answer, Err(WriteFault));
+    assert_eq!(rt; journal.as_str(), "U 0 1\nW 0 0\nI 2400 2\n");
+    Ok(())
+}
