@@ -1,9 +1,11 @@
 -- A whole run, event by event, and what each of its endings says.
-use Rattle.std.proofs.Common.{◌≡◌, ◌⊎◌, inl, inr, ℕ, List, [], ◌∷◌, ◌++◌, Option, Some, None, refl, sym, ◌∙◌, ap, subst, append_assoc, append-nil}
+use Rattle.std.proofs.Common.{◌≡◌, ◌<◌, inl, inr, All, ℕ, List, [], ◌∷◌, ◌++◌, Option, Some, None, refl, sym, ◌∙◌, ap, subst, append_assoc, append-nil}
+use Rattle.std.proofs.lemmas.List.Elements.{All-nil, All-cons}
 use Rattle.std.specs.Io.KnownBytes.{append_known}
 use Rattle.esc_base.specs.declared.note.Note.{Note}
 use Rattle.esc_base.specs.declared.event.Event.{Event}
 use Rattle.esc_base.specs.declared.event.Event.TheVariants as event
+use Rattle.esc_base.specs.Journal.{time_of}
 use Rattle.esc_base.specs.Outside.{AppendsFront}
 use Rattle.esc_base.specs.Trace.{tick_of}
 use Rattle.trace_text.specs.declared.item.Refusal.{Refusal}
@@ -13,14 +15,13 @@ use Rattle.trace_text.specs.Line.{after_event}
 use Rattle.trace_text.specs.Read.{Reading, Trace, Refused, Read, read_from}
 use Rattle.trace_text.specs.Ahead.{HasRead, BeginsWith, with_events, events_of, place}
 use Rattle.trace_text.specs.Text.{note_bytes, Text}
-use Rattle.am32sim.specs.declared.windows.Windows.{Windows}
-use Rattle.am32sim.specs.First.{First, IsFront}
-use Rattle.am32sim.specs.Stands.{StandsFor, IsBlank, EndsAt, BeginsUntil}
-use Rattle.am32sim.specs.Goes.{GoesOn, BreaksOff}
-use Rattle.am32sim.specs.Run.{last_tick_from, last_tick, Reads, ReadsFront, IsJournal, Wrote, IsDone, IsRefused, IsReadFault, IsWriteFault}
-use Rattle.am32sim.proofs.Rest.{first_sole}
-use Rattle.am32sim.proofs.Written.{written_whole}
-use Rattle.am32sim.proofs.Calls.{append_known-twice, append_known-nil, text-append}
+use Rattle.interrupt_machine.specs.declared.nest.Nest.{Nest}
+use Rattle.esc_laws.specs.Steps.{Turned, opening, notes_in, journal}
+use Rattle.esc_laws.specs.Legal.{Legal}
+use Rattle.trace_runner.specs.declared.state.Runner.{Runner}
+use Rattle.trace_runner.specs.Lines.{BrokeLines}
+use Rattle.trace_runner.specs.Run.{StandsFor, LeftBelow, GoesOn, BreaksOff, nest_of, cost_of, newest}
+use Rattle.am32sim.specs.Run.{last_tick_from, last_tick, Reads, ReadsFront, run_nest, run_cost, Wrote, IsLegalFront, IsDone, IsRefused, IsReadFault, IsWriteFault}
 
 -- ---- what was read
 
@@ -54,142 +55,177 @@ reads_front (Some bytes) events f = f bytes refl
 
 -- ---- what was written
 
-the_journal : (trace : List Event) (end : ℕ) (notes : List Note) → First trace end notes → IsJournal trace end notes
-the_journal trace end notes f = record { first = f; sole = λ others g. first_sole trace end others notes g f }
+append_known-twice : (o : Option (List ℕ)) (xs ys : List ℕ) → append_known o (xs ++ ys) ≡ append_known (append_known o xs) ys
+append_known-twice (Some bytes) xs ys = ap (λ (x : List ℕ). Some x) (sym (append_assoc bytes xs ys))
+append_known-twice None xs ys = refl
+
+text-append : (xs ys : List Note) → Text (xs ++ ys) ≡ Text xs ++ Text ys
+text-append [] ys = refl
+text-append (n ∷ xs) ys = ap (λ (z : List ℕ). note_bytes n ++ z) (text-append xs ys) ∙ sym (append_assoc (note_bytes n) (Text xs) (Text ys))
+
+notes_in-append : (xs ys : List Turned) → notes_in (xs ++ ys) ≡ notes_in xs ++ notes_in ys
+notes_in-append [] ys = refl
+notes_in-append (x ∷ xs) ys = ap (λ (ns : List Note). x.notes ++ ns) (notes_in-append xs ys) ∙ sym (append_assoc x.notes (notes_in xs) (notes_in ys))
+
+journal-append : (steps log : List Turned) → journal (steps ++ log) ≡ journal steps ++ notes_in log
+journal-append steps log = ap (λ (ns : List Note). opening ++ ns) (notes_in-append steps log)
 
 -- what was given so far, and what a call adds
-given_more : (first : Option (List ℕ)) (before after : Option (List ℕ)) (journal notes : List Note) → before ≡ append_known first (Text journal) → after ≡ append_known before (Text notes) → after ≡ append_known first (Text (journal ++ notes))
-given_more first before after journal notes e f =
-    f ∙ ap (λ (o : Option (List ℕ)). append_known o (Text notes)) e ∙ sym (append_known-twice first (Text journal) (Text notes)) ∙ ap (append_known first) (sym (text-append journal notes))
-
--- a front of one more line, behind the lines that were taken, is a front of the whole text
-front_more : (first mid after : Option (List ℕ)) (journal rest : List Note) (last : Note) → mid ≡ append_known first (Text journal) → AppendsFront mid (note_bytes last) after → AppendsFront first (Text ((journal ++ last ∷ []) ++ rest)) after
-front_more first mid after journal rest last e f =
-    let one : Text (last ∷ []) ≡ note_bytes last = append-nil (note_bytes last) in
-    let whole : Text ((journal ++ last ∷ []) ++ rest) ≡ (Text journal ++ note_bytes last) ++ Text rest =
-    text-append (journal ++ last ∷ []) rest ∙ ap (λ (x : List ℕ). x ++ Text rest) (text-append journal (last ∷ []) ∙ ap (λ (x : List ℕ). Text journal ++ x) one) in
-    record {
-      front = Text journal ++ f.front;
-      rest = f.rest ++ Text rest;
-      is_front = rw (whole, ← f.is_front) (simp append_assoc);
-      appended = f.appended ∙ ap (λ (o : Option (List ℕ)). append_known o f.front) e ∙ sym (append_known-twice first (Text journal) f.front);
-    }
+given_more : (first before after : Option (List ℕ)) (notes more : List Note) → before ≡ append_known first (Text notes) → after ≡ append_known before (Text more) → after ≡ append_known first (Text (notes ++ more))
+given_more first before after notes more e f =
+    f ∙ ap (λ (o : Option (List ℕ)). append_known o (Text more)) e ∙ sym (append_known-twice first (Text notes) (Text more)) ∙ ap (append_known first) (sym (text-append notes more))
 
 -- ---- the run so far
 
-pub record SoFar (w : Windows) (l : Lines) (left_first left given_first given : Option (List ℕ)) : Type 0 where
+pub record SoFar (r : Runner) (l : Lines) (left_first left given_first given : Option (List ℕ)) : Type 0 where
   pub trace : List Event
-  pub journal : List Note
-  pub stands : StandsFor w trace journal
-  pub last : last_tick trace ≡ w.newest.0
-  pub in_time : w.newest.0 ≡ (place l).time.0
-  pub given_is : given ≡ append_known given_first (Text journal)
+  pub steps : List Turned
+  pub stands : StandsFor r trace steps
+  pub legal : Legal run_nest run_cost trace (newest r) (journal steps)
+  pub nest : nest_of r ≡ run_nest
+  pub cost : cost_of r ≡ run_cost
+  pub last : last_tick trace ≡ newest r
+  pub in_time : newest r ≡ (place l).time.0
+  pub given_is : given ≡ append_known given_first (Text (journal steps))
   pub read : (bytes : List ℕ) → left_first ≡ Some bytes → HasRead l left bytes trace
 
+as_run : (nest : Nest) (cost : ℕ) (trace : List Event) (until : ℕ) (notes : List Note) → nest ≡ run_nest → cost ≡ run_cost → Legal nest cost trace until notes → Legal run_nest run_cost trace until notes
+as_run nest cost trace until notes e f l = rw (← e, ← f) l
+
+left_as_run : (nest : Nest) (cost until : ℕ) (trace : List Event) (notes : List Note) → nest ≡ run_nest → cost ≡ run_cost → LeftBelow nest cost until trace notes → LeftBelow run_nest run_cost until trace notes
+left_as_run nest cost until trace notes e f l = rw (← e, ← f) l
+
 module _ {K : Type 0} (given : K → Option (List ℕ)) (took broke : K → List ℕ → K → Type 0) where
-  pub so_far_none : (w : Windows) (l : Lines) (left : Option (List ℕ)) (a b : K) → w.newest.0 ≡ 0 → (place l).time.0 ≡ 0 → ((bytes : List ℕ) → HasRead l (Some bytes) bytes [])
-      → GoesOn given took IsBlank (StandsFor w) [] a b → SoFar w l left left (given a) (given b)
-  so_far_none w l left a b newest time begins g = record {
+  pub so_far_none : (r r' : Runner) (l : Lines) (left : Option (List ℕ)) (a b : K) → StandsFor r [] [] → Legal (nest_of r) (cost_of r) [] 0 (journal []) → r' ≡ r
+      → nest_of r ≡ run_nest → cost_of r ≡ run_cost → newest r ≡ 0 → (place l).time.0 ≡ 0 → ((bytes : List ℕ) → HasRead l (Some bytes) bytes [])
+      → given b ≡ append_known (given a) (Text opening) → SoFar r' l left left (given a) (given b)
+  so_far_none r r' l left a b st legal same nest cost new time begins is = rw same (record {
     trace = [];
-    journal = g.notes;
-    stands = g.stands [] [] (refl, refl);
-    last = sym newest;
-    in_time = newest ∙ sym time;
-    given_is = g.given_is;
-    read = λ bytes is. subst (λ (o : Option (List ℕ)). HasRead l o bytes []) (sym is) (begins bytes);
-  }
+    steps = [];
+    stands = st;
+    legal = rw new (as_run (nest_of r) (cost_of r) [] 0 (journal []) nest cost legal);
+    nest = nest;
+    cost = cost;
+    last = sym new;
+    in_time = new ∙ sym time;
+    given_is = is;
+    read = λ bytes known. subst (λ (o : Option (List ℕ)). HasRead l o bytes []) (sym known) (begins bytes);
+  })
 
-  pub so_far_event : (w w' : Windows) (l l' : Lines) (left_first left left' given_first : Option (List ℕ)) (a b : K) (e : Event) → SoFar w l left_first left given_first (given a)
-      → w'.newest.0 ≡ tick_of e → place l' ≡ after_event (place l) e
+  pub so_far_event : (r r' : Runner) (l l' : Lines) (left_first left left' given_first : Option (List ℕ)) (a b : K) (e : Event) → SoFar r l left_first left given_first (given a)
+      → newest r' ≡ tick_of e → nest_of r' ≡ nest_of r → cost_of r' ≡ cost_of r → place l' ≡ after_event (place l) e
       → ((bytes : List ℕ) (events : List Event) → HasRead l left bytes events → HasRead l' left' bytes (events ++ e ∷ []))
-      → GoesOn given took (StandsFor w) (StandsFor w') (e ∷ []) a b → SoFar w' l' left_first left' given_first (given b)
-  so_far_event w w' l l' left_first left left' given_first a b e s newest after reads g = record {
-    trace = s.trace ++ e ∷ [];
-    journal = s.journal ++ g.notes;
-    stands = g.stands s.trace s.journal s.stands;
-    last = last_tick_from-push 0 s.trace e ∙ sym newest;
-    in_time = newest ∙ sym (time-after_event (place l) e) ∙ ap (λ (p : Place). p.time.0) (sym after);
-    given_is = given_more given_first (given a) (given b) s.journal g.notes s.given_is g.given_is;
-    read = λ bytes is. reads bytes s.trace (s.read bytes is);
+      → ((trace : List Event) (steps : List Turned) → StandsFor r' trace steps → Legal (nest_of r') (cost_of r') trace (newest r') (journal steps))
+      → GoesOn given took (StandsFor r) (StandsFor r') (e ∷ []) a b → SoFar r' l' left_first left' given_first (given b)
+  so_far_event r r' l l' left_first left left' given_first a b e s new nest cost after reads legal g =
+      let st : StandsFor r' (s.trace ++ e ∷ []) (s.steps ++ g.log) = g.stands s.trace s.steps s.stands in
+      record {
+        trace = s.trace ++ e ∷ [];
+        steps = s.steps ++ g.log;
+        stands = st;
+        legal = as_run (nest_of r') (cost_of r') (s.trace ++ e ∷ []) (newest r') (journal (s.steps ++ g.log)) (nest ∙ s.nest) (cost ∙ s.cost) (legal (s.trace ++ e ∷ []) (s.steps ++ g.log) st);
+        nest = nest ∙ s.nest;
+        cost = cost ∙ s.cost;
+        last = last_tick_from-push 0 s.trace e ∙ sym new;
+        in_time = new ∙ sym (time-after_event (place l) e) ∙ ap (λ (p : Place). p.time.0) (sym after);
+        given_is = given_more given_first (given a) (given b) (journal s.steps) (notes_in g.log) s.given_is g.given_is ∙ ap (λ (ns : List Note). append_known given_first (Text ns)) (sym (journal-append s.steps g.log));
+        read = λ bytes is. reads bytes s.trace (s.read bytes is);
+      }
+
+  -- ---- the sink refuses a line
+
+  -- one of the two first ones
+  pub broken_begin : (left : Option (List ℕ)) (a b : K) → BrokeLines given took broke a opening b → IsWriteFault left (given a) (given b)
+  broken_begin left a b g = record {
+    trace = [];
+    later = [];
+    reads = reads_front left [] (λ bytes is. record { more = events_of (Read bytes); is = refl });
+    wrote = record {
+      notes = g.done;
+      last = g.last;
+      left = inl (record { rest = g.rest; is = g.parts ∙ sym (append_assoc g.done (g.last ∷ []) g.rest) });
+      front = subst (λ (o : Option (List ℕ)). AppendsFront o (note_bytes g.last) (given b)) g.given_is g.appended;
+    };
   }
 
-  -- the sink refuses a line
-  broken : (left_first given_first : Option (List ℕ)) (trace : List Event) (end : ℕ) (journal : List Note) (old : List Event → List Note → Type 0) (events before : List Event) (a b : K)
-      → (Reads left_first (Trace trace end) ⊎ (ReadsFront left_first trace × (end ≡ last_tick trace))) → before ++ events ≡ trace → old before journal → given a ≡ append_known given_first (Text journal)
-      → BreaksOff given took broke old (BeginsUntil end) events a b → IsWriteFault left_first given_first (given b)
-  broken left_first given_first trace end journal old events before a b reads whole stands is g =
-      let f : IsFront (before ++ events) end (journal ++ (g.notes ++ g.last ∷ [])) = g.stands before journal stands in
-      let notes : journal ++ (g.notes ++ g.last ∷ []) ≡ (journal ++ g.notes) ++ g.last ∷ [] = sym (append_assoc journal g.notes (g.last ∷ [])) in
-      let first : First trace end (((journal ++ g.notes) ++ g.last ∷ []) ++ f.rest) = rw (← whole, ← notes) f.whole in
+  -- one of a step
+  broken : (r : Runner) (until : ℕ) (left_first given_first : Option (List ℕ)) (trace later : List Event) (steps : List Turned) (a b : K)
+      → StandsFor r trace steps → nest_of r ≡ run_nest → cost_of r ≡ run_cost → given a ≡ append_known given_first (Text (journal steps)) → ReadsFront left_first (trace ++ later)
+      → ((notes : List Note) → All (λ n. time_of n < until) notes → All (λ e. All (λ n. time_of n < tick_of e) notes) later)
+      → BreaksOff given took broke (StandsFor r) (LeftBelow (nest_of r) (cost_of r) until) a b → IsWriteFault left_first given_first (given b)
+  broken r until left_first given_first trace later steps a b st nest cost is reads before g =
+      let whole : List Note = journal steps ++ (g.notes ++ g.last ∷ []) in
+      let l : LeftBelow run_nest run_cost until trace whole = left_as_run (nest_of r) (cost_of r) until trace whole nest cost (g.left_as trace steps st) in
+      let f : IsLegalFront trace later whole = record { legal = l.legal; before = before whole l.below } in
       record {
         trace = trace;
-        end = end;
+        later = later;
         reads = reads;
         wrote = record {
-          notes = ((journal ++ g.notes) ++ g.last ∷ []) ++ f.rest;
-          journal = the_journal trace end (((journal ++ g.notes) ++ g.last ∷ []) ++ f.rest) first;
-          front = front_more given_first (given g.mid) (given b) (journal ++ g.notes) f.rest g.last (given_more given_first (given a) (given g.mid) journal g.notes is g.given_is) g.front;
+          notes = journal steps ++ g.notes;
+          last = g.last;
+          left = inr (subst (λ (ns : List Note). IsLegalFront trace later ns) (sym (append_assoc (journal steps) g.notes (g.last ∷ []))) f);
+          front = subst (λ (o : Option (List ℕ)). AppendsFront o (note_bytes g.last) (given b)) (given_more given_first (given a) (given g.mid) (journal steps) g.notes is g.given_is) g.appended;
         };
       }
 
-  pub broken_begin : (left : Option (List ℕ)) (a b : K) → BreaksOff given took broke IsBlank (BeginsUntil 0) [] a b → IsWriteFault left (given a) (given b)
-  broken_begin left a b g = broken left (given a) [] 0 [] IsBlank [] [] a b
-      (inr (reads_front left [] (λ bytes is. record { more = events_of (Read bytes); is = refl }), refl)) refl (refl, refl) (sym (append_known-nil (given a))) g
-
-  pub broken_event : (w : Windows) (l l' : Lines) (left_first left left' given_first : Option (List ℕ)) (a b : K) (e : Event) → SoFar w l left_first left given_first (given a)
+  pub broken_event : (r : Runner) (l l' : Lines) (until : ℕ) (left_first left left' given_first : Option (List ℕ)) (a b : K) (e : Event) → SoFar r l left_first left given_first (given a) → until ≡ tick_of e
       → ((bytes : List ℕ) (events : List Event) → HasRead l left bytes events → HasRead l' left' bytes (events ++ e ∷ []))
-      → BreaksOff given took broke (StandsFor w) (BeginsUntil (tick_of e)) (e ∷ []) a b → IsWriteFault left_first given_first (given b)
-  broken_event w l l' left_first left left' given_first a b e s reads g =
-      let trace = s.trace ++ e ∷ [] in
-      broken left_first given_first trace (tick_of e) s.journal (StandsFor w) (e ∷ []) s.trace a b
-      (inr (reads_front left_first trace (λ bytes is. begins_with l' left' bytes trace (reads bytes s.trace (s.read bytes is))), sym (last_tick_from-push 0 s.trace e))) refl s.stands s.given_is g
+      → BreaksOff given took broke (StandsFor r) (LeftBelow (nest_of r) (cost_of r) until) a b → IsWriteFault left_first given_first (given b)
+  broken_event r l l' until left_first left left' given_first a b e s at reads g =
+      broken r until left_first given_first s.trace (e ∷ []) s.steps a b s.stands s.nest s.cost s.given_is
+      (reads_front left_first (s.trace ++ e ∷ []) (λ bytes is. begins_with l' left' bytes (s.trace ++ e ∷ []) (reads bytes s.trace (s.read bytes is))))
+      (λ notes below. All-cons (λ x. All (λ n. time_of n < tick_of x) notes) e [] (subst (λ (t : ℕ). All (λ n. time_of n < t) notes) at below) (All-nil (λ x. All (λ n. time_of n < tick_of x) notes))) g
 
-  pub broken_end : (w : Windows) (l : Lines) (left_first left given_first : Option (List ℕ)) (a b : K) (t : ℕ) → SoFar w l left_first left given_first (given a)
-      → ((bytes : List ℕ) (events : List Event) → HasRead l left bytes events → Read bytes ≡ Trace events t)
-      → BreaksOff given took broke (StandsFor w) (BeginsUntil t) [] a b → IsWriteFault left_first given_first (given b)
-  broken_end w l left_first left given_first a b t s reads g =
-      broken left_first given_first s.trace t s.journal (StandsFor w) [] s.trace a b
-      (inl (reads_all left_first (Trace s.trace t) (λ bytes is. reads bytes s.trace (s.read bytes is)))) (append-nil s.trace) s.stands s.given_is g
+  pub broken_end : (r : Runner) (l : Lines) (until : ℕ) (left_first left given_first : Option (List ℕ)) (a b : K) → SoFar r l left_first left given_first (given a)
+      → BreaksOff given took broke (StandsFor r) (LeftBelow (nest_of r) (cost_of r) until) a b → IsWriteFault left_first given_first (given b)
+  broken_end r l until left_first left given_first a b s g =
+      broken r until left_first given_first s.trace [] s.steps a b s.stands s.nest s.cost s.given_is
+      (rw (append-nil s.trace) (reads_front left_first s.trace (λ bytes is. begins_with l left bytes s.trace (s.read bytes is))))
+      (λ notes below. All-nil (λ x. All (λ n. time_of n < tick_of x) notes)) g
 
-  -- the end of the trace
-  pub done : (w : Windows) (l : Lines) (left_first left given_first : Option (List ℕ)) (a b : K) (t : ℕ) → SoFar w l left_first left given_first (given a)
+  -- ---- the end of the trace
+
+  pub done : (r r' : Runner) (l : Lines) (left_first left given_first : Option (List ℕ)) (a b : K) (t : ℕ) → SoFar r l left_first left given_first (given a)
       → ((bytes : List ℕ) (events : List Event) → HasRead l left bytes events → Read bytes ≡ Trace events t)
-      → GoesOn given took (StandsFor w) (EndsAt t) [] a b → IsDone left_first given_first (given b)
-  done w l left_first left given_first a b t s reads g =
-      let first : First s.trace t (s.journal ++ g.notes) = rw (append-nil s.trace) at (g.stands s.trace s.journal s.stands) in
+      → newest r' ≡ t → nest_of r' ≡ nest_of r → cost_of r' ≡ cost_of r
+      → ((trace : List Event) (steps : List Turned) → StandsFor r' trace steps → Legal (nest_of r') (cost_of r') trace (newest r') (journal steps))
+      → GoesOn given took (StandsFor r) (StandsFor r') [] a b → IsDone left_first given_first (given b)
+  done r r' l left_first left given_first a b t s reads new nest cost legal g =
+      let st : StandsFor r' s.trace (s.steps ++ g.log) = subst (λ (es : List Event). StandsFor r' es (s.steps ++ g.log)) (append-nil s.trace) (g.stands s.trace s.steps s.stands) in
+      let at : Legal run_nest run_cost s.trace (newest r') (journal (s.steps ++ g.log)) =
+      as_run (nest_of r') (cost_of r') s.trace (newest r') (journal (s.steps ++ g.log)) (nest ∙ s.nest) (cost ∙ s.cost) (legal s.trace (s.steps ++ g.log) st) in
       record {
         trace = s.trace;
         end = t;
         reads = reads_all left_first (Trace s.trace t) (λ bytes is. reads bytes s.trace (s.read bytes is));
         wrote = record {
-          notes = s.journal ++ g.notes;
-          journal = the_journal s.trace t (s.journal ++ g.notes) first;
-          appended = given_more given_first (given a) (given b) s.journal g.notes s.given_is g.given_is;
+          notes = journal (s.steps ++ g.log);
+          legal = subst (λ (n : ℕ). Legal run_nest run_cost s.trace n (journal (s.steps ++ g.log))) new at;
+          appended = given_more given_first (given a) (given b) (journal s.steps) (notes_in g.log) s.given_is g.given_is ∙ ap (λ (ns : List Note). append_known given_first (Text ns)) (sym (journal-append s.steps g.log));
         };
       }
 
--- what a run has written is the journal up to its newest event
-so_far_wrote : (w : Windows) (l : Lines) (left_first left given_first given : Option (List ℕ)) → (s : SoFar w l left_first left given_first given) → Wrote s.trace (last_tick s.trace) given_first given
-so_far_wrote w l left_first left given_first given s =
-    let first : First s.trace w.newest.0 s.journal = written_whole w.capture w.level w.newest.0 w.newest.0 s.trace s.journal w.phase w.mode s.stands.due_later s.stands in
-    record {
-      notes = s.journal;
-      journal = the_journal s.trace (last_tick s.trace) s.journal (rw s.last first);
-      appended = s.given_is;
-    }
-
-pub refused : (w : Windows) (l : Lines) (left_first left given_first given : Option (List ℕ)) (line : ℕ) (kind : Refusal) → SoFar w l left_first left given_first given
-    → ((bytes : List ℕ) (events : List Event) → HasRead l left bytes events → Read bytes ≡ Refused events line kind) → IsRefused line kind left_first given_first given
-refused w l left_first left given_first given line kind s reads = record {
-  trace = s.trace;
-  reads = reads_all left_first (Refused s.trace line kind) (λ bytes is. reads bytes s.trace (s.read bytes is));
-  wrote = so_far_wrote w l left_first left given_first given s;
+-- what a run has written is legal up to its newest event
+so_far_wrote : (r : Runner) (l : Lines) (left_first left given_first given : Option (List ℕ)) → (s : SoFar r l left_first left given_first given) → Wrote s.trace (last_tick s.trace) given_first given
+so_far_wrote r l left_first left given_first given s = record {
+  notes = journal s.steps;
+  legal = subst (λ (n : ℕ). Legal run_nest run_cost s.trace n (journal s.steps)) (sym s.last) s.legal;
+  appended = s.given_is;
 }
 
-pub faulted : (w : Windows) (l : Lines) (left_first left given_first given : Option (List ℕ)) → SoFar w l left_first left given_first given
+pub refused : (r : Runner) (l : Lines) (left_first left given_first given : Option (List ℕ)) (line : ℕ) (kind : Refusal) → SoFar r l left_first left given_first given
+    → ((bytes : List ℕ) (events : List Event) → HasRead l left bytes events → Read bytes ≡ Refused events line kind) → IsRefused line kind left_first given_first given
+refused r l left_first left given_first given line kind s reads = record {
+  trace = s.trace;
+  reads = reads_all left_first (Refused s.trace line kind) (λ bytes is. reads bytes s.trace (s.read bytes is));
+  wrote = so_far_wrote r l left_first left given_first given s;
+}
+
+pub faulted : (r : Runner) (l : Lines) (left_first left given_first given : Option (List ℕ)) → SoFar r l left_first left given_first given
     → ((bytes : List ℕ) (events : List Event) → HasRead l left bytes events → BeginsWith (Read bytes) events) → IsReadFault left_first given_first given
-faulted w l left_first left given_first given s reads = record {
+faulted r l left_first left given_first given s reads = record {
   trace = s.trace;
   reads = reads_front left_first s.trace (λ bytes is. reads bytes s.trace (s.read bytes is));
-  wrote = so_far_wrote w l left_first left given_first given s;
+  wrote = so_far_wrote r l left_first left given_first given s;
 }

@@ -1,6 +1,2 @@
-pub mod First
-pub mod Due
-pub mod Stands
-pub mod Goes
 pub mod Run
 pub mod Status

@@ -1,18 +1,22 @@
 -- What `run` reads and writes, by the status with which it ends.
-use Rattle.std.specs.Prelude.{◌≡◌, ◌⊎◌, ℕ, List, [], ◌∷◌, Option, Some, None}
+use Rattle.std.specs.Prelude.{◌≡◌, ◌<◌, ◌⊎◌, ℕ, List, [], ◌∷◌, ◌++◌, All, Option, Some, None}
 use Rattle.std.specs.Io.KnownBytes.{append_known}
 use Rattle.esc_base.specs.declared.note.Note.{Note}
 use Rattle.esc_base.specs.declared.event.Event.{Event}
+use Rattle.esc_base.specs.Journal.{time_of}
 use Rattle.esc_base.specs.Outside.{AppendsFront}
 use Rattle.esc_base.specs.Trace.{tick_of}
 use Rattle.trace_text.specs.declared.item.Refusal.{Refusal}
 use Rattle.trace_text.specs.declared.item.Refusal.TheVariants as refusal
 use Rattle.trace_text.specs.Read.{Reading, Trace, Refused, Read}
 use Rattle.trace_text.specs.Ahead.{BeginsWith}
-use Rattle.trace_text.specs.Text.{Text}
+use Rattle.trace_text.specs.Text.{note_bytes, Text}
+use Rattle.interrupt_machine.specs.declared.nest.Nest.{Nest}
+use Rattle.interrupt_machine.specs.declared.nest.Nest.TheVariants.{One}
+use Rattle.esc_laws.specs.Steps.{opening}
+use Rattle.esc_laws.specs.Legal.{Legal, LegalFront}
 use Rattle.am32sim.specs.declared.status.Status.{Status}
 use Rattle.am32sim.specs.declared.status.Status.TheVariants as status
-use Rattle.am32sim.specs.First.{First}
 
 -- the tick of the last event, or this one where there is none
 abbrev pub last_tick_from : ℕ → List Event → ℕ
@@ -33,22 +37,38 @@ abbrev pub ReadsFront : Option (List ℕ) → List Event → Type 0
 ReadsFront None events = Unit {0}
 ReadsFront (Some bytes) events = BeginsWith (Read bytes) events
 
--- the one journal of a trace that ends at a tick
-pub record IsJournal (trace : List Event) (end : ℕ) (notes : List Note) : Type 0 where
-  pub first : First trace end notes
-  pub sole : (others : List Note) → First trace end others → others ≡ notes
+-- the step cost of a run, and its nesting: no handler interrupts another one
+abbrev pub run_cost : ℕ
+run_cost = 2
 
--- its text was appended, where the sink tells its bytes
-pub record Wrote (trace : List Event) (end : ℕ) (before after : Option (List ℕ)) : Type 0 where
+abbrev pub run_nest : Nest
+run_nest = One
+
+-- the text of a journal that is legal for a trace up to a tick was appended, where the sink tells its bytes
+pub record Wrote (trace : List Event) (until : ℕ) (before after : Option (List ℕ)) : Type 0 where
   pub notes : List Note
-  pub journal : IsJournal trace end notes
+  pub legal : Legal run_nest run_cost trace until notes
   pub appended : after ≡ append_known before (Text notes)
 
--- a front of its text was appended
-pub record WroteFront (trace : List Event) (end : ℕ) (before after : Option (List ℕ)) : Type 0 where
+pub record IsFrontOf (whole front : List Note) : Type 0 where
+  pub rest : List Note
+  pub is : whole ≡ front ++ rest
+
+-- whole steps and a front of the notes of one more, all before the events that were read and not applied
+pub record IsLegalFront (trace later : List Event) (notes : List Note) : Type 0 where
+  pub legal : LegalFront run_nest run_cost trace notes
+  pub before : All (λ e. All (λ n. time_of n < tick_of e) notes) later
+
+-- such a front, or one of the two first notes
+abbrev pub MayBeLeft : List Event → List Event → List Note → Type 0
+MayBeLeft trace later notes = IsFrontOf opening notes ⊎ IsLegalFront trace later notes
+
+-- the text of what may be left was appended without a last part of its last line, which may be empty or the whole line
+pub record WroteFront (trace later : List Event) (before after : Option (List ℕ)) : Type 0 where
   pub notes : List Note
-  pub journal : IsJournal trace end notes
-  pub front : AppendsFront before (Text notes) after
+  pub last : Note
+  pub left : MayBeLeft trace later (notes ++ last ∷ [])
+  pub front : AppendsFront (append_known before (Text notes)) (note_bytes last) after
 
 -- The whole trace was read, and its journal written.
 pub record IsDone (left before after : Option (List ℕ)) : Type 0 where
@@ -69,12 +89,12 @@ pub record IsReadFault (left before after : Option (List ℕ)) : Type 0 where
   pub reads : ReadsFront left trace
   pub wrote : Wrote trace (last_tick trace) before after
 
--- The sink failed. A front of the journal of the events that were read is written, up to END where that was read.
+-- The sink failed. The journal breaks off at a note; the events read later than that were not applied.
 pub record IsWriteFault (left before after : Option (List ℕ)) : Type 0 where
   pub trace : List Event
-  pub end : ℕ
-  pub reads : Reads left (Trace trace end) ⊎ (ReadsFront left trace × (end ≡ last_tick trace))
-  pub wrote : WroteFront trace end before after
+  pub later : List Event
+  pub reads : ReadsFront left (trace ++ later)
+  pub wrote : WroteFront trace later before after
 
 -- what was left to read, and what was given before and after
 abbrev pub Ran : Status → Option (List ℕ) → Option (List ℕ) → Option (List ℕ) → Type 0

@@ -1,12 +1,10 @@
 //! `am32sim`: a motor speed controller's control core, run on a trace of outside events.
 #![tactic(auto)]
 
-mod notes;
 mod run;
 mod status;
 #[cfg(test)]
 mod tests;
-mod windows;
 mod words;
 
 use esc_base::{InSource, OutSink};

@@ -7,13 +7,17 @@ ghost use Rattle.trace_text.specs.Read.{Read, Trace};
 ghost use Rattle.trace_text.specs.Read.{Refused as RefusedBy};
 ghost use Rattle.am32sim.specs.Run.{Ran, IsWriteFault, OnReadFault, OnWriteFault, OnNoEnd, IsFault};
 
-use crate::windows::Windows;
 use crate::{Status, Words};
-use esc_base::{Failed, Sink, Source};
+use esc_base::{Sink, Source};
+use interrupt_machine::Nest;
+use trace_runner::{RunConfig, Runner, WriteFault};
 use trace_text::{Item, Lines};
 
+/// The ticks from one step of the core to the next.
+const STEP_COST: u32 = 2;
+
 /// Runs the core on the trace that the source gives, and writes the journal. An `Err` is the sink's.
-fn run<S: Source, K: Sink>(src: &mut S, out: &mut K) -> Result<Status, Failed>
+fn run<S: Source, K: Sink>(src: &mut S, out: &mut K) -> Result<Status, WriteFault>
     ensures ok { IfOk result (λ s. Ran s (S.left src.old) (K.given out.old) (K.given out.new)) }
     ensures read_fault { IfOk result (λ s. OnReadFault s (Rose (S.faults src.old) (S.faults src.new))) }
     ensures no_end { IfOk result (λ s. OnNoEnd s (IsAtEnd (S.left src.new))) }
@@ -21,14 +25,17 @@ fn run<S: Source, K: Sink>(src: &mut S, out: &mut K) -> Result<Status, Failed>
     ensures err { OnErr result (IsWriteFault (S.left src.old) (K.given out.old) (K.given out.new)) }
     ensures write_fault { OnErr result (Rose (K.faults out.old) (K.faults out.new)) }
 {
-    let mut windows = Windows::start();
-    windows.begin(out)?;
+    let mut runner = Runner::start(RunConfig {
+        cost: STEP_COST,
+        nest: Nest::One,
+    });
+    runner.begin(out)?;
     let mut lines = Lines::new();
     loop {
         match lines.next(src) {
-            Item::Event(event) => windows.feed(event, out)?,
+            Item::Event(event) => runner.feed(event, out)?,
             Item::End(t) => {
-                windows.end(t, out)?;
+                runner.end(t, out)?;
                 return Ok(Status::Done);
             }
             Item::Fault => return Ok(Status::ReadFault),
@@ -62,6 +69,6 @@ pub fn sim_main<S: Source, K: Sink>(words: &Words, src: &mut S, out: &mut K) -> 
     }
     match run(src, out) {
         Ok(status) => status,
-        Err(Failed) => Status::WriteFault,
+        Err(WriteFault) => Status::WriteFault,
     }
 }
