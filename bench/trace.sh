@@ -1,25 +1,34 @@
 #!/bin/sh
-# Writes a trace of EDGES edges (default 1000000, rounded down to whole frames): DShot600 frames, one every 4000 ticks,
-# whose values go through the throttle range.
-edges=${1:-1000000}
-awk -v frames=$((edges / 32)) '
+# Writes a trace for measuring: trace.sh [N] [KIND], with N lines (default 1000000) beside the last one.
+#
+#   frames      DShot600 frames of 32 edges, one every 4000 ticks (N is rounded down to whole frames): first 3100 with
+#               value 0, which arm the controller, then values through the throttle range
+#   comparator  comparator changes, one every 24 ticks, with no frame and no drive: almost nothing but reading
+lines=${1:-1000000}
+kind=${2:-frames}
+awk -v lines="$lines" -v kind="$kind" '
 function xor4(a, b,   r, w) {
     r = 0
     for (w = 1; w < 16; w *= 2)
         if (int(a / w) % 2 != int(b / w) % 2) r += w
     return r
 }
-BEGIN {
-    gap = 4000
-    for (k = 0; k < frames; k++) {
-        upper = (48 + k % 2000) * 2
-        word = upper * 16 + xor4(xor4(upper % 16, int(upper / 16) % 16), int(upper / 256) % 16)
-        start = 1000 + k * gap
-        for (i = 15; i >= 0; i--) {
-            t = start + (15 - i) * 80
-            print t " E 1"
-            print t + (int(word / 2 ^ i) % 2 ? 60 : 30) " E 0"
-        }
+function frame(start, value,   upper, word, i, t) {
+    upper = value * 2
+    word = upper * 16 + xor4(xor4(upper % 16, int(upper / 16) % 16), int(upper / 256) % 16)
+    for (i = 15; i >= 0; i--) {
+        t = start + (15 - i) * 80
+        print t " E 1"
+        print t + (int(word / 2 ^ i) % 2 ? 60 : 30) " E 0"
     }
-    print 1000 + frames * gap " END"
+}
+BEGIN {
+    if (kind == "comparator") {
+        for (k = 1; k <= lines; k++) print k * 24 " C " k % 2
+        print lines * 24 + 24 " END"
+        exit
+    }
+    frames = int(lines / 32)
+    for (k = 0; k < frames; k++) frame(1000 + k * 4000, k < 3100 ? 0 : 48 + k % 2000)
+    print 1000 + frames * 4000 " END"
 }'

@@ -1,0 +1,31 @@
+#!/bin/sh
+# Runs the program on each sample trace and compares what it writes with the journal beside the trace, and its text on
+# standard error with NAME.error (none where that file isn't there). Ends with status 1 and the name at the first
+# difference. AM32SIM names another program than the repository's own.
+here=$(cd "$(dirname "$0")" && pwd) || exit 1
+program=${AM32SIM:-$here/../am32sim}
+work=$(mktemp -d) || exit 1
+trap 'rm -rf "$work"' EXIT
+# The first use of the repository's own program builds it and says so; that text is no part of a sample.
+echo "0 END" | "$program" run >"$work/journal" || exit 1
+count=0
+for trace in "$here"/*.trace; do
+    sample=${trace%.trace}
+    name=$(basename "$sample")
+    error=$sample.error
+    expected=1
+    if [ ! -f "$error" ]; then
+        error=/dev/null
+        expected=0
+    fi
+    "$program" run <"$trace" >"$work/journal" 2>"$work/error"
+    status=$?
+    if [ "$status" -ne "$expected" ] || ! cmp -s "$work/journal" "$sample.journal" ||
+        ! cmp -s "$work/error" "$error"; then
+        echo "$name: differs (status $status)" >&2
+        diff "$sample.journal" "$work/journal" | head -n 10 >&2
+        exit 1
+    fi
+    count=$((count + 1))
+done
+echo "$count samples as expected"
