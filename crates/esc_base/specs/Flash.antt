@@ -45,6 +45,15 @@ abbrev pub IsRead : Option (List ℕ) → ℕ → List ℕ → Type 0
 IsRead None at bytes = Unit {0}
 IsRead (Some cells) at bytes = bytes ≡ take (length bytes) (drop at cells)
 
+-- what a flash tells: its bytes, where it does, and how often it has failed
+pub record Told : Type 0 where
+  pub bytes : Option (List ℕ)
+  pub faults : ℕ
+
+-- the same of a device, by its meanings
+abbrev pub told : {D : Type 0} → (D → Option (List ℕ)) → (D → ℕ) → D → Told
+told {D} bytes faults dev = record { bytes = bytes dev; faults = faults dev }
+
 -- the bytes of the flash in memory
 abbrev pub flash_cells : MemFlash → List ℕ
 flash_cells flash = flash.cells.items

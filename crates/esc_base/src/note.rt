@@ -6,7 +6,7 @@ use crate::Tick;
 /// Why control was lost.
 #[derive(Clone, Copy, Debug, PartialEq, Eq, Drop)]
 pub enum Cause {
-    /// No good frame for a second.
+    /// No good frame for 10000 control ticks, half a second.
     Timeout,
     /// The motor didn't turn.
     Stuck,
