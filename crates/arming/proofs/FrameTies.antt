@@ -12,7 +12,7 @@ use Rattle.dshot_commands.specs.Repeats.{is_command, run_after, run_of, Run}
 use Rattle.dshot_commands.proofs.Runs.{acting_seven, run_more}
 use Rattle.arming.specs.Kept.{after_found, after_frame, is_still, start, Kept}
 use Rattle.arming.specs.ControlAt.{armed_at, command_run_at, demand_at, repeated_at, still_at, zeros_at}
-use Rattle.arming.specs.Controlled.{says}
+use Rattle.arming.specs.Controlled.{says, IsSave}
 use Rattle.arming.specs.Stands.{changes_control, with_frame, Stands, Ties}
 
 either : (b : Bool) (n : ℕ) → (if b then n else n) ≡ n
@@ -92,16 +92,16 @@ other_ties n c back h ties = record {
 }
 
 -- a note of another part of the core
-pub other_stands : (n : Note) (c : Kept) (back : List Note) → changes_control n ≡ false → says n ≡ None → Stands c back → Stands c (n ∷ back)
-other_stands (note.Good t v q) c back h e s = absurd (let g = h in cc)
-other_stands (note.Detected t m) c back h e s = absurd (let g = h in cc)
-other_stands (note.Control t n m d) c back h e s = absurd (let g = h in cc)
-other_stands (note.Armed t) c back h e s = absurd (let g = h in cc)
-other_stands (note.Lost t x) c back h e s = absurd (let g = h in cc)
-other_stands (note.Command t x) c back h e s = absurd (let g = e in cc)
-other_stands n c back h e s = record {
+pub other_stands : (n : Note) (c : Kept) (back : List Note) → changes_control n ≡ false → says n ≡ None → IsSave back n → Stands c back → Stands c (n ∷ back)
+other_stands (note.Good t v q) c back h e p s = absurd (let g = h in cc)
+other_stands (note.Detected t m) c back h e p s = absurd (let g = h in cc)
+other_stands (note.Control t n m d) c back h e p s = absurd (let g = h in cc)
+other_stands (note.Armed t) c back h e p s = absurd (let g = h in cc)
+other_stands (note.Lost t x) c back h e p s = absurd (let g = h in cc)
+other_stands (note.Command t x) c back h e p s = absurd (let g = e in cc)
+other_stands n c back h e p s = record {
   ties = other_ties n c back h s.ties;
-  controlled = (record { paid = sym s.none_owed; tick = tt }, s.controlled);
+  controlled = (record { paid = sym s.none_owed; tick = tt; save = p }, s.controlled);
   none_owed = refl;
 }
 
@@ -121,7 +121,7 @@ found_stands c back t mode s = record {
     quiet = s.ties.quiet;
     runs = s.ties.runs;
   };
-  controlled = (record { paid = sym s.none_owed; tick = tt }, s.controlled);
+  controlled = (record { paid = sym s.none_owed; tick = tt; save = tt }, s.controlled);
   none_owed = refl;
 }
 
@@ -146,12 +146,12 @@ run_is c back v ties =
 framed_stands : (o : Option Act) (c : Kept) (back : List Note) (t : Tick) (v q : ℕ) → acting (command_run_at v back) v ≡ o → Stands c back → Stands (after_frame c v) (with_frame t v q o back)
 framed_stands None c back t v q e s = record {
   ties = frame_ties c back t v q s.ties;
-  controlled = (record { paid = sym s.none_owed; tick = tt }, s.controlled);
+  controlled = (record { paid = sym s.none_owed; tick = tt; save = tt }, s.controlled);
   none_owed = rw e refl;
 }
 framed_stands (Some act) c back t v q e s = record {
   ties = other_ties (note.Command t (number_of act)) (after_frame c v) (note.Good t v q ∷ back) refl (frame_ties c back t v q s.ties);
-  controlled = (record { paid = rw e refl; tick = tt }, (record { paid = sym s.none_owed; tick = tt }, s.controlled));
+  controlled = (record { paid = rw e refl; tick = tt; save = tt }, (record { paid = sym s.none_owed; tick = tt; save = tt }, s.controlled));
   none_owed = refl;
 }
 

@@ -124,17 +124,17 @@ tick_at : (d : Decision) (c : Kept) (back : List Note) (t : Tick) (n s : ℕ) �
     → Stands (after_tick c n d) (with_tick t n s (answer_of d c.demand) back)
 tick_at (Loses why) c back t n s e f at lt stands = record {
   ties = lost_ties c back t n s why lt stands.ties;
-  controlled = (record { paid = rw f refl; tick = tt }, (record { paid = sym stands.none_owed; tick = (at, (lt, rw f refl)) }, stands.controlled));
+  controlled = (record { paid = rw f refl; tick = tt; save = tt }, (record { paid = sym stands.none_owed; tick = (at, (lt, rw f refl)); save = tt }, stands.controlled));
   none_owed = refl;
 }
 tick_at Arms c back t n s e f at lt stands = record {
   ties = arms_ties c back t n s e lt stands.ties;
-  controlled = (record { paid = rw f refl; tick = tt }, (record { paid = sym stands.none_owed; tick = (at, (lt, rw f refl)) }, stands.controlled));
+  controlled = (record { paid = rw f refl; tick = tt; save = tt }, (record { paid = sym stands.none_owed; tick = (at, (lt, rw f refl)); save = tt }, stands.controlled));
   none_owed = refl;
 }
 tick_at (Drives d) c back t n s e f at lt stands = record {
   ties = drives_ties c back t n s d lt stands.ties;
-  controlled = (record { paid = sym stands.none_owed; tick = (at, (lt, rw f refl)) }, stands.controlled);
+  controlled = (record { paid = sym stands.none_owed; tick = (at, (lt, rw f refl)); save = tt }, stands.controlled);
   none_owed = rw f refl;
 }
 

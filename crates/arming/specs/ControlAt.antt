@@ -1,5 +1,5 @@
 -- Control at a place of a journal, from the notes before that place, the newest first. Nothing is kept: each definition looks back.
-use Rattle.std.specs.Prelude.{ℕ, ◌+◌, Bool, true, false, ◌==◌, ◌&&◌, nat_le, min, max, if◌then◌else◌, List, [], ◌∷◌}
+use Rattle.std.specs.Prelude.{ℕ, ◌+◌, Bool, true, false, ◌==◌, ◌&&◌, ◌||◌, nat_le, min, max, if◌then◌else◌, List, [], ◌∷◌}
 use Rattle.esc_base.specs.declared.note.Note.{Note}
 use Rattle.esc_base.specs.declared.note.Note.TheVariants as note
 use Rattle.dshot_commands.specs.Repeats.{is_command}
@@ -80,6 +80,13 @@ repeated_at value (n ∷ back) = repeated_at value back
 -- the command run of a good frame with this value at this place
 abbrev pub command_run_at : ℕ → List Note → ℕ
 command_run_at value back = if still_at back && is_command value then repeated_at value back + 1 else 0
+
+-- a save is asked for: command 12 acted, and no P stands since
+abbrev pub asked_at : List Note → Bool
+asked_at [] = false
+asked_at (note.Saved t r ∷ back) = false
+asked_at (note.Command t c ∷ back) = (c == 12) || asked_at back
+asked_at (n ∷ back) = asked_at back
 
 abbrev pub control_at : List Note → View
 control_at back = record {

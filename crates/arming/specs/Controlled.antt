@@ -1,5 +1,5 @@
--- Which notes of control a journal may hold: K, A, X and M, in the places that the notes before ask for.
-use Rattle.std.specs.Prelude.{◌≡◌, ◌<◌, ℕ, ◌/◌, List, [], ◌∷◌, reverse, Option, Some, None}
+-- Which notes of control a journal may hold: K, A, X, M and P, in the places that the notes before ask for.
+use Rattle.std.specs.Prelude.{◌≡◌, ◌<◌, ℕ, ◌/◌, true, List, [], ◌∷◌, reverse, Option, Some, None}
 use Rattle.esc_base.specs.declared.note.Note.{Note}
 use Rattle.esc_base.specs.declared.note.Note.TheVariants as note
 use Rattle.esc_base.specs.Journal.{Each}
@@ -9,7 +9,7 @@ use Rattle.dshot_commands.specs.Act.{acting, number_of}
 use Rattle.arming.specs.declared.decision.Decision.{Decision}
 use Rattle.arming.specs.declared.decision.Decision.TheVariants.{Loses, Arms, Drives}
 use Rattle.arming.specs.Decide.{decide, demand_of}
-use Rattle.arming.specs.ControlAt.{command_run_at, control_at, number_at}
+use Rattle.arming.specs.ControlAt.{asked_at, command_run_at, control_at, number_at}
 
 -- what A, X and M say
 pub data Outcome : Type 0 where
@@ -44,10 +44,16 @@ abbrev pub IsTick : List Note → Note → Type 0
 IsTick back (note.Control t n s d) = (n ≡ t.0 / 2400) × ((number_at back < n) × (d ≡ demand_of (decide (control_at back) n s)))
 IsTick back n = Unit {0}
 
+-- a P stands where a save is asked for: so two P have a command 12 between them, and one stands before the first P
+abbrev pub IsSave : List Note → Note → Type 0
+IsSave back (note.Saved t r) = asked_at back ≡ true
+IsSave back n = Unit {0}
+
 -- a note fits the notes before it, which come with the newest first; A, X and M stand exactly where they are owed
 pub record FitsControl (back : List Note) (n : Note) : Type 0 where
   pub paid : says n ≡ owed back
   pub tick : IsTick back n
+  pub save : IsSave back n
 
 -- each note of a journal does
 abbrev pub Controlled : List Note → Type 0

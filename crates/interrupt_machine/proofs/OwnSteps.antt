@@ -2,6 +2,7 @@
 use Rattle.std.proofs.Common.{◌≡◌, ℕ, Bool, false, List, ◌++◌, Some, None, refl}
 use Rattle.esc_base.specs.declared.kind.Kind.{Kind}
 use Rattle.esc_base.specs.declared.note.Note.{Note}
+use Rattle.esc_base.specs.Flash.{Told}
 use Rattle.arrayvec.specs.ArrayVec.{ArrayVec}
 use Rattle.timer_regs.specs.Bank.{Bank}
 use Rattle.interrupt_machine.specs.declared.firmware.Did.{Did}
@@ -12,17 +13,17 @@ use Rattle.interrupt_machine.specs.Open.{innermost, outer_ones, next_entry, due_
 use Rattle.interrupt_machine.specs.Turn.{OwnStep, gate_note, leave_note, open_after}
 use Rattle.interrupt_machine.proofs.OpenKinds.{innermost_first}
 
-pub own_is : {F : Type 0} (made : F → Bank → Kind → Did → F → Bank → Type 0) (waits : F → Bool) (nest : Nest) (old new : F) (stack stack' : List Kind) (b a : Bank) (k : Kind) (did : Did) (gates notes : List Note) (hi lo : ℕ)
+pub own_is : {F : Type 0} (made : F → Bank → Told → Kind → Did → F → Bank → Told → Type 0) (waits : F → Bool) (nest : Nest) (old new : F) (stack stack' : List Kind) (b a : Bank) (flash flash' : Told) (k : Kind) (did : Did) (gates notes : List Note) (hi lo : ℕ)
     → (b.masked ≡ false → next_entry nest stack (due_now (waits old) b) ≡ None)
     → innermost stack ≡ Some k
-    → made old b k did new a
+    → made old b flash k did new a flash'
     → MakesOneAccess b a
     → stack' ≡ open_after k (outer_ones stack) did
     → hi ≡ b.hi → lo ≡ b.lo
     → gates ≡ gate_note hi lo a
     → notes ≡ (gates ++ notes_of did) ++ leave_note a k did
-    → (kind : Kind) × (outer : List Kind) × (d : Did) × OwnStep made waits nest old stack b kind outer d notes new stack' a
-own_is made waits nest old new stack stack' b a k did gates notes hi lo none i m one s h l g n = (
+    → (kind : Kind) × (outer : List Kind) × (d : Did) × OwnStep made waits nest old stack b flash kind outer d notes new stack' a flash'
+own_is made waits nest old new stack stack' b a flash flash' k did gates notes hi lo none i m one s h l g n = (
   k,
   outer_ones stack,
   did,

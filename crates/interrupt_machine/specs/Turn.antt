@@ -3,6 +3,7 @@ use Rattle.std.specs.Prelude.{◌≡◌, ◌⊎◌, ◌<◌, ◌≢◌, ℕ, Boo
 use Rattle.esc_base.specs.declared.kind.Kind.{Kind}
 use Rattle.esc_base.specs.declared.note.Note.{Note}
 use Rattle.esc_base.specs.declared.note.Note.TheVariants as note
+use Rattle.esc_base.specs.Flash.{Told}
 use Rattle.esc_base.specs.Numbers.{kind_number}
 use Rattle.timer_regs.specs.Bank.{Bank}
 use Rattle.timer_regs.specs.Effects.{after_entry}
@@ -40,19 +41,20 @@ pub record Entry {F : Type 0} (came : F → Kind → F → Type 0) (waits : F �
   pub regs_are : after ≡ after_entry before kind
   pub notes_are : notes ≡ note.Enter (record { 0 = before.time }) (kind_number kind) ∷ []
 
--- the innermost open handler makes a step of its own
-pub record OwnStep {F : Type 0} (made : F → Bank → Kind → Did → F → Bank → Type 0) (waits : F → Bool) (nest : Nest) (old : F) (stack : List Kind) (before : Bank) (kind : Kind) (outer : List Kind) (did : Did) (notes : List Note) (new : F) (stack' : List Kind) (after : Bank) : Type 0 where
+-- the innermost open handler makes a step of its own, in which it may call the flash
+pub record OwnStep {F : Type 0} (made : F → Bank → Told → Kind → Did → F → Bank → Told → Type 0) (waits : F → Bool) (nest : Nest) (old : F) (stack : List Kind) (before : Bank) (flash : Told) (kind : Kind) (outer : List Kind) (did : Did) (notes : List Note) (new : F) (stack' : List Kind) (after : Bank) (flash' : Told) : Type 0 where
   pub none_enters : before.masked ≡ false → next_entry nest stack (due_now (waits old) before) ≡ None
   pub innermost_is : stack ≡ kind ∷ outer
-  pub stepped : made old before kind did new after
+  pub stepped : made old before flash kind did new after flash'
   pub one_access : MakesOneAccess before after
   pub stack_is : stack' ≡ open_after kind outer did
   pub notes_are : notes ≡ own_notes before.hi before.lo after kind did
 
-abbrev pub Turn : {F : Type 0} → (F → Kind → F → Type 0) → (F → Bank → Kind → Did → F → Bank → Type 0) → (F → Bool) → Nest → F → List Kind → Bank → List Note → F → List Kind → Bank → Type 0
-Turn {F} came made waits nest old stack before notes new stack' after =
-    ((kind : Kind) × Entry came waits nest old stack before kind notes new stack' after)
-    ⊎ ((kind : Kind) × (outer : List Kind) × (did : Did) × OwnStep made waits nest old stack before kind outer did notes new stack' after)
+-- an entry, which leaves the flash, or an own step
+abbrev pub Turn : {F : Type 0} → (F → Kind → F → Type 0) → (F → Bank → Told → Kind → Did → F → Bank → Told → Type 0) → (F → Bool) → Nest → F → List Kind → Bank → Told → List Note → F → List Kind → Bank → Told → Type 0
+Turn {F} came made waits nest old stack before flash notes new stack' after flash' =
+    ((kind : Kind) × Entry came waits nest old stack before kind notes new stack' after × (flash' ≡ flash))
+    ⊎ ((kind : Kind) × (outer : List Kind) × (did : Did) × OwnStep made waits nest old stack before flash kind outer did notes new stack' after flash')
 
 -- a handler is open, and the mask may stand for a step more
 abbrev pub IsHeld : ℕ → List Kind → Type 0

@@ -1,12 +1,13 @@
 ghost use Rattle.std.specs.Prelude.{◌≡◌, ◌≢◌, ◌+◌, ◌<◌, ◌≤◌, ◌^◌, ℕ, Bool, true, false, All};
 ghost use Rattle.esc_base.specs.declared.kind.Kind.{Kind};
 ghost use Rattle.esc_base.specs.Range.{InRange};
+ghost use Rattle.esc_base.specs.Flash.{Told, told};
 ghost use Rattle.timer_regs.specs.Bank.{Bank};
 ghost use Rattle.interrupt_machine.specs.declared.firmware.Did.{Did};
 ghost use Rattle.interrupt_machine.specs.Did.{IsMore, IsReturn, notes_of, most, MakesOneAccess};
 
 use arrayvec::ArrayVec;
-use esc_base::{Kind, Note};
+use esc_base::{FlashDev, Kind, Note};
 use timer_regs::Regs;
 
 /// The notes that a step gives of its own.
@@ -27,8 +28,9 @@ pub trait Firmware: Drop {
     /// What an entry changes: the firmware before, the kind, the firmware after.
     ghost came: { Self → Kind → Self → Type 0 };
 
-    /// What a step changes: the firmware and the registers before, the kind, the answer, and both after.
-    ghost made: { Self → Bank → Kind → Did → Self → Bank → Type 0 };
+    /// What a step changes: the firmware, the registers and what the flash tells before, the kind, the answer, and these
+    /// three after.
+    ghost made: { Self → Bank → Told → Kind → Did → Self → Bank → Told → Type 0 };
 
     /// How many own steps a kind's open activation can still make.
     ghost left: { Self → Kind → ℕ };
@@ -48,12 +50,12 @@ pub trait Firmware: Drop {
         ensures hold { hold self.new ≡ hold self.old };
 
     /// Makes one step of the innermost open activation, which is of this kind: at most one access to the registers.
-    /// The mask stands for at most 8 steps in a row, and is down after a return.
-    fn step(&mut self, kind: Kind, regs: &mut Regs) -> Did
+    /// The mask stands for at most 8 steps in a row, and is down after a return. The flash is reached by steps alone.
+    fn step<D: FlashDev>(&mut self, kind: Kind, regs: &mut Regs, dev: &mut D) -> Did
         requires open { 0 < left self.old kind }
         requires held { regs.old.masked ≡ true → 0 < hold self.old }
         requires count { regs.old.accesses < 2 ^ 63 }
-        ensures made { made self.old regs.old kind result self.new regs.new }
+        ensures made { made self.old regs.old (told D.bytes D.faults dev.old) kind result self.new regs.new (told D.bytes D.faults dev.new) }
         ensures less { left self.new kind < left self.old kind }
         ensures others { (k : Kind) → k ≢ kind → left self.new k ≡ left self.old k }
         ensures more { IsMore result → 0 < left self.new kind }

@@ -1,6 +1,7 @@
 ghost use Rattle.std.specs.Prelude.{◌≡◌, ◌≢◌, ◌+◌, ◌<◌, ◌≤◌, ◌^◌, ◌++◌, ℕ, Bool, true, false, if◌then◌else◌, List, [], ◌∷◌, Option, Some, None, All, length};
 ghost use Rattle.esc_base.specs.declared.kind.Kind.{Kind};
 ghost use Rattle.esc_base.specs.Range.{InRange};
+ghost use Rattle.esc_base.specs.Flash.{told};
 ghost use Rattle.interrupt_machine.specs.declared.firmware.Did.{Did};
 ghost use Rattle.timer_regs.specs.Bank.{Bank};
 ghost use Rattle.interrupt_machine.specs.Did.{notes_of};
@@ -13,7 +14,7 @@ ghost use Rattle.interrupt_machine.specs.Turn.{Turn, Entry, OwnStep, IsHeld, own
 use crate::stack::Stack;
 use crate::{Did, Firmware, Nest, Own};
 use arrayvec::ArrayVec;
-use esc_base::{GateWord, Kind, Note, Tick};
+use esc_base::{FlashDev, GateWord, Kind, Note, Tick};
 use std::marker::Model;
 use timer_regs::{KindSet, Regs};
 
@@ -117,14 +118,15 @@ impl<F: Firmware> Machine<F> {
     /// One step of the machine, at now, and its notes. The machine isn't idle. Where the mask is up, a handler is open
     /// and the firmware's `hold` isn't 0, and this is so again after the step.
     ///
-    /// Where the mask is down and the highest due kind may enter, it is entered, with an I note. Else the innermost open
+    /// Where the mask is down and the highest due kind may enter, it is entered, with an I note, and the flash stays as it
+    /// is. Else the innermost open
     /// handler makes a step of its own, with at most one access: a G note where the gates changed, then the handler's
     /// own notes, then an O note where it was the return.
-    pub fn step(&mut self, regs: &mut Regs) -> Notes
+    pub fn step<D: FlashDev>(&mut self, regs: &mut Regs, dev: &mut D) -> Notes
         requires busy { is_idle self.old.open_kinds (due_now (F.waits self.old.firmware) regs.old) ≡ false }
         requires mask { regs.old.masked ≡ true → IsHeld (F.hold self.old.firmware) self.old.open_kinds }
         requires count { regs.old.accesses < 2 ^ 63 }
-        ensures turn { Turn F.came F.made F.waits self.old.nest self.old.firmware self.old.open_kinds regs.old result.items self.new.firmware self.new.open_kinds regs.new }
+        ensures turn { Turn F.came F.made F.waits self.old.nest self.old.firmware self.old.open_kinds regs.old (told D.bytes D.faults dev.old) result.items self.new.firmware self.new.open_kinds regs.new (told D.bytes D.faults dev.new) }
         ensures nest { self.new.nest ≡ self.old.nest }
         ensures mask { regs.new.masked ≡ true → IsHeld (F.hold self.new.firmware) self.new.open_kinds }
         ensures access { regs.new.accesses ≤ regs.old.accesses + 1 }
@@ -137,16 +139,16 @@ impl<F: Firmware> Machine<F> {
             (log ++ Stepped self.old.open_kinds (due_now (F.waits self.old.firmware) regs.old) self.new.open_kinds (due_now (F.waits self.new.firmware) regs.new) ∷ []) }
     {
         let mut notes = ArrayVec::new();
-        self.step_into(regs, &mut notes);
+        self.step_into(regs, dev, &mut notes);
         notes
     }
 
     /// As `step`, with the notes in a buffer that the caller keeps, since a run makes millions of steps.
-    pub fn step_into(&mut self, regs: &mut Regs, notes: &mut Notes)
+    pub fn step_into<D: FlashDev>(&mut self, regs: &mut Regs, dev: &mut D, notes: &mut Notes)
         requires busy { is_idle self.old.open_kinds (due_now (F.waits self.old.firmware) regs.old) ≡ false }
         requires mask { regs.old.masked ≡ true → IsHeld (F.hold self.old.firmware) self.old.open_kinds }
         requires count { regs.old.accesses < 2 ^ 63 }
-        ensures turn { Turn F.came F.made F.waits self.old.nest self.old.firmware self.old.open_kinds regs.old notes.new.items self.new.firmware self.new.open_kinds regs.new }
+        ensures turn { Turn F.came F.made F.waits self.old.nest self.old.firmware self.old.open_kinds regs.old (told D.bytes D.faults dev.old) notes.new.items self.new.firmware self.new.open_kinds regs.new (told D.bytes D.faults dev.new) }
         ensures nest { self.new.nest ≡ self.old.nest }
         ensures mask { regs.new.masked ≡ true → IsHeld (F.hold self.new.firmware) self.new.open_kinds }
         ensures access { regs.new.accesses ≤ regs.old.accesses + 1 }
@@ -161,7 +163,7 @@ impl<F: Firmware> Machine<F> {
         notes.clear();
         match self.entry(regs) {
             Some(kind) => self.enter(kind, regs, notes),
-            None => self.own_step(regs, notes),
+            None => self.own_step(regs, dev, notes),
         }
     }
 
@@ -219,13 +221,13 @@ impl<F: Firmware> Machine<F> {
     }
 
     /// Lets the innermost open handler make a step of its own.
-    fn own_step(&mut self, regs: &mut Regs, notes: &mut Notes)
+    fn own_step<D: FlashDev>(&mut self, regs: &mut Regs, dev: &mut D, notes: &mut Notes)
         requires none_enters { regs.old.masked ≡ false → next_entry self.old.nest self.old.open_kinds (due_now (F.waits self.old.firmware) regs.old) ≡ None }
         requires some_open { self.old.open_kinds ≢ [] }
         requires held { regs.old.masked ≡ true → 0 < F.hold self.old.firmware }
         requires count { regs.old.accesses < 2 ^ 63 }
         requires empty { notes.old.items ≡ [] }
-        ensures own { (kind : Kind) × (outer : List Kind) × (did : Did) × OwnStep F.made F.waits self.old.nest self.old.firmware self.old.open_kinds regs.old kind outer did notes.new.items self.new.firmware self.new.open_kinds regs.new }
+        ensures own { (kind : Kind) × (outer : List Kind) × (did : Did) × OwnStep F.made F.waits self.old.nest self.old.firmware self.old.open_kinds regs.old (told D.bytes D.faults dev.old) kind outer did notes.new.items self.new.firmware self.new.open_kinds regs.new (told D.bytes D.faults dev.new) }
         ensures nest { self.new.nest ≡ self.old.nest }
         ensures mask { regs.new.masked ≡ true → IsHeld (F.hold self.new.firmware) self.new.open_kinds }
         ensures access { regs.new.accesses ≤ regs.old.accesses + 1 }
@@ -241,7 +243,7 @@ impl<F: Firmware> Machine<F> {
             return;
         };
         let before = regs.gates();
-        let did = self.firmware.step(kind, regs);
+        let did = self.firmware.step(kind, regs, dev);
         note_gates(notes, before, regs);
         note_own(notes, kind, &did, regs);
         if let Did::Return(_) = &did {

@@ -4,8 +4,9 @@ ghost use Rattle.interrupt_machine.specs.Turn.{IsHeld};
 
 use crate::{Did, Firmware, Machine, Nest, Notes};
 use arrayvec::ArrayVec;
-use esc_base::{Kind, Note, Tick};
+use esc_base::{FlashDev, Kind, MemFlash, Note, Tick};
 use std::process::Abort;
+use std::test::Fail;
 use timer_regs::{Reg, Regs};
 
 /// MAIN raises the mask in the first of its four steps and lowers it in the third. The other kinds make two steps; in
@@ -23,7 +24,7 @@ struct Script {
 impl Firmware for Script {
     ghost came = { λ before kind after. Unit {0} };
 
-    ghost made = { λ before bank kind did after bank'. Unit {0} };
+    ghost made = { λ before bank flash kind did after bank' flash'. Unit {0} };
 
     ghost left = { λ s kind. slice_index s.left (kind_number kind) };
 
@@ -38,7 +39,7 @@ impl Firmware for Script {
         }
     }
 
-    fn step(&mut self, kind: Kind, regs: &mut Regs) -> Did {
+    fn step<D: FlashDev>(&mut self, kind: Kind, regs: &mut Regs, _dev: &mut D) -> Did {
         let at = kind.number() as usize;
         self.left[at] -= 1;
         if self.left[at] == 0 {
@@ -92,7 +93,13 @@ fn outcome_of(notes: &Notes) -> Came {
 }
 
 /// Makes a step for each row, and checks what it came to.
-fn follow(rt: &impl Abort, machine: &mut Machine<Script>, regs: &mut Regs, rows: &[Came])
+fn follow(
+    rt: &impl Abort,
+    machine: &mut Machine<Script>,
+    regs: &mut Regs,
+    flash: &mut MemFlash,
+    rows: &[Came],
+)
     requires { regs.old.masked ≡ true → IsHeld machine.old.firmware.hold machine.old.open_kinds }
     ensures mask { regs.new.masked ≡ true → IsHeld machine.new.firmware.hold machine.new.open_kinds }
 {
@@ -100,7 +107,7 @@ fn follow(rt: &impl Abort, machine: &mut Machine<Script>, regs: &mut Regs, rows:
     for row in rows {
         assert!(rt; !machine.idle(regs));
         assert!(rt; regs.accesses() < 100);
-        machine.step_into(regs, &mut notes);
+        machine.step_into(regs, flash, &mut notes);
         assert_eq!(rt; outcome_of(&notes), *row);
     }
 }
@@ -113,13 +120,14 @@ const CAP: u8 = 3;
 
 /// MAIN is interrupted by CAP and TICK, which come due while it holds the mask. CAP comes due again after the first
 /// step of TICK.
-fn interrupted(rt: &impl Abort, nest: Nest, rest: &[Came]) {
+fn interrupted(rt: &impl Abort, nest: Nest, flash: &mut MemFlash, rest: &[Came]) {
     let mut regs = Regs::new();
     let mut machine = Machine::new(waiting_main(), nest);
     follow(
         rt,
         &mut machine,
         &mut regs,
+        flash,
         &[Came::Entered(MAIN), Came::Stepped],
     );
     assert!(rt; regs.masked());
@@ -128,7 +136,7 @@ fn interrupted(rt: &impl Abort, nest: Nest, rest: &[Came]) {
     assert!(rt; regs.accesses() < 100);
     regs.write(Reg::CapAt, 2400);
     let held = [Came::Stepped, Came::Stepped];
-    follow(rt, &mut machine, &mut regs, &held);
+    follow(rt, &mut machine, &mut regs, flash, &held);
     assert!(rt; !regs.masked());
     let entries = [
         Came::Entered(CAP),
@@ -137,18 +145,19 @@ fn interrupted(rt: &impl Abort, nest: Nest, rest: &[Came]) {
         Came::Entered(TICK),
         Came::Stepped,
     ];
-    follow(rt, &mut machine, &mut regs, &entries);
+    follow(rt, &mut machine, &mut regs, flash, &entries);
     assert_eq!(rt; machine.depth(), 2);
     assert!(rt; !regs.masked());
     assert!(rt; regs.accesses() < 100);
     regs.write(Reg::CapAt, 2400);
-    follow(rt, &mut machine, &mut regs, rest);
+    follow(rt, &mut machine, &mut regs, flash, rest);
     assert!(rt; machine.idle(&regs));
     assert!(rt; !machine.firmware().waits);
 }
 
 #[test]
-fn kinds_enter_between_steps(rt: HostRuntime) {
+fn kinds_enter_between_steps(rt: HostRuntime) -> Result<(), Fail> {
+    let mut flash = MemFlash::new(rt.alloc())?;
     let rest = [
         Came::Entered(CAP),
         Came::Stepped,
@@ -156,11 +165,13 @@ fn kinds_enter_between_steps(rt: HostRuntime) {
         Came::Returned(TICK),
         Came::Returned(MAIN),
     ];
-    interrupted(&rt, Nest::Full, &rest);
+    interrupted(&rt, Nest::Full, &mut flash, &rest);
+    Ok(())
 }
 
 #[test]
-fn kinds_enter_above_main_alone(rt: HostRuntime) {
+fn kinds_enter_above_main_alone(rt: HostRuntime) -> Result<(), Fail> {
+    let mut flash = MemFlash::new(rt.alloc())?;
     let rest = [
         Came::Returned(TICK),
         Came::Entered(CAP),
@@ -168,28 +179,32 @@ fn kinds_enter_above_main_alone(rt: HostRuntime) {
         Came::Returned(CAP),
         Came::Returned(MAIN),
     ];
-    interrupted(&rt, Nest::One, &rest);
+    interrupted(&rt, Nest::One, &mut flash, &rest);
+    Ok(())
 }
 
 #[test]
-fn notes_of_steps(rt: HostRuntime) {
+fn notes_of_steps(rt: HostRuntime) -> Result<(), Fail> {
+    let mut flash = MemFlash::new(rt.alloc())?;
     let mut regs = Regs::new();
     let mut machine = Machine::new(waiting_main(), Nest::Full);
     assert!(rt; !machine.idle(&regs));
-    let entry = machine.step(&mut regs);
+    let entry = machine.step(&mut regs, &mut flash);
     let t = Tick(0);
     assert_eq!(rt; entry.as_slice(), [Note::Enter { t, k: MAIN }].as_slice());
     follow(
         &rt,
         &mut machine,
         &mut regs,
+        &mut flash,
         &[Came::Stepped, Came::Stepped, Came::Stepped],
     );
     assert!(rt; !machine.idle(&regs));
     assert!(rt; regs.accesses() < 100);
-    let last = machine.step(&mut regs);
+    let last = machine.step(&mut regs, &mut flash);
     assert_eq!(rt;
         last.as_slice(),
         [Note::Armed { t }, Note::Leave { t, k: MAIN }].as_slice()
     );
+    Ok(())
 }

@@ -13,7 +13,7 @@ invariant_of-self g c =
 pub returns-in-Return-clause-own : goal.returns-in-Return-clause-own
 returns-in-Return-clause-own g c =
     rw (← c.self.view_is)
-    (own_is g.F.Firmware.made g.F.Firmware.waits c.self.inside.nest c.self.inside.firmware c.step-did.new.self c.self.inside.stack c.pop.new.self c.args.regs.now c.step-did.new.regs
+    (own_is g.F.Firmware.made g.F.Firmware.waits c.self.inside.nest c.self.inside.firmware c.step-did.new.self c.self.inside.stack c.pop.new.self c.args.regs.now c.step-did.new.regs _ _
     c.in-Some.kind c.step-did.result c.note_gates.new.notes.items c.note_own.new.notes.items c.gates-before.result.hi c.gates-before.result.lo
     (rw (← c.self.view_is) at c.requires.none_enters) (sym c.in-Some.ensures) c.step-did.ensures.made c.step-did.ensures.access
     (went_back c.self.inside.stack c.pop.new.self c.in-Some.kind c.step-did.result _ c.pop.ensures.outer c.in-Return.is)
@@ -22,7 +22,7 @@ returns-in-Return-clause-own g c =
 pub returns-in_default-did-clause-own : goal.returns-in_default-did-clause-own
 returns-in_default-did-clause-own g c =
     rw (← c.self.view_is)
-    (own_is g.F.Firmware.made g.F.Firmware.waits c.self.inside.nest c.self.inside.firmware c.step-did.new.self c.self.inside.stack c.self.inside.stack c.args.regs.now c.step-did.new.regs
+    (own_is g.F.Firmware.made g.F.Firmware.waits c.self.inside.nest c.self.inside.firmware c.step-did.new.self c.self.inside.stack c.self.inside.stack c.args.regs.now c.step-did.new.regs _ _
     c.in-Some.kind c.step-did.result c.note_gates.new.notes.items c.note_own.new.notes.items c.gates-before.result.hi c.gates-before.result.lo
     (rw (← c.self.view_is) at c.requires.none_enters) (sym c.in-Some.ensures) c.step-did.ensures.made c.step-did.ensures.access
     (goes_on c.self.inside.stack c.in-Some.kind c.step-did.result _ (sym c.in-Some.ensures) c.in_default-did.is)
