@@ -1,5 +1,5 @@
 -- How far each step of the core takes its activation, and what it does to the mask.
-use Rattle.std.proofs.Common.{◌≡◌, ◌≢◌, ◌<◌, ◌≤◌, ◌+◌, ◌-◌, ℕ, Bool, true, false, ◌&&◌, ◌==◌, nat_lt, nat_le, min, if◌then◌else◌, [], ◌∷◌, ◌++◌, length, refl, sym, ◌∙◌, ap, arith, lit<, lit≤, ◌⊎◌, inl, inr}
+use Rattle.std.proofs.Common.{◌≡◌, ◌≢◌, ◌<◌, ◌≤◌, ◌+◌, ◌-◌, ℕ, Bool, true, false, ◌&&◌, ◌==◌, nat_lt, nat_le, min, if◌then◌else◌, [], ◌∷◌, ◌++◌, length, refl, sym, ◌∙◌, ap, arith, lit<, lit≤, ◌⊎◌, inl, inr, Option, None}
 use Rattle.std.proofs.lemmas.Bool.Decides.{nat_tests}
 use Rattle.esc_base.specs.declared.kind.Kind.{Kind}
 use Rattle.esc_base.specs.declared.kind.Kind.TheVariants as kind
@@ -8,21 +8,25 @@ use Rattle.timer_regs.specs.Effects.{read_value}
 use Rattle.timer_regs.specs.declared.regs.Reg.TheVariants as reg
 use Rattle.interrupt_machine.specs.declared.firmware.Did.{Did}
 use Rattle.interrupt_machine.specs.declared.firmware.Did.TheVariants.{More, Return}
-use Rattle.interrupt_machine.specs.Did.{IsMore, IsReturn, Reads, accessed, MakesOneAccess}
+use Rattle.interrupt_machine.specs.Did.{IsMore, IsReturn, NoAccess, Reads, accessed, MakesOneAccess}
 use Rattle.arming.specs.Decide.{decide}
 use Rattle.arming.specs.Kept.{after_tick, view_of}
 use Rattle.esc_core.specs.declared.state.CapAt.{CapAt}
 use Rattle.esc_core.specs.declared.state.CapAt.TheVariants as cap
 use Rattle.esc_core.specs.declared.state.TickAt.{TickAt}
 use Rattle.esc_core.specs.declared.state.TickAt.TheVariants as tick
+use Rattle.esc_core.specs.declared.state.MainAt.{MainAt}
+use Rattle.esc_core.specs.declared.state.MainAt.TheVariants as main
 use Rattle.esc_core.specs.declared.judge.Judgement.{Judgement}
 use Rattle.esc_core.specs.declared.judge.Judgement.TheVariants.{Good, Bad, Found, Nothing}
 use Rattle.esc_core.specs.Brain.{Brain}
-use Rattle.esc_core.specs.Judge.{judged}
+use Rattle.esc_core.specs.Judge.{inputs_of, judged}
 use Rattle.esc_core.specs.Stepped.{Stepped, IsStepped, is_return, goes_on, goes_back}
 use Rattle.esc_core.specs.Cap.{after_edges, after_copy, opens, takes, next_edge, judge_step, cap_step}
 use Rattle.esc_core.specs.Tick.{tick_notes, ticked, tick_step}
-use Rattle.esc_core.specs.Firmware.{cap_left, tick_left, bare_left, left_of, tick_need, shut, kind_step, counted_down, is_stray, stray_step, core_step}
+use Rattle.esc_core.specs.Background.{saving_step, main_step}
+use Rattle.esc_core.specs.Saving.{IsMade}
+use Rattle.esc_core.specs.Firmware.{cap_left, tick_left, main_left, bare_left, left_of, tick_need, shut, kind_step, kind_saves, counted_down, is_stray, stray_step, core_step, core_saves}
 
 -- ---- CAP
 
@@ -99,7 +103,7 @@ pub cap_moves : (at : CapAt) (c : Brain) (b : Bank) → 0 < cap_left at → CapM
 cap_moves cap.Shut c b l = absurd (omega arith)
 cap_moves cap.Start c b l = either_moves c.paused c b
 cap_moves (cap.Copy rest) c b l = copy_moves (takes c.burst (next_edge c b)) rest c b
-cap_moves cap.Judge c b l = judge_moves (judged c.window c.burst) c b
+cap_moves cap.Judge c b l = judge_moves (judged (inputs_of c.orders.settings) c.window c.burst) c b
 cap_moves cap.Open c b l = opens_moves 2 c b (lit< tt)
 cap_moves (cap.Pause at) c b l = record { less = lit< tt; more = λ e. lit< tt; masked = refl; hold = refl; tick = refl; main = refl; uart = refl; cmp = refl; pwm = refl; comm = refl }
 cap_moves cap.Back c b l = record { less = lit< tt; more = λ e. cc; masked = refl; hold = refl; tick = refl; main = refl; uart = refl; cmp = refl; pwm = refl; comm = refl }
@@ -145,6 +149,31 @@ unmasked_moves before true m' hold e f = cc
 unmasked_moves before false true hold e f = cc
 unmasked_moves before false false hold e f = record { some = λ m. cc; most = λ m. cc; less = λ m m'. cc }
 
+-- ---- MAIN
+
+-- it goes on, leaves the mask, and touches no other handler
+pub record MainMoves (left : ℕ) (c : Brain) (b : Bank) (s : Stepped) : Type 0 where
+  pub less : main_left s.core.main_at < left
+  pub more : s.over ≡ false → 0 < main_left s.core.main_at
+  pub masked : (accessed b s.access).masked ≡ b.masked
+  pub hold : s.core.hold ≡ c.hold
+  pub tick : s.core.tick_at ≡ c.tick_at
+  pub cap : s.core.cap_at ≡ c.cap_at
+  pub uart : s.core.uart_at ≡ c.uart_at
+  pub cmp : s.core.cmp_at ≡ c.cmp_at
+  pub pwm : s.core.pwm_at ≡ c.pwm_at
+  pub comm : s.core.comm_at ≡ c.comm_at
+
+work_moves : (v saved : Bool) (c : Brain) (b : Bank)
+    → MainMoves 2 c b (if v then saving_step saved (record c { main_at = main.Back }) b else goes_on (record c { main_at = main.Back }) NoAccess)
+work_moves true saved c b = record { less = lit< tt; more = λ e. lit< tt; masked = refl; hold = refl; tick = refl; cap = refl; uart = refl; cmp = refl; pwm = refl; comm = refl }
+work_moves false saved c b = record { less = lit< tt; more = λ e. lit< tt; masked = refl; hold = refl; tick = refl; cap = refl; uart = refl; cmp = refl; pwm = refl; comm = refl }
+
+pub main_moves : (at : MainAt) (saved : Bool) (c : Brain) (b : Bank) → 0 < main_left at → MainMoves (main_left at) c b (main_step saved at c b)
+main_moves main.Shut saved c b l = absurd (omega arith)
+main_moves main.Work saved c b l = work_moves c.orders.save saved c b
+main_moves main.Back saved c b l = record { less = lit< tt; more = λ e. cc; masked = refl; hold = refl; tick = refl; cap = refl; uart = refl; cmp = refl; pwm = refl; comm = refl }
+
 -- ---- any kind
 
 pub record Bounds (k : Kind) (c : Brain) (b : Bank) (s : Stepped) : Type 0 where
@@ -154,13 +183,27 @@ pub record Bounds (k : Kind) (c : Brain) (b : Bank) (s : Stepped) : Type 0 where
   pub back : s.over ≡ true → (accessed b s.access).masked ≡ false
   pub mask : MaskMoves c.hold b.masked (accessed b s.access).masked s.core.hold
 
-pub core_step-stray : (k : Kind) (c : Brain) (b : Bank) → is_stray k c b ≡ true → core_step k c b ≡ stray_step k c
+pub core_step-stray : (k : Kind) (saved : Bool) (c : Brain) (b : Bank) → is_stray k c b ≡ true → core_step k saved c b ≡ stray_step k c
 unfolding core_step
-core_step-stray k c b e = rw e refl
+core_step-stray k saved c b e = rw e refl
 
-pub core_step-goes : (k : Kind) (c : Brain) (b : Bank) → is_stray k c b ≡ false → core_step k c b ≡ kind_step k (counted_down c b) b
+pub core_step-goes : (k : Kind) (saved : Bool) (c : Brain) (b : Bank) → is_stray k c b ≡ false → core_step k saved c b ≡ kind_step k saved (counted_down c b) b
 unfolding core_step
-core_step-goes k c b e = rw e refl
+core_step-goes k saved c b e = rw e refl
+
+-- a stray step leaves the flash
+pub core_saves-stray : (k : Kind) (c : Brain) (b : Bank) → is_stray k c b ≡ true → core_saves k c b ≡ None
+unfolding core_saves
+core_saves-stray k c b e = rw e refl
+
+pub core_saves-goes : (k : Kind) (c : Brain) (b : Bank) → is_stray k c b ≡ false → core_saves k c b ≡ kind_saves k c
+unfolding core_saves
+core_saves-goes k c b e = rw e refl
+
+-- counting a masked step leaves what is to be saved
+pub counted_saves : (k : Kind) (c : Brain) (b : Bank) → kind_saves k (counted_down c b) ≡ kind_saves k c
+counted_saves kind.Main c b = refl
+counted_saves k c b = refl
 
 shut_left : (k : Kind) (c : Brain) → left_of (shut c k) k ≡ 0
 shut_left kind.Main c = refl
@@ -271,7 +314,7 @@ cap_bounds c b l m =
     }
   where
     cap_others : (c : Brain) (b : Bank) (s : Stepped) → CapMoves (cap_left c.cap_at) (counted_down c b) b s → (j : Kind) → j ≢ kind.Cap → left_of s.core j ≡ left_of c j
-    cap_others c b s m kind.Main ne = ap bare_left m.main
+    cap_others c b s m kind.Main ne = ap main_left m.main
     cap_others c b s m kind.Uart ne = ap bare_left m.uart
     cap_others c b s m kind.Tick ne = ap tick_left m.tick
     cap_others c b s m kind.Cap ne = absurd (ne refl)
@@ -343,7 +386,7 @@ tick_bounds c b l le h e =
     }
   where
     tick_others : (c : Brain) (b : Bank) (s : Stepped) → TickMoves (tick_left c.tick_at) (counted_down c b) b s → (j : Kind) → j ≢ kind.Tick → left_of s.core j ≡ left_of c j
-    tick_others c b s m kind.Main ne = ap bare_left m.main
+    tick_others c b s m kind.Main ne = ap main_left m.main
     tick_others c b s m kind.Uart ne = ap bare_left m.uart
     tick_others c b s m kind.Tick ne = absurd (ne refl)
     tick_others c b s m kind.Cap ne = ap cap_left m.cap
@@ -351,20 +394,40 @@ tick_bounds c b l le h e =
     tick_others c b s m kind.Pwm ne = ap bare_left m.pwm
     tick_others c b s m kind.Comm ne = ap bare_left m.comm
 
-goes_bounds : (k : Kind) (c : Brain) (b : Bank) → 0 < left_of c k → c.hold ≤ 8 → (b.masked ≡ true → 0 < c.hold) → is_stray k c b ≡ false → Bounds k c b (kind_step k (counted_down c b) b)
-goes_bounds kind.Tick c b l le h e = tick_bounds c b l le h e
-goes_bounds kind.Cap c b l le h e = cap_bounds c b l (no_mask b.masked c.hold le e)
-goes_bounds kind.Main c b l le h e = bare_bounds kind.Main c b l (no_mask b.masked c.hold le e)
-goes_bounds kind.Uart c b l le h e = bare_bounds kind.Uart c b l (no_mask b.masked c.hold le e)
-goes_bounds kind.Cmp c b l le h e = bare_bounds kind.Cmp c b l (no_mask b.masked c.hold le e)
-goes_bounds kind.Pwm c b l le h e = bare_bounds kind.Pwm c b l (no_mask b.masked c.hold le e)
-goes_bounds kind.Comm c b l le h e = bare_bounds kind.Comm c b l (no_mask b.masked c.hold le e)
+main_bounds : (saved : Bool) (c : Brain) (b : Bank) → 0 < main_left c.main_at → b.masked ≡ false → Bounds kind.Main c b (main_step saved c.main_at (counted_down c b) b)
+main_bounds saved c b l m =
+    let s : MainMoves (main_left c.main_at) (counted_down c b) b (main_step saved c.main_at (counted_down c b) b) = main_moves c.main_at saved (counted_down c b) b l in
+    record {
+      less = s.less;
+      others = main_others c b (main_step saved c.main_at (counted_down c b) b) s;
+      more = s.more;
+      back = λ e. s.masked ∙ m;
+      mask = unmasked_moves c.hold b.masked _ _ m s.masked;
+    }
+  where
+    main_others : (c : Brain) (b : Bank) (s : Stepped) → MainMoves (main_left c.main_at) (counted_down c b) b s → (j : Kind) → j ≢ kind.Main → left_of s.core j ≡ left_of c j
+    main_others c b s m kind.Main ne = absurd (ne refl)
+    main_others c b s m kind.Uart ne = ap bare_left m.uart
+    main_others c b s m kind.Tick ne = ap tick_left m.tick
+    main_others c b s m kind.Cap ne = ap cap_left m.cap
+    main_others c b s m kind.Cmp ne = ap bare_left m.cmp
+    main_others c b s m kind.Pwm ne = ap bare_left m.pwm
+    main_others c b s m kind.Comm ne = ap bare_left m.comm
+
+goes_bounds : (k : Kind) (saved : Bool) (c : Brain) (b : Bank) → 0 < left_of c k → c.hold ≤ 8 → (b.masked ≡ true → 0 < c.hold) → is_stray k c b ≡ false → Bounds k c b (kind_step k saved (counted_down c b) b)
+goes_bounds kind.Tick saved c b l le h e = tick_bounds c b l le h e
+goes_bounds kind.Cap saved c b l le h e = cap_bounds c b l (no_mask b.masked c.hold le e)
+goes_bounds kind.Main saved c b l le h e = main_bounds saved c b l (no_mask b.masked c.hold le e)
+goes_bounds kind.Uart saved c b l le h e = bare_bounds kind.Uart c b l (no_mask b.masked c.hold le e)
+goes_bounds kind.Cmp saved c b l le h e = bare_bounds kind.Cmp c b l (no_mask b.masked c.hold le e)
+goes_bounds kind.Pwm saved c b l le h e = bare_bounds kind.Pwm c b l (no_mask b.masked c.hold le e)
+goes_bounds kind.Comm saved c b l le h e = bare_bounds kind.Comm c b l (no_mask b.masked c.hold le e)
 
 -- each step of the core, in every state
-pub bounds : (k : Kind) (c : Brain) (b : Bank) → 0 < left_of c k → c.hold ≤ 8 → (b.masked ≡ true → 0 < c.hold) → Bounds k c b (core_step k c b)
-bounds k c b l le h = elim (by_bool (is_stray k c b)) [
-  | inl s ↦ rw (core_step-stray k c b s) (stray_bounds k c b l)
-  | inr g ↦ rw (core_step-goes k c b g) (goes_bounds k c b l le h g)
+pub bounds : (k : Kind) (saved : Bool) (c : Brain) (b : Bank) → 0 < left_of c k → c.hold ≤ 8 → (b.masked ≡ true → 0 < c.hold) → Bounds k c b (core_step k saved c b)
+bounds k saved c b l le h = elim (by_bool (is_stray k c b)) [
+  | inl s ↦ rw (core_step-stray k saved c b s) (stray_bounds k c b l)
+  | inr g ↦ rw (core_step-goes k saved c b g) (goes_bounds k saved c b l le h g)
 ]
   where
     by_bool : (v : Bool) → (v ≡ true) ⊎ (v ≡ false)
@@ -391,10 +454,10 @@ is_over : (did : Did) → IsReturn did → is_return did ≡ true
 is_over (More own) r = absurd r
 is_over (Return own) r = refl
 
-pub keeps : (k : Kind) (c : Brain) (b : Bank) (did : Did) (c' : Brain) (b' : Bank) → 0 < left_of c k → c.hold ≤ 8 → (b.masked ≡ true → 0 < c.hold)
-    → IsStepped b (core_step k c b) did c' b' → Keeps k c b did c' b'
-keeps k c b did c' b' l le h i =
-    let n = bounds k c b l le h in
+pub keeps : (k : Kind) (saved : Bool) (c : Brain) (b : Bank) (did : Did) (c' : Brain) (b' : Bank) → 0 < left_of c k → c.hold ≤ 8 → (b.masked ≡ true → 0 < c.hold)
+    → IsStepped b (core_step k saved c b) did c' b' → Keeps k c b did c' b'
+keeps k saved c b did c' b' l le h i =
+    let n = bounds k saved c b l le h in
     record {
       less = rw i.core_is n.less;
       others = λ j ne. rw i.core_is (n.others j ne);
@@ -403,5 +466,5 @@ keeps k c b did c' b' l le h i =
       mask_some = rw (i.core_is, i.bank_is) n.mask.some;
       mask_most = rw (i.core_is, i.bank_is) n.mask.most;
       mask_less = rw (i.core_is, i.bank_is) n.mask.less;
-      access = record { access = (core_step k c b).access; after_is = i.bank_is };
+      access = record { access = (core_step k saved c b).access; after_is = i.bank_is };
     }

@@ -5,12 +5,14 @@ use Rattle.esc_base.specs.declared.signal.Mode.{Mode}
 use Rattle.arming.specs.Kept.{Kept}
 use Rattle.esc_core.specs.declared.state.CapAt.{CapAt}
 use Rattle.esc_core.specs.declared.state.TickAt.{TickAt}
+use Rattle.esc_core.specs.declared.state.MainAt.{MainAt}
 use Rattle.esc_core.specs.declared.state.BareAt.{BareAt}
+use Rattle.esc_core.specs.declared.orders.Orders.{Orders}
 
 pub record Brain : Type 0 where
   pub cap_at : CapAt
   pub tick_at : TickAt
-  pub main_at : BareAt
+  pub main_at : MainAt
   pub uart_at : BareAt
   pub cmp_at : BareAt
   pub pwm_at : BareAt
@@ -24,3 +26,4 @@ pub record Brain : Type 0 where
   -- the window timer was set, and no window was opened since
   pub paused : Bool
   pub control : Kept
+  pub orders : Orders

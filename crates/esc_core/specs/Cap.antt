@@ -3,6 +3,7 @@
 use Rattle.std.specs.Prelude.{ℕ, ◌+◌, ◌-◌, min, Bool, true, false, ◌&&◌, ◌==◌, nat_le, nat_lt, if◌then◌else◌, List, [], ◌∷◌, ◌++◌, length, Option, Some, None}
 use Rattle.esc_base.specs.declared.tick.Tick.{Tick}
 use Rattle.esc_base.specs.declared.signal.Edge.{Edge}
+use Rattle.esc_base.specs.declared.signal.Frame.{Frame}
 use Rattle.esc_base.specs.declared.note.Note.{Note}
 use Rattle.esc_base.specs.declared.note.Note.TheVariants as note
 use Rattle.esc_base.specs.Numbers.{mode_number, why_number}
@@ -19,7 +20,8 @@ use Rattle.esc_core.specs.declared.state.CapAt.TheVariants as cap
 use Rattle.esc_core.specs.declared.judge.Judgement.{Judgement}
 use Rattle.esc_core.specs.declared.judge.Judgement.TheVariants.{Good, Bad, Found, Nothing}
 use Rattle.esc_core.specs.Brain.{Brain}
-use Rattle.esc_core.specs.Judge.{judged}
+use Rattle.esc_core.specs.Judge.{inputs_of, judged}
+use Rattle.esc_core.specs.Orders.{obeyed_if}
 use Rattle.esc_core.specs.Stepped.{Stepped, goes_on, goes_back}
 
 abbrev pub tick_at : ℕ → Tick
@@ -58,11 +60,15 @@ bit_of false = 0
 abbrev pub pause_from : ℕ → ℕ
 pause_from t = t + 600
 
+-- the act of a good frame's command, where it acts
+abbrev pub act_in : Brain → Frame → Option Act
+act_in c frame = acting (after_frame c.control frame.value).run.frames frame.value
+
 abbrev pub judge_step : Judgement → Brain → Bank → Stepped
 judge_step (Good frame) c b = record {
-  core = record c { cap_at = cap.Open; control = after_frame c.control frame.value };
+  core = record c { cap_at = cap.Open; control = after_frame c.control frame.value; orders = obeyed_if c.orders (act_in c frame) };
   access = NoAccess;
-  notes = note.Good (tick_at b.time) frame.value (bit_of frame.telemetry) ∷ command_note b.time (acting (after_frame c.control frame.value).run.frames frame.value);
+  notes = note.Good (tick_at b.time) frame.value (bit_of frame.telemetry) ∷ command_note b.time (act_in c frame);
   over = false;
 }
 judge_step (Bad why) c b = record {
@@ -101,7 +107,7 @@ cap_step (cap.Copy rest) c b =
     then record c { burst = c.burst ++ next_edge c b ∷ []; cap_at = after_copy rest }
     else record c { cap_at = cap.Back })
     (Reads (reg.CapEdge (length c.burst)))
-cap_step cap.Judge c b = judge_step (judged c.window c.burst) c b
+cap_step cap.Judge c b = judge_step (judged (inputs_of c.orders.settings) c.window c.burst) c b
 cap_step cap.Open c b = opens c b
 cap_step (cap.Pause at) c b = goes_on (record c { cap_at = cap.Back; paused = true }) (Writes reg.CapAt at)
 cap_step cap.Back c b = goes_back (record c { cap_at = cap.Shut })

@@ -1,5 +1,5 @@
 -- An entry and a step of the core, whatever the kind.
-use Rattle.std.specs.Prelude.{ℕ, ◌+◌, ◌-◌, Bool, true, false, ◌&&◌, if◌then◌else◌, nat_lt, []}
+use Rattle.std.specs.Prelude.{ℕ, ◌+◌, ◌-◌, Bool, true, false, ◌&&◌, if◌then◌else◌, nat_lt, List, [], Option, None}
 use Rattle.esc_base.specs.declared.kind.Kind.{Kind}
 use Rattle.esc_base.specs.declared.kind.Kind.TheVariants as kind
 use Rattle.esc_base.specs.declared.signal.Mode.TheVariants.{Unknown}
@@ -11,12 +11,17 @@ use Rattle.esc_core.specs.declared.state.CapAt.{CapAt}
 use Rattle.esc_core.specs.declared.state.CapAt.TheVariants as cap
 use Rattle.esc_core.specs.declared.state.TickAt.{TickAt}
 use Rattle.esc_core.specs.declared.state.TickAt.TheVariants as tick
+use Rattle.esc_core.specs.declared.state.MainAt.{MainAt}
+use Rattle.esc_core.specs.declared.state.MainAt.TheVariants as main
 use Rattle.esc_core.specs.declared.state.BareAt.{BareAt}
 use Rattle.esc_core.specs.declared.state.BareAt.TheVariants as bare
+use Rattle.settings_block.specs.declared.settings.Settings.{Settings}
+use Rattle.esc_core.specs.Orders.{first_orders}
 use Rattle.esc_core.specs.Brain.{Brain}
 use Rattle.esc_core.specs.Stepped.{Stepped, goes_back}
 use Rattle.esc_core.specs.Cap.{cap_step}
 use Rattle.esc_core.specs.Tick.{tick_step}
+use Rattle.esc_core.specs.Background.{main_step, main_saves}
 
 -- how many own steps are left from a place
 abbrev pub cap_left : CapAt → ℕ
@@ -35,12 +40,17 @@ tick_left tick.Read = 3
 tick_left tick.Lower = 2
 tick_left tick.Back = 1
 
+abbrev pub main_left : MainAt → ℕ
+main_left main.Shut = 0
+main_left main.Work = 2
+main_left main.Back = 1
+
 abbrev pub bare_left : BareAt → ℕ
 bare_left bare.Shut = 0
 bare_left bare.Back = 1
 
 abbrev pub left_of : Brain → Kind → ℕ
-left_of c kind.Main = bare_left c.main_at
+left_of c kind.Main = main_left c.main_at
 left_of c kind.Uart = bare_left c.uart_at
 left_of c kind.Tick = tick_left c.tick_at
 left_of c kind.Cap = cap_left c.cap_at
@@ -66,7 +76,7 @@ need_of c kind.Pwm = 9
 need_of c kind.Comm = 9
 
 abbrev pub shut : Brain → Kind → Brain
-shut c kind.Main = record c { main_at = bare.Shut }
+shut c kind.Main = record c { main_at = main.Shut }
 shut c kind.Uart = record c { uart_at = bare.Shut }
 shut c kind.Tick = record c { tick_at = tick.Shut }
 shut c kind.Cap = record c { cap_at = cap.Shut }
@@ -75,7 +85,7 @@ shut c kind.Pwm = record c { pwm_at = bare.Shut }
 shut c kind.Comm = record c { comm_at = bare.Shut }
 
 abbrev pub entered_core : Brain → Kind → Brain
-entered_core c kind.Main = record c { main_at = bare.Back }
+entered_core c kind.Main = record c { main_at = main.Work }
 entered_core c kind.Uart = record c { uart_at = bare.Back }
 entered_core c kind.Tick = record c { tick_at = tick.Raise }
 entered_core c kind.Cap = record c { cap_at = cap.Start }
@@ -84,14 +94,24 @@ entered_core c kind.Pwm = record c { pwm_at = bare.Back }
 entered_core c kind.Comm = record c { comm_at = bare.Back }
 
 -- a handler that isn't built returns at once
-abbrev pub kind_step : Kind → Brain → Bank → Stepped
-kind_step kind.Tick c b = tick_step c.tick_at c b
-kind_step kind.Cap c b = cap_step c.cap_at c b
-kind_step kind.Main c b = goes_back (shut c kind.Main)
-kind_step kind.Uart c b = goes_back (shut c kind.Uart)
-kind_step kind.Cmp c b = goes_back (shut c kind.Cmp)
-kind_step kind.Pwm c b = goes_back (shut c kind.Pwm)
-kind_step kind.Comm c b = goes_back (shut c kind.Comm)
+abbrev pub kind_step : Kind → Bool → Brain → Bank → Stepped
+kind_step kind.Tick saved c b = tick_step c.tick_at c b
+kind_step kind.Cap saved c b = cap_step c.cap_at c b
+kind_step kind.Main saved c b = main_step saved c.main_at c b
+kind_step kind.Uart saved c b = goes_back (shut c kind.Uart)
+kind_step kind.Cmp saved c b = goes_back (shut c kind.Cmp)
+kind_step kind.Pwm saved c b = goes_back (shut c kind.Pwm)
+kind_step kind.Comm saved c b = goes_back (shut c kind.Comm)
+
+-- the block that a step hands to the flash, if it saves
+abbrev pub kind_saves : Kind → Brain → Option (List ℕ)
+kind_saves kind.Main c = main_saves c.main_at c.orders
+kind_saves kind.Uart c = None
+kind_saves kind.Tick c = None
+kind_saves kind.Cap c = None
+kind_saves kind.Cmp c = None
+kind_saves kind.Pwm c = None
+kind_saves kind.Comm c = None
 
 -- the masked steps are counted
 abbrev pub counted_down : Brain → Bank → Brain
@@ -105,14 +125,18 @@ is_stray k c b = b.masked && nat_lt c.hold (need_of c k)
 abbrev pub stray_step : Kind → Brain → Stepped
 stray_step k c = record { core = shut c k; access = Writes reg.Mask 0; notes = []; over = true }
 
-unfoldable pub core_step : Kind → Brain → Bank → Stepped
-core_step k c b = if is_stray k c b then stray_step k c else kind_step k (counted_down c b) b
+-- a step, where the flash took what it saves, or refused it
+unfoldable pub core_step : Kind → Bool → Brain → Bank → Stepped
+core_step k saved c b = if is_stray k c b then stray_step k c else kind_step k saved (counted_down c b) b
 
-abbrev pub new_core : Brain
-new_core = record {
+unfoldable pub core_saves : Kind → Brain → Bank → Option (List ℕ)
+core_saves k c b = if is_stray k c b then None else kind_saves k c
+
+abbrev pub new_core : Settings → Brain
+new_core settings = record {
   cap_at = cap.Shut;
   tick_at = tick.Shut;
-  main_at = bare.Shut;
+  main_at = main.Shut;
   uart_at = bare.Shut;
   cmp_at = bare.Shut;
   pwm_at = bare.Shut;
@@ -122,4 +146,5 @@ new_core = record {
   burst = [];
   paused = false;
   control = start;
+  orders = first_orders settings;
 }

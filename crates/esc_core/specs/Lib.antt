@@ -1,6 +1,9 @@
+pub mod Orders
 pub mod Brain
 pub mod Judge
 pub mod Stepped
 pub mod Cap
 pub mod Tick
+pub mod Background
+pub mod Saving
 pub mod Firmware

@@ -101,7 +101,7 @@ impl Core {
         ensures in_range { All InRange (notes_of result) }
     {
         let t = regs.now();
-        match judge(self.window, &self.burst) {
+        match judge(&self.orders.settings, self.window, &self.burst) {
             Judgement::Good(frame) => self.accept(frame, t),
             Judgement::Found(mode) => {
                 self.control.found(mode);
@@ -135,11 +135,12 @@ impl Core {
             v: frame.value,
             q: frame.telemetry as u8,
         };
-        let command = match act {
-            Some(act) => Some(Note::Command { t, c: act.number() }),
-            None => None,
+        let Some(act) = act else {
+            return Did::More(one_note(good));
         };
-        Did::More(note_and(good, command))
+        self.orders.obey(act);
+        let command = Note::Command { t, c: act.number() };
+        Did::More(note_and(good, Some(command)))
     }
 }
 

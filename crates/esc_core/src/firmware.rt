@@ -1,27 +1,29 @@
 //! The core as the machine's firmware.
 ghost use Rattle.std.specs.Prelude.{◌≡◌, ◌<◌, ◌≤◌, ◌^◌, ◌-◌, ℕ, true, false, All, if◌then◌else◌};
+ghost use Rattle.esc_base.specs.Flash.{Told, told};
 ghost use Rattle.esc_base.specs.Range.{InRange};
 ghost use Rattle.interrupt_machine.specs.Did.{notes_of};
-ghost use Rattle.esc_core.specs.Stepped.{IsStepped};
-ghost use Rattle.esc_core.specs.Firmware.{core_step, entered_core, left_of, need_of, is_stray, counted_down, shut, kind_step, new_core};
+ghost use Rattle.esc_core.specs.Saving.{IsMade};
+ghost use Rattle.esc_core.specs.Firmware.{core_step, entered_core, left_of, need_of, is_stray, counted_down, shut, kind_step, kind_saves, core_saves, new_core};
 
 use crate::own::no_note;
-use crate::{BareAt, CapAt, Core, TickAt};
+use crate::{BareAt, CapAt, Core, MainAt, Orders, TickAt};
 use arming::Control;
 use edge_capture::Burst;
-use esc_base::{Kind, Mode};
+use esc_base::{FlashDev, Kind, Mode};
 use interrupt_machine::{Did, Firmware};
+use settings_block::Settings;
 use timer_regs::{Reg, Regs};
 
 impl Core {
-    /// No handler is open, nothing is detected, control isn't armed.
-    pub fn new() -> Core
-        ensures { result ≡ new_core }
+    /// No handler is open, nothing is detected, control isn't armed, and no command has acted.
+    pub fn new(settings: Settings) -> Core
+        ensures { result ≡ new_core settings }
     {
         Core {
             cap_at: CapAt::Shut,
             tick_at: TickAt::Shut,
-            main_at: BareAt::Shut,
+            main_at: MainAt::Shut,
             uart_at: BareAt::Shut,
             cmp_at: BareAt::Shut,
             pwm_at: BareAt::Shut,
@@ -31,6 +33,7 @@ impl Core {
             burst: Burst::new(),
             paused: false,
             control: Control::new(),
+            orders: Orders::new(settings),
         }
     }
 
@@ -51,7 +54,7 @@ impl Core {
         ensures { self.new ≡ shut self.old kind }
     {
         match kind {
-            Kind::Main => self.main_at = BareAt::Shut,
+            Kind::Main => self.main_at = MainAt::Shut,
             Kind::Uart => self.uart_at = BareAt::Shut,
             Kind::Tick => self.tick_at = TickAt::Shut,
             Kind::Cap => self.cap_at = CapAt::Shut,
@@ -61,15 +64,16 @@ impl Core {
         }
     }
 
-    fn kind_step(&mut self, kind: Kind, regs: &mut Regs) -> Did
+    fn kind_step<D: FlashDev>(&mut self, kind: Kind, regs: &mut Regs, dev: &mut D) -> Did
         requires count { regs.old.accesses < 2 ^ 63 }
-        ensures step { IsStepped regs.old (kind_step kind self.old regs.old) result self.new regs.new }
+        ensures made { IsMade (λ saved. kind_step kind saved self.old regs.old) (kind_saves kind self.old) regs.old (told D.bytes D.faults dev.old) result self.new regs.new (told D.bytes D.faults dev.new) }
         ensures in_range { All InRange (notes_of result) }
     {
         match kind {
             Kind::Tick => self.tick_step(regs),
             Kind::Cap => self.cap_step(regs),
-            Kind::Main | Kind::Uart | Kind::Cmp | Kind::Pwm | Kind::Comm => {
+            Kind::Main => self.main_step(regs, dev),
+            Kind::Uart | Kind::Cmp | Kind::Pwm | Kind::Comm => {
                 self.shut(kind);
                 Did::Return(no_note())
             }
@@ -90,9 +94,9 @@ impl Core {
         }
     }
 
-    fn core_step(&mut self, kind: Kind, regs: &mut Regs) -> Did
+    fn core_step<D: FlashDev>(&mut self, kind: Kind, regs: &mut Regs, dev: &mut D) -> Did
         requires count { regs.old.accesses < 2 ^ 63 }
-        ensures step { IsStepped regs.old (core_step kind self.old regs.old) result self.new regs.new }
+        ensures made { IsMade (λ saved. core_step kind saved self.old regs.old) (core_saves kind self.old regs.old) regs.old (told D.bytes D.faults dev.old) result self.new regs.new (told D.bytes D.faults dev.new) }
         ensures in_range { All InRange (notes_of result) }
     {
         if self.is_stray(kind, regs) {
@@ -101,24 +105,24 @@ impl Core {
             return Did::Return(no_note());
         }
         self.count_down(regs);
-        self.kind_step(kind, regs)
+        self.kind_step(kind, regs, dev)
     }
 }
 
 impl Firmware for Core {
     ghost came = { λ c k d. d ≡ entered_core c k };
 
-    ghost made = { λ c b k did d a. IsStepped b (core_step k c b) did d a };
+    ghost made = { λ c b flash k did d a flash'. IsMade (λ saved. core_step k saved c b) (core_saves k c b) b flash did d a flash' };
 
     ghost left = { left_of };
 
     ghost hold = { λ c. c.hold };
 
-    ghost waits = { λ _. false };
+    ghost waits = { λ c. c.orders.save };
 
     fn enter(&mut self, kind: Kind) {
         match kind {
-            Kind::Main => self.main_at = BareAt::Back,
+            Kind::Main => self.main_at = MainAt::Work,
             Kind::Uart => self.uart_at = BareAt::Back,
             Kind::Tick => self.tick_at = TickAt::Raise,
             Kind::Cap => self.cap_at = CapAt::Start,
@@ -128,12 +132,12 @@ impl Firmware for Core {
         }
     }
 
-    fn step(&mut self, kind: Kind, regs: &mut Regs) -> Did {
+    fn step<D: FlashDev>(&mut self, kind: Kind, regs: &mut Regs, dev: &mut D) -> Did {
         let _ = &self.hold;
-        self.core_step(kind, regs)
+        self.core_step(kind, regs, dev)
     }
 
     fn waiting(&self) -> bool {
-        false
+        self.orders.save
     }
 }

@@ -1,9 +1,11 @@
 //! The control core: what each activation of an interrupt handler does, one register access a step.
 #![tactic(auto)]
 
+mod background;
 mod cap;
 mod firmware;
 mod judge;
+mod orders;
 mod own;
 mod state;
 #[cfg(test)]
@@ -11,4 +13,5 @@ mod tests;
 mod tick;
 
 pub use judge::Judgement;
-pub use state::{BareAt, CapAt, Core, TickAt};
+pub use orders::Orders;
+pub use state::{BareAt, CapAt, Core, MainAt, TickAt};

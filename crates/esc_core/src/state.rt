@@ -1,4 +1,5 @@
 //! Where each open activation stands, and what the core keeps.
+use crate::Orders;
 use arming::Control;
 use edge_capture::Burst;
 use esc_base::Mode;
@@ -34,6 +35,15 @@ pub enum TickAt {
     Back,
 }
 
+/// Where an open MAIN stands.
+#[derive(Clone, Copy, Debug, PartialEq, Eq, Drop)]
+pub enum MainAt {
+    Shut,
+    /// Does what waits.
+    Work,
+    Back,
+}
+
 /// Where an open handler stands that does nothing yet.
 #[derive(Clone, Copy, Debug, PartialEq, Eq, Drop)]
 pub enum BareAt {
@@ -46,7 +56,7 @@ pub enum BareAt {
 pub struct Core {
     pub(crate) cap_at: CapAt,
     pub(crate) tick_at: TickAt,
-    pub(crate) main_at: BareAt,
+    pub(crate) main_at: MainAt,
     pub(crate) uart_at: BareAt,
     pub(crate) cmp_at: BareAt,
     pub(crate) pwm_at: BareAt,
@@ -60,6 +70,7 @@ pub struct Core {
     /// The window timer was set, and no window was opened since.
     pub(crate) paused: bool,
     pub(crate) control: Control,
+    pub(crate) orders: Orders,
 }
 
 impl Model for Core {
@@ -68,7 +79,7 @@ impl Model for Core {
 
     ghost Value = { Brain };
 
-    ghost view = { λ c. record { cap_at = c.cap_at; tick_at = c.tick_at; main_at = c.main_at; uart_at = c.uart_at; cmp_at = c.cmp_at; pwm_at = c.pwm_at; comm_at = c.comm_at; hold = c.hold; window = c.window; burst = c.burst; paused = c.paused; control = c.control } };
+    ghost view = { λ c. record { cap_at = c.cap_at; tick_at = c.tick_at; main_at = c.main_at; uart_at = c.uart_at; cmp_at = c.cmp_at; pwm_at = c.pwm_at; comm_at = c.comm_at; hold = c.hold; window = c.window; burst = c.burst; paused = c.paused; control = c.control; orders = c.orders } };
 
     ghost invariant = { λ c. c.hold ≤ 8 };
 }

@@ -25,7 +25,7 @@ fn follow(rt: &impl Abort, machine: &mut Machine<Core>, regs: &mut Regs, rows: &
 #[test]
 fn a_control_tick(rt: HostRuntime) {
     let mut regs = Regs::new();
-    let mut machine = Machine::new(Core::new(), Nest::One);
+    let mut machine = Machine::new(Core::new(default_settings()), Nest::One);
     let t = Tick(2400);
     regs.advance(t);
     follow(
@@ -70,7 +70,7 @@ fn pulse(rt: &impl Abort, regs: &mut Regs, at: u64, width: u64)
 #[test]
 fn a_first_frame(rt: HostRuntime) {
     let mut regs = Regs::new();
-    let mut machine = Machine::new(Core::new(), Nest::One);
+    let mut machine = Machine::new(Core::new(default_settings()), Nest::One);
     regs.write(Reg::CapArm, 0);
     let widths = [
         60, 30, 30, 30, 30, 30, 60, 30, 60, 60, 30, 30, 30, 60, 60, 30,

@@ -3,11 +3,11 @@ use Rattle.esc_core.proofs.Bounds.{keeps}
 use Rattle.esc_core.proofs.firmware.CoreFirmware.step.Goals as goal
 
 pub returns : goal.returns
-returns c =
+returns g c =
     let small : c.args.self.now.hold ≤ 8 = rw (← c.self.view_is) c.self.invariant in
-    let k = keeps c.args.kind c.args.self.now c.args.regs.now c.core_step.result c.core_step.new.self c.core_step.new.regs c.requires.open small c.requires.held c.core_step.ensures.step in
+    let k = keeps c.args.kind c.core_step.ensures.made.saved c.args.self.now c.args.regs.now c.core_step.result c.core_step.new.self c.core_step.new.regs c.requires.open small c.requires.held c.core_step.ensures.made.stepped in
     record {
-      made = c.core_step.ensures.step;
+      made = c.core_step.ensures.made;
       less = k.less;
       others = k.others;
       more = k.more;
