@@ -27,6 +27,7 @@ status_bytes status.Usage = codes "am32sim: usage\n"
 status_bytes status.ReadFault = codes "am32sim: read fault\n"
 status_bytes status.WriteFault = codes "am32sim: write fault\n"
 status_bytes status.NoMemory = codes "am32sim: no memory\n"
+status_bytes status.AttachFault = codes "am32sim: flash fault\n"
 
 -- the exit status
 abbrev pub exit_number : Status → ℕ
@@ -36,3 +37,4 @@ exit_number status.Usage = 2
 exit_number status.ReadFault = 3
 exit_number status.WriteFault = 4
 exit_number status.NoMemory = 5
+exit_number status.AttachFault = 6

@@ -7,7 +7,7 @@ mod status;
 mod tests;
 mod words;
 
-use esc_base::{InSource, OutSink};
+use esc_base::{FileFlash, InSource, OutSink};
 pub use run::sim_main;
 pub use status::{Status, status_text};
 use std::process::ExitCode;
@@ -34,7 +34,10 @@ fn main(rt: HostRuntime) -> ExitCode {
     let mut src = InSource::new(&rt);
     let mut out = OutSink::new(io::writer(&rt));
     let mut status = match words_of(&rt) {
-        Ok(words) => sim_main(&words, &mut src, &mut out),
+        Ok(words) => match FileFlash::new(&rt, rt.alloc()) {
+            Ok(mut flash) => sim_main(&words, &mut src, &mut out, &mut flash),
+            Err(_) => Status::NoMemory,
+        },
         Err(status) => status,
     };
     if out.flush().is_err() {

@@ -8,8 +8,9 @@ ghost use Rattle.trace_text.specs.Read.{Refused as RefusedBy};
 ghost use Rattle.am32sim.specs.Run.{Ran, IsWriteFault, OnReadFault, OnWriteFault, OnNoEnd, IsFault};
 
 use crate::{Status, Words};
-use esc_base::{Sink, Source};
+use esc_base::{FlashDev, Sink, Source};
 use interrupt_machine::Nest;
+use settings_block::{Loaded, load};
 use trace_runner::{RunConfig, Runner, WriteFault};
 use trace_text::{Item, Lines};
 
@@ -17,7 +18,12 @@ use trace_text::{Item, Lines};
 const STEP_COST: u32 = 2;
 
 /// Runs the core on the trace that the source gives, and writes the journal. An `Err` is the sink's.
-fn run<S: Source, K: Sink>(src: &mut S, out: &mut K) -> Result<Status, WriteFault>
+fn run<S: Source, K: Sink, F: FlashDev>(
+    loaded: Loaded,
+    src: &mut S,
+    out: &mut K,
+    flash: &mut F,
+) -> Result<Status, WriteFault>
     ensures ok { IfOk result (λ s. Ran s (S.left src.old) (K.given out.old) (K.given out.new)) }
     ensures read_fault { IfOk result (λ s. OnReadFault s (Rose (S.faults src.old) (S.faults src.new))) }
     ensures no_end { IfOk result (λ s. OnNoEnd s (IsAtEnd (S.left src.new))) }
@@ -25,17 +31,18 @@ fn run<S: Source, K: Sink>(src: &mut S, out: &mut K) -> Result<Status, WriteFaul
     ensures err { OnErr result (IsWriteFault (S.left src.old) (K.given out.old) (K.given out.new)) }
     ensures write_fault { OnErr result (Rose (K.faults out.old) (K.faults out.new)) }
 {
-    let mut runner = Runner::start(RunConfig {
+    let cfg = RunConfig {
         cost: STEP_COST,
         nest: Nest::One,
-    });
+    };
+    let mut runner = Runner::start(cfg, loaded);
     runner.begin(out)?;
     let mut lines = Lines::new();
     loop {
         match lines.next(src) {
-            Item::Event(event) => runner.feed(event, out)?,
+            Item::Event(event) => runner.feed(event, out, flash)?,
             Item::End(t) => {
-                runner.end(t, out)?;
+                runner.end(t, out, flash)?;
                 return Ok(Status::Done);
             }
             Item::Fault => return Ok(Status::ReadFault),
@@ -49,7 +56,12 @@ fn run<S: Source, K: Sink>(src: &mut S, out: &mut K) -> Result<Status, WriteFaul
 
 /// Runs the command that the words name, which is `run` alone. It reads a trace from `src`, writes its journal to
 /// `out`, one line in each call, and takes no memory.
-pub fn sim_main<S: Source, K: Sink>(words: &Words, src: &mut S, out: &mut K) -> Status
+pub fn sim_main<S: Source, K: Sink, F: FlashDev>(
+    words: &Words,
+    src: &mut S,
+    out: &mut K,
+    flash: &mut F,
+) -> Status
     // Other words are refused before anything is read or written.
     ensures usage { words.now ≢ codes "run" ∷ [] → result ≡ Status.Usage }
     ensures untouched { words.now ≢ codes "run" ∷ [] → (src.new ≡ src.old) × (out.new ≡ out.old) }
@@ -67,7 +79,13 @@ pub fn sim_main<S: Source, K: Sink>(words: &Words, src: &mut S, out: &mut K) -> 
     if !words.are_run_alone() {
         return Status::Usage;
     }
-    match run(src, out) {
+    if flash.attach(None).is_err() {
+        return Status::AttachFault;
+    }
+    let Ok(loaded) = load(flash) else {
+        return Status::AttachFault;
+    };
+    match run(loaded, src, out, flash) {
         Ok(status) => status,
         Err(WriteFault) => Status::WriteFault,
     }

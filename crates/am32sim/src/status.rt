@@ -20,10 +20,12 @@ pub enum Status {
     WriteFault,
     /// Memory was refused.
     NoMemory,
+    /// The flash failed while it was attached or the settings were loaded.
+    AttachFault,
 }
 
 impl Status {
-    /// The exit status of the program, 0 to 5.
+    /// The exit status of the program, 0 to 6.
     pub fn exit_number(&self) -> u8
         ensures { result ≡ exit_number self.now }
     {
@@ -34,6 +36,7 @@ impl Status {
             Status::ReadFault => 3,
             Status::WriteFault => 4,
             Status::NoMemory => 5,
+            Status::AttachFault => 6,
         }
     }
 }
@@ -90,5 +93,6 @@ pub fn status_text(status: &Status) -> Line
         Status::ReadFault => text_of("am32sim: read fault\n"),
         Status::WriteFault => text_of("am32sim: write fault\n"),
         Status::NoMemory => text_of("am32sim: no memory\n"),
+        Status::AttachFault => text_of("am32sim: flash fault\n"),
     }
 }

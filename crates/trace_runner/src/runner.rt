@@ -11,7 +11,7 @@ ghost use Rattle.trace_runner.specs.Run.{Runs, StandsFor, StepBound, LeftBelow, 
 
 use crate::lines::put_notes;
 use crate::{Runner, WriteFault};
-use esc_base::{Event, Sink, Tick};
+use esc_base::{Event, FlashDev, Sink, Tick};
 
 fn tick_of(e: Event) -> Tick
     ensures { result.0 ≡ tick_of_event e }
@@ -27,7 +27,7 @@ fn tick_of(e: Event) -> Tick
 impl Runner {
     /// Makes all steps before the event's tick, and then applies the event. Its tick, at most 1073741824, isn't before
     /// that of the last event.
-    pub fn feed<K: Sink>(&mut self, e: Event, out: &mut K) -> Result<(), WriteFault>
+    pub fn feed<K: Sink, D: FlashDev>(&mut self, e: Event, out: &mut K, dev: &mut D) -> Result<(), WriteFault>
         requires small { tick_of_event e ≤ 1073741824 }
         requires later { newest self.old ≤ tick_of_event e }
         requires stall { StallFits e }
@@ -47,13 +47,13 @@ impl Runner {
         ensures nest { nest_of self.new ≡ nest_of self.old }
         ensures cost { cost_of self.new ≡ cost_of self.old }
     {
-        self.run_to(tick_of(e), out)?;
+        self.run_to(tick_of(e), out, dev)?;
         self.apply(e);
         Ok(())
     }
 
     /// Makes all steps before the end of the trace, at most 1073741824 and not before the last event.
-    pub fn end<K: Sink>(&mut self, t: Tick, out: &mut K) -> Result<(), WriteFault>
+    pub fn end<K: Sink, D: FlashDev>(&mut self, t: Tick, out: &mut K, dev: &mut D) -> Result<(), WriteFault>
         requires small { t.0 ≤ 1073741824 }
         requires later { newest self.old ≤ t.0 }
 
@@ -69,11 +69,11 @@ impl Runner {
         ensures nest { nest_of self.new ≡ nest_of self.old }
         ensures cost { cost_of self.new ≡ cost_of self.old }
     {
-        self.run_to(t, out)
+        self.run_to(t, out, dev)
     }
 
     /// Makes all steps at ticks below the limit.
-    fn run_to<K: Sink>(&mut self, limit: Tick, out: &mut K) -> Result<(), WriteFault>
+    fn run_to<K: Sink, D: FlashDev>(&mut self, limit: Tick, out: &mut K, dev: &mut D) -> Result<(), WriteFault>
         requires small { limit.0 ≤ 1073741824 }
         requires later { self.old.limit.0 ≤ limit.0 }
         ensures reached { OnOk result (self.new.limit.0 ≤ self.new.next.0) }
@@ -86,10 +86,10 @@ impl Runner {
         ensures cost { cost_of self.new ≡ cost_of self.old }
     {
         self.limit = limit;
-        self.run_on(out)
+        self.run_on(out, dev)
     }
 
-    fn run_on<K: Sink>(&mut self, out: &mut K) -> Result<(), WriteFault>
+    fn run_on<K: Sink, D: FlashDev>(&mut self, out: &mut K, dev: &mut D) -> Result<(), WriteFault>
         ensures reached { OnOk result (self.new.limit.0 ≤ self.new.next.0) }
         ensures goes { OnOk result (GoesOn K.given K.took (Runs self.old) (Runs self.new) [] out.old out.new) }
         ensures breaks { OnErr result (BreaksOff K.given K.took K.broke (Runs self.old) (LeftBelow (nest_of self.old) (cost_of self.old) (newest self.new)) out.old out.new) }
@@ -100,13 +100,13 @@ impl Runner {
         ensures cost { cost_of self.new ≡ cost_of self.old }
     {
         while self.next.0 < self.limit.0 {
-            self.go_on(out)?;
+            self.go_on(out, dev)?;
         }
         Ok(())
     }
 
     /// Makes the next step, or lets idle time pass.
-    fn go_on<K: Sink>(&mut self, out: &mut K) -> Result<(), WriteFault>
+    fn go_on<K: Sink, D: FlashDev>(&mut self, out: &mut K, dev: &mut D) -> Result<(), WriteFault>
         requires { self.old.next.0 < self.old.limit.0 }
         ensures later { OnOk result (self.old.next.0 < self.new.next.0) }
         ensures goes { OnOk result (GoesOn K.given K.took (Runs self.old) (Runs self.new) [] out.old out.new) }
@@ -122,7 +122,7 @@ impl Runner {
             self.jump();
             Ok(())
         } else {
-            self.step(out)
+            self.step(out, dev)
         }
     }
 
@@ -159,7 +159,7 @@ impl Runner {
     }
 
     /// Makes one step of the machine, at now, and writes the lines of its notes.
-    fn step<K: Sink>(&mut self, out: &mut K) -> Result<(), WriteFault>
+    fn step<K: Sink, D: FlashDev>(&mut self, out: &mut K, dev: &mut D) -> Result<(), WriteFault>
         requires now { self.old.regs.time ≡ self.old.next.0 }
         requires busy { is_idle self.old.machine.open_kinds (due_now false self.old.regs) ≡ false }
         requires below { self.old.next.0 < self.old.limit.0 }
@@ -172,7 +172,8 @@ impl Runner {
         ensures nest { nest_of self.new ≡ nest_of self.old }
         ensures cost { cost_of self.new ≡ cost_of self.old }
     {
-        self.machine.step_into(&mut self.regs, &mut self.notes);
+        self.machine
+            .step_into(&mut self.regs, dev, &mut self.notes);
         self.next = Tick(self.next.0 + self.cost as u64);
         put_notes(self.notes.as_slice(), out)
     }

@@ -14,14 +14,24 @@ use arrayvec::ArrayVec;
 use esc_base::{Note, Sink, Tick};
 use esc_core::Core;
 use interrupt_machine::Machine;
+use settings_block::{BlockFault, Loaded};
 use timer_regs::{Reg, Regs};
 
-/// The number of a start with the default settings, since there is no settings block.
-const DEFAULT_SETTINGS: u8 = 1;
+/// The number of a load's result in the first line.
+fn load_number(fault: Option<BlockFault>) -> u8
+    ensures { result ≡ load_number fault }
+{
+    match fault {
+        None => 0,
+        Some(BlockFault::Marker) => 1,
+        Some(BlockFault::Version) => 2,
+        Some(BlockFault::Range(_)) => 3,
+    }
+}
 
 impl Runner {
     /// A run at tick 0: no handler is open, and the first window is open in the unknown mode.
-    pub fn start(cfg: RunConfig) -> Runner
+    pub fn start(cfg: RunConfig, loaded: Loaded) -> Runner
         requires some { 1 ≤ cfg.cost }
         requires most { cfg.cost ≤ 16 }
         ensures stands { StandsFor result [] [] }
@@ -33,11 +43,12 @@ impl Runner {
         let mut regs = Regs::new();
         regs.write(Reg::CapArm, 0);
         Runner {
-            machine: Machine::new(Core::new(), cfg.nest),
+            machine: Machine::new(Core::new(loaded.settings), cfg.nest),
             regs,
             cost: cfg.cost,
             next: Tick(0),
             limit: Tick(0),
+            fault: loaded.fault,
             notes: ArrayVec::new(),
         }
     }
@@ -53,7 +64,7 @@ impl Runner {
     {
         let settings = Note::Up {
             t: Tick(0),
-            r: DEFAULT_SETTINGS,
+            r: load_number(self.fault),
         };
         let window = Note::Window { t: Tick(0), m: 0 };
         put_notes(&[settings, window], out)

@@ -5,6 +5,7 @@ ghost use Rattle.interrupt_machine.specs.Turn.{IsHeld};
 use esc_base::{Failed, Tick};
 use esc_core::Core;
 use interrupt_machine::{Machine, Nest, Notes};
+use settings_block::BlockFault;
 use thiserror::Error;
 use timer_regs::Regs;
 
@@ -38,6 +39,8 @@ pub struct Runner {
     pub(crate) next: Tick,
     /// The tick of the newest event. All steps stand below it.
     pub(crate) limit: Tick,
+    /// What was wrong with the settings' block, for the first line.
+    pub(crate) fault: Option<BlockFault>,
     /// The notes of one step, kept here since a run makes millions of steps.
     pub(crate) notes: Notes,
     ghost held: { regs.masked ≡ true → IsHeld machine.firmware.hold machine.open_kinds },
