@@ -11,6 +11,7 @@ use Rattle.esc_base.specs.Journal.{IsLater, Journal}
 use Rattle.esc_base.specs.Trace.{differ}
 use Rattle.esc_base.proofs.TraceLaws.{line-push}
 use Rattle.edge_capture.specs.Window.{after_edge}
+use Rattle.settings_block.specs.declared.stored.Loaded.{Loaded}
 use Rattle.timer_regs.specs.Bank.{Bank}
 use Rattle.timer_regs.specs.Effects.{advanced, after_entry, after_line, is_due}
 use Rattle.timer_regs.specs.NextDue.{IsNextDue, becomes_due}
@@ -43,49 +44,49 @@ use Rattle.esc_laws.proofs.Start.{logged_start}
 use Rattle.esc_laws.proofs.Lines.{plain_ties, line_ties}
 use Rattle.esc_laws.proofs.Events.{SameRegs, Moved, ties_later, keeps_later, marks_later, patient_later, after_grows, past_more, event_logged}
 
-pub start_logged : (nest : Nest) (cost : ℕ) → Logged nest cost [] 0 new_core first_bank [] []
-start_logged nest cost = logged_start nest cost
+pub start_logged : (loaded : Loaded) (nest : Nest) (cost : ℕ) → Logged loaded nest cost [] 0 new_core first_bank [] []
+start_logged loaded nest cost = logged_start loaded nest cost
 
 -- ---- a step
 
-entry_told : (nest : Nest) (cost : ℕ) (trace : List Event) (c c' : Brain) (b b' : Bank) (stack stack' : List Kind) (log : List Turned) (notes : List Note) (k : Kind)
+entry_told : (loaded : Loaded) (nest : Nest) (cost : ℕ) (trace : List Event) (c c' : Brain) (b b' : Bank) (stack stack' : List Kind) (log : List Turned) (notes : List Note) (k : Kind)
     → c' ≡ entered_core c k → b' ≡ after_entry b k → stack' ≡ k ∷ stack → notes ≡ enters k b.time ∷ []
-    → Logged nest cost trace (b.time + cost) (entered_core c k) (after_entry b k) (k ∷ stack) (log ++ record { tick = b.time; kind = k; enters = true; notes = enters k b.time ∷ [] } ∷ [])
-    → Logged nest cost trace (b.time + cost) c' b' stack' (log ++ record { tick = b.time; kind = k; enters = true; notes = notes } ∷ [])
-entry_told nest cost trace c c' b b' stack stack' log notes k e f g h l = rw (e, f, g, h) l
+    → Logged loaded nest cost trace (b.time + cost) (entered_core c k) (after_entry b k) (k ∷ stack) (log ++ record { tick = b.time; kind = k; enters = true; notes = enters k b.time ∷ [] } ∷ [])
+    → Logged loaded nest cost trace (b.time + cost) c' b' stack' (log ++ record { tick = b.time; kind = k; enters = true; notes = notes } ∷ [])
+entry_told loaded nest cost trace c c' b b' stack stack' log notes k e f g h l = rw (e, f, g, h) l
 
-own_told : (nest : Nest) (cost : ℕ) (trace : List Event) (c c' : Brain) (b b' : Bank) (stack stack' : List Kind) (log : List Turned) (notes : List Note) (k : Kind) (outer : List Kind) (did : Did) → 1 ≤ cost
-    → Logged nest cost trace b.time c b stack log → (b.masked ≡ false → next_entry nest stack (due_now false b) ≡ None) → stack ≡ k ∷ outer → IsStepped b (core_step k c b) did c' b'
+own_told : (loaded : Loaded) (nest : Nest) (cost : ℕ) (trace : List Event) (c c' : Brain) (b b' : Bank) (stack stack' : List Kind) (log : List Turned) (notes : List Note) (k : Kind) (outer : List Kind) (did : Did) → 1 ≤ cost
+    → Logged loaded nest cost trace b.time c b stack log → (b.masked ≡ false → next_entry nest stack (due_now false b) ≡ None) → stack ≡ k ∷ outer → IsStepped b (core_step k c b) did c' b'
     → stack' ≡ open_after k outer did → notes ≡ own_notes b.hi b.lo b' k did
-    → Logged nest cost trace (b.time + cost) c' b' stack' (log ++ record { tick = b.time; kind = k; enters = false; notes = notes } ∷ [])
-own_told nest cost trace c c' b b' stack stack' log notes k outer did some l none same stepped open_is notes_are =
-    let l' : Logged nest cost trace b.time c b (k ∷ outer) log = subst (λ (st : List Kind). Logged nest cost trace b.time c b st log) same l in
+    → Logged loaded nest cost trace (b.time + cost) c' b' stack' (log ++ record { tick = b.time; kind = k; enters = false; notes = notes } ∷ [])
+own_told loaded nest cost trace c c' b b' stack stack' log notes k outer did some l none same stepped open_is notes_are =
+    let l' : Logged loaded nest cost trace b.time c b (k ∷ outer) log = subst (λ (st : List Kind). Logged loaded nest cost trace b.time c b st log) same l in
     let none' : b.masked ≡ false → next_entry nest (k ∷ outer) (due_now false b) ≡ None = subst (λ (st : List Kind). b.masked ≡ false → next_entry nest st (due_now false b) ≡ None) same none in
     let i : IsStepped b (stepped_by k c b) did c' b' = rw (core_step-goes k c b (steady k c b (k ∷ outer) l'.keeps refl)) at stepped in
     let told = notes_are ∙ own_are k b b' (stepped_by k c b) did c' i in
     let left = open_is ∙ left_is k outer did (stepped_by k c b).over i.over_is in
-    rw (i.core_is, i.bank_is, left, told) (own_turn nest cost trace c b outer log k some l' none')
+    rw (i.core_is, i.bank_is, left, told) (own_turn loaded nest cost trace c b outer log k some l' none')
 
-pub turn_logged : (nest : Nest) (cost : ℕ) (trace : List Event) (c c' : Brain) (b b' : Bank) (stack stack' : List Kind) (log : List Turned) (notes : List Note)
-    → 1 ≤ cost → b.time + cost < 2147483648 → Logged nest cost trace b.time c b stack log → is_idle stack (due_now false b) ≡ false
+pub turn_logged : (loaded : Loaded) (nest : Nest) (cost : ℕ) (trace : List Event) (c c' : Brain) (b b' : Bank) (stack stack' : List Kind) (log : List Turned) (notes : List Note)
+    → 1 ≤ cost → b.time + cost < 2147483648 → Logged loaded nest cost trace b.time c b stack log → is_idle stack (due_now false b) ≡ false
     → (t : CoreTurn nest c stack b notes c' stack' b')
-    → Logged nest cost trace (b.time + cost) c' b' stack' (log ++ turned b.time notes t ∷ [])
-turn_logged nest cost trace c c' b b' stack stack' log notes some small l busy (inl e) =
-    entry_told nest cost trace c c' b b' stack stack' log notes e.0 e.1.entered e.1.regs_are e.1.stack_is e.1.notes_are
-    (entry_turn nest cost trace c b stack log e.0 some l e.1.unmasked e.1.chosen)
-turn_logged nest cost trace c c' b b' stack stack' log notes some small l busy (inr e) =
-    own_told nest cost trace c c' b b' stack stack' log notes e.0 e.1 e.2 some l e.3.none_enters e.3.innermost_is e.3.stepped e.3.stack_is e.3.notes_are
+    → Logged loaded nest cost trace (b.time + cost) c' b' stack' (log ++ turned b.time notes t ∷ [])
+turn_logged loaded nest cost trace c c' b b' stack stack' log notes some small l busy (inl e) =
+    entry_told loaded nest cost trace c c' b b' stack stack' log notes e.0 e.1.entered e.1.regs_are e.1.stack_is e.1.notes_are
+    (entry_turn loaded nest cost trace c b stack log e.0 some l e.1.unmasked e.1.chosen)
+turn_logged loaded nest cost trace c c' b b' stack stack' log notes some small l busy (inr e) =
+    own_told loaded nest cost trace c c' b b' stack stack' log notes e.0 e.1 e.2 some l e.3.none_enters e.3.innermost_is e.3.stepped e.3.stack_is e.3.notes_are
 
 -- ---- time
 
-pub time_logged : (nest : Nest) (cost : ℕ) (trace : List Event) (next : ℕ) (c : Brain) (b : Bank) (stack : List Kind) (log : List Turned) (t : ℕ)
-    → b.time ≤ t → t ≤ next → t < 2147483648 → Logged nest cost trace next c b stack log → Logged nest cost trace next c (advanced b t) stack log
-time_logged nest cost trace next c b stack log t later le small l = record {
+pub time_logged : (loaded : Loaded) (nest : Nest) (cost : ℕ) (trace : List Event) (next : ℕ) (c : Brain) (b : Bank) (stack : List Kind) (log : List Turned) (t : ℕ)
+    → b.time ≤ t → t ≤ next → t < 2147483648 → Logged loaded nest cost trace next c b stack log → Logged loaded nest cost trace next c (advanced b t) stack log
+time_logged loaded nest cost trace next c b stack log t later le small l = record {
   keeps = keeps_later c b stack t l.keeps;
   sorted = l.sorted;
-  marks = marks_later nest trace c b stack log t later l.marks;
-  ties = ties_later trace c b log t later small l.ties;
-  patient = patient_later nest trace c b stack log t later l.patient;
+  marks = marks_later loaded nest trace c b stack log t later l.marks;
+  ties = ties_later loaded trace c b log t later small l.ties;
+  patient = patient_later loaded nest trace c b stack log t later l.patient;
   owes = l.owes;
   reached = l.reached;
   reached_by = l.reached_by;
@@ -124,9 +125,9 @@ none_before None b k t u is le from below = is k u from
 none_before (Some d) b k t u is le from below = is.none_before k u from (let m = le d refl in omega arith)
 
 -- while nothing is due nothing is seen due
-none_seen : (nest : Nest) (trace : List Event) (c : Brain) (b : Bank) (log : List Turned) (due : Option ℕ) (t u : ℕ) (k : Kind) → Keeps c b [] → Marks nest trace c b [] log → Ties trace c b log
-    → highest (due_now false b) ≡ None → IsNextDue b due → ((d : ℕ) → due ≡ Some d → t ≤ d) → b.time ≤ u → u < t → t < 2147483648 → sees trace (journal log) u k ≡ false
-none_seen nest trace c b log due t u k keeps m ties none is le from below small = by_seen (sees trace (journal log) u k) refl
+none_seen : (loaded : Loaded) (nest : Nest) (trace : List Event) (c : Brain) (b : Bank) (log : List Turned) (due : Option ℕ) (t u : ℕ) (k : Kind) → Keeps c b [] → Marks loaded nest trace c b [] log → Ties loaded trace c b log
+    → highest (due_now false b) ≡ None → IsNextDue b due → ((d : ℕ) → due ≡ Some d → t ≤ d) → b.time ≤ u → u < t → t < 2147483648 → sees trace (journal loaded log) u k ≡ false
+none_seen loaded nest trace c b log due t u k keeps m ties none is le from below small = by_seen (sees trace (journal loaded log) u k) refl
   where
     shut_now : due_now false (advanced b u) k ≡ false
     shut_now = elim (same_or_later (nat_lt b.time u) refl) [
@@ -144,27 +145,27 @@ none_seen nest trace c b log due t u k keeps m ties none is le from below small 
             ge_from : (x y : ℕ) → nat_lt x y ≡ false → y ≤ x
             ge_from x y e = grind (arith, nat_tests)
 
-    by_seen : (v : Bool) → sees trace (journal log) u k ≡ v → sees trace (journal log) u k ≡ false
+    by_seen : (v : Bool) → sees trace (journal loaded log) u k ≡ v → sees trace (journal loaded log) u k ≡ false
     by_seen true e =
-        let d = sees_due nest trace c (advanced b u) [] log (keeps_later c b [] u keeps) (marks_later nest trace c b [] log u from m) (ties_later trace c b log u from (omega arith) ties) k (rw e refl) in
+        let d = sees_due loaded nest trace c (advanced b u) [] log (keeps_later c b [] u keeps) (marks_later loaded nest trace c b [] log u from m) (ties_later loaded trace c b log u from (omega arith) ties) k (rw e refl) in
         absurd (let z : true ≡ false = sym d ∙ shut_now in cc)
     by_seen false e = e
 
 -- nothing is due, and nothing becomes due before t
-pub jump_logged : (nest : Nest) (cost : ℕ) (trace : List Event) (c : Brain) (b : Bank) (stack : List Kind) (log : List Turned) (due : Option ℕ) (t : ℕ)
+pub jump_logged : (loaded : Loaded) (nest : Nest) (cost : ℕ) (trace : List Event) (c : Brain) (b : Bank) (stack : List Kind) (log : List Turned) (due : Option ℕ) (t : ℕ)
     → is_idle stack (due_now false b) ≡ true → IsNextDue b due → b.time ≤ t → t < 2147483648 → ((d : ℕ) → due ≡ Some d → t ≤ d)
-    → Logged nest cost trace b.time c b stack log → Logged nest cost trace t c (advanced b t) stack log
-jump_logged nest cost trace c b stack log due t idle is later small le l =
+    → Logged loaded nest cost trace b.time c b stack log → Logged loaded nest cost trace t c (advanced b t) stack log
+jump_logged loaded nest cost trace c b stack log due t idle is later small le l =
     let rest = none_open stack (due_now false b) idle in
-    let open_none : open_in log ≡ [] = sym l.marks.stack_is ∙ rest.0 in
+    let open_none : open_in loaded log ≡ [] = sym l.marks.stack_is ∙ rest.0 in
     let keeps : Keeps c b [] = subst (λ (st : List Kind). Keeps c b st) rest.0 l.keeps in
-    let marks : Marks nest trace c b [] log = subst (λ (st : List Kind). Marks nest trace c b st log) rest.0 l.marks in
+    let marks : Marks loaded nest trace c b [] log = subst (λ (st : List Kind). Marks loaded nest trace c b st log) rest.0 l.marks in
     record {
       keeps = keeps_later c b stack t l.keeps;
       sorted = l.sorted;
-      marks = marks_later nest trace c b stack log t later l.marks;
-      ties = ties_later trace c b log t later small l.ties;
-      patient = patient_later nest trace c b stack log t later l.patient;
+      marks = marks_later loaded nest trace c b stack log t later l.marks;
+      ties = ties_later loaded trace c b log t later small l.ties;
+      patient = patient_later loaded nest trace c b stack log t later l.patient;
       owes = l.owes;
       reached = l.reached;
       reached_by = l.reached_by;
@@ -174,7 +175,7 @@ jump_logged nest cost trace c b stack log due t idle is later small le l =
         open_step = λ o. absurd (o open_none);
         idle = λ o u from below f k. elim (before_or_from u (nat_lt u b.time) refl) [
           | inl early ↦ l.awaits.idle o u from early f k
-          | inr on ↦ none_seen nest trace c b log due t u k keeps marks l.ties rest.1 is le on below small
+          | inr on ↦ none_seen loaded nest trace c b log due t u k keeps marks l.ties rest.1 is le on below small
         ];
       };
       time = omega arith;
@@ -196,9 +197,9 @@ jump_logged nest cost trace c b stack log due t idle is later small le l =
 -- ---- an event
 
 -- one that isn't a stall leaves the tick of the next step
-plain_moved : (nest : Nest) (cost : ℕ) (trace : List Event) (e : Event) (next : ℕ) (c : Brain) (b : Bank) (stack : List Kind) (log : List Turned) → ((t : ℕ) → past_stall t e ≡ t) → EndsBy next e
-    → Logged nest cost trace next c b stack log → Moved cost trace e b.time next next stack log
-plain_moved nest cost trace e next c b stack log plain ends l =
+plain_moved : (loaded : Loaded) (nest : Nest) (cost : ℕ) (trace : List Event) (e : Event) (next : ℕ) (c : Brain) (b : Bank) (stack : List Kind) (log : List Turned) → ((t : ℕ) → past_stall t e ≡ t) → EndsBy next e
+    → Logged loaded nest cost trace next c b stack log → Moved cost trace e b.time next next stack log
+plain_moved loaded nest cost trace e next c b stack log plain ends l =
     let same : after cost (trace ++ e ∷ []) log ≡ after cost trace log = after_grows cost trace e log ∙ plain (after cost trace log) in
     record {
       more = omega arith;
@@ -209,12 +210,12 @@ plain_moved nest cost trace e next c b stack log plain ends l =
     }
 
 -- the signal line has a level at now; all steps stand before
-pub edge_logged : (nest : Nest) (cost : ℕ) (trace : List Event) (next : ℕ) (c : Brain) (b : Bank) (stack : List Kind) (log : List Turned) (level : Bool)
-    → Below b.time log → Logged nest cost trace next c b stack log
-    → Logged nest cost (trace ++ event.Edge (tick_at b.time) level ∷ []) next c (after_line b level) stack log
-edge_logged nest cost trace next c b stack log level below l =
-    event_logged nest cost trace (event.Edge (tick_at b.time) level) next next c b (after_line b level) stack log refl below l
-    (plain_moved nest cost trace (event.Edge (tick_at b.time) level) next c b stack log (λ t. refl) tt l) (line_same b level) (line_ties trace c b log level l.ties)
+pub edge_logged : (loaded : Loaded) (nest : Nest) (cost : ℕ) (trace : List Event) (next : ℕ) (c : Brain) (b : Bank) (stack : List Kind) (log : List Turned) (level : Bool)
+    → Below b.time log → Logged loaded nest cost trace next c b stack log
+    → Logged loaded nest cost (trace ++ event.Edge (tick_at b.time) level ∷ []) next c (after_line b level) stack log
+edge_logged loaded nest cost trace next c b stack log level below l =
+    event_logged loaded nest cost trace (event.Edge (tick_at b.time) level) next next c b (after_line b level) stack log refl below l
+    (plain_moved loaded nest cost trace (event.Edge (tick_at b.time) level) next c b stack log (λ t. refl) tt l) (line_same b level) (line_ties loaded trace c b log level l.ties)
   where
     kept_regs : (v : Bool) (b x : Bank) → x.time ≡ b.time → x.masked ≡ b.masked → SameRegs b (if v then x else b)
     kept_regs true b x e f = record { time = e; masked = f }
@@ -224,19 +225,19 @@ edge_logged nest cost trace next c b stack log level below l =
     line_same b level = kept_regs (differ b.level level) b (record b { level = level; window = after_edge b.window (record { t = record { 0 = b.time }; level = level }) }) refl refl
 
 -- an event without an effect
-pub comp_logged : (nest : Nest) (cost : ℕ) (trace : List Event) (next : ℕ) (c : Brain) (b : Bank) (stack : List Kind) (log : List Turned) (level : Bool)
-    → Below b.time log → Logged nest cost trace next c b stack log → Logged nest cost (trace ++ event.Comp (tick_at b.time) level ∷ []) next c b stack log
-comp_logged nest cost trace next c b stack log level below l =
-    event_logged nest cost trace (event.Comp (tick_at b.time) level) next next c b b stack log refl below l
-    (plain_moved nest cost trace (event.Comp (tick_at b.time) level) next c b stack log (λ t. refl) tt l) (record { time = refl; masked = refl })
-    (plain_ties trace (event.Comp (tick_at b.time) level) c b log (line-push trace (event.Comp (tick_at b.time) level)) (omega arith) l.ties)
+pub comp_logged : (loaded : Loaded) (nest : Nest) (cost : ℕ) (trace : List Event) (next : ℕ) (c : Brain) (b : Bank) (stack : List Kind) (log : List Turned) (level : Bool)
+    → Below b.time log → Logged loaded nest cost trace next c b stack log → Logged loaded nest cost (trace ++ event.Comp (tick_at b.time) level ∷ []) next c b stack log
+comp_logged loaded nest cost trace next c b stack log level below l =
+    event_logged loaded nest cost trace (event.Comp (tick_at b.time) level) next next c b b stack log refl below l
+    (plain_moved loaded nest cost trace (event.Comp (tick_at b.time) level) next c b stack log (λ t. refl) tt l) (record { time = refl; masked = refl })
+    (plain_ties loaded trace (event.Comp (tick_at b.time) level) c b log (line-push trace (event.Comp (tick_at b.time) level)) (omega arith) l.ties)
 
-pub serial_logged : (nest : Nest) (cost : ℕ) (trace : List Event) (next : ℕ) (c : Brain) (b : Bank) (stack : List Kind) (log : List Turned) (byte : ℕ)
-    → Below b.time log → Logged nest cost trace next c b stack log → Logged nest cost (trace ++ event.Serial (tick_at b.time) byte ∷ []) next c b stack log
-serial_logged nest cost trace next c b stack log byte below l =
-    event_logged nest cost trace (event.Serial (tick_at b.time) byte) next next c b b stack log refl below l
-    (plain_moved nest cost trace (event.Serial (tick_at b.time) byte) next c b stack log (λ t. refl) tt l) (record { time = refl; masked = refl })
-    (plain_ties trace (event.Serial (tick_at b.time) byte) c b log (line-push trace (event.Serial (tick_at b.time) byte)) (omega arith) l.ties)
+pub serial_logged : (loaded : Loaded) (nest : Nest) (cost : ℕ) (trace : List Event) (next : ℕ) (c : Brain) (b : Bank) (stack : List Kind) (log : List Turned) (byte : ℕ)
+    → Below b.time log → Logged loaded nest cost trace next c b stack log → Logged loaded nest cost (trace ++ event.Serial (tick_at b.time) byte ∷ []) next c b stack log
+serial_logged loaded nest cost trace next c b stack log byte below l =
+    event_logged loaded nest cost trace (event.Serial (tick_at b.time) byte) next next c b b stack log refl below l
+    (plain_moved loaded nest cost trace (event.Serial (tick_at b.time) byte) next c b stack log (λ t. refl) tt l) (record { time = refl; masked = refl })
+    (plain_ties loaded trace (event.Serial (tick_at b.time) byte) c b log (line-push trace (event.Serial (tick_at b.time) byte)) (omega arith) l.ties)
 
 -- a stall puts the next step off to its end
 stall_after : (now n next t : ℕ) → t ≤ next → (if nat_le now t && nat_lt t (now + n) then now + n else t) ≤ max next (now + n)
@@ -277,9 +278,9 @@ stall_over now n u from below = by_test (nat_le now u) (nat_lt u (now + n)) now 
     by_test true false now n u e f l = cc
     by_test false w now n u e f l = cc
 
-stall_moved : (nest : Nest) (cost : ℕ) (trace : List Event) (next : ℕ) (c : Brain) (b : Bank) (stack : List Kind) (log : List Turned) (n : ℕ)
-    → Logged nest cost trace next c b stack log → Moved cost trace (event.Stall (tick_at b.time) n) b.time next (max next (b.time + n)) stack log
-stall_moved nest cost trace next c b stack log n l =
+stall_moved : (loaded : Loaded) (nest : Nest) (cost : ℕ) (trace : List Event) (next : ℕ) (c : Brain) (b : Bank) (stack : List Kind) (log : List Turned) (n : ℕ)
+    → Logged loaded nest cost trace next c b stack log → Moved cost trace (event.Stall (tick_at b.time) n) b.time next (max next (b.time + n)) stack log
+stall_moved loaded nest cost trace next c b stack log n l =
     let e : Event = event.Stall (tick_at b.time) n in
     let grown : after cost (trace ++ e ∷ []) log ≡ past_stall (after cost trace log) e = after_grows cost trace e log in
     record {
@@ -303,25 +304,25 @@ stall_moved nest cost trace next c b stack log n l =
         ge_from : (x y : ℕ) → nat_lt x y ≡ false → y ≤ x
         ge_from x y e = grind (arith, nat_tests)
 
-pub stall_logged : (nest : Nest) (cost : ℕ) (trace : List Event) (next : ℕ) (c : Brain) (b : Bank) (stack : List Kind) (log : List Turned) (n : ℕ)
-    → Below b.time log → Logged nest cost trace next c b stack log
-    → Logged nest cost (trace ++ event.Stall (tick_at b.time) n ∷ []) (max next (b.time + n)) c b stack log
-stall_logged nest cost trace next c b stack log n below l =
-    event_logged nest cost trace (event.Stall (tick_at b.time) n) next (max next (b.time + n)) c b b stack log refl below l
-    (stall_moved nest cost trace next c b stack log n l) (record { time = refl; masked = refl })
-    (plain_ties trace (event.Stall (tick_at b.time) n) c b log (line-push trace (event.Stall (tick_at b.time) n)) (omega arith) l.ties)
+pub stall_logged : (loaded : Loaded) (nest : Nest) (cost : ℕ) (trace : List Event) (next : ℕ) (c : Brain) (b : Bank) (stack : List Kind) (log : List Turned) (n : ℕ)
+    → Below b.time log → Logged loaded nest cost trace next c b stack log
+    → Logged loaded nest cost (trace ++ event.Stall (tick_at b.time) n ∷ []) (max next (b.time + n)) c b stack log
+stall_logged loaded nest cost trace next c b stack log n below l =
+    event_logged loaded nest cost trace (event.Stall (tick_at b.time) n) next (max next (b.time + n)) c b b stack log refl below l
+    (stall_moved loaded nest cost trace next c b stack log n l) (record { time = refl; masked = refl })
+    (plain_ties loaded trace (event.Stall (tick_at b.time) n) c b log (line-push trace (event.Stall (tick_at b.time) n)) (omega arith) l.ties)
 
 -- ---- what it says of the journal
 
 -- a journal whose steps stand below T, and which awaits none below it, is legal up to T
-pub legal_logged : (nest : Nest) (cost : ℕ) (trace : List Event) (next : ℕ) (c : Brain) (b : Bank) (stack : List Kind) (log : List Turned) (until : ℕ)
-    → until ≤ next → Below until log → Logged nest cost trace next c b stack log → Legal nest cost trace until (journal log)
-legal_logged nest cost trace next c b stack log until le below l = record {
+pub legal_logged : (loaded : Loaded) (nest : Nest) (cost : ℕ) (trace : List Event) (next : ℕ) (c : Brain) (b : Bank) (stack : List Kind) (log : List Turned) (until : ℕ)
+    → until ≤ next → Below until log → Logged loaded nest cost trace next c b stack log → Legal loaded nest cost trace until (journal loaded log)
+legal_logged loaded nest cost trace next c b stack log until le below l = record {
   rest = notes_in log;
   begins = refl;
   in_time = l.marks.in_time;
   windowed = l.marks.windowed;
-  controlled = in_order (journal log) l.marks.control.controlled;
+  controlled = in_order (journal loaded log) l.marks.control.controlled;
   nested = l.marks.nested;
   log = log;
   steps_are = refl;
@@ -341,16 +342,16 @@ last_step P before [] e each = rw (append-nil before) each.0
 last_step P before (x ∷ log) e each = rw (← append_assoc before (x ∷ []) log) (last_step P (before ++ x ∷ []) log e each.1)
 
 -- after a step whose notes were written in part
-pub front_logged : (nest : Nest) (cost : ℕ) (trace : List Event) (next : ℕ) (c : Brain) (b : Bank) (stack : List Kind) (log : List Turned) (broken : Turned) (front left_out : List Note)
+pub front_logged : (loaded : Loaded) (nest : Nest) (cost : ℕ) (trace : List Event) (next : ℕ) (c : Brain) (b : Bank) (stack : List Kind) (log : List Turned) (broken : Turned) (front left_out : List Note)
     → broken.notes ≡ front ++ left_out → Below broken.tick log
-    → Logged nest cost trace next c b stack (log ++ broken ∷ [])
-    → LegalFront nest cost trace (journal log ++ front)
-front_logged nest cost trace next c b stack log broken front left_out split below l =
-    let whole : journal (log ++ broken ∷ []) ≡ (journal log ++ front) ++ left_out =
-    journal-push log broken ∙ ap (λ (ns : List Note). journal log ++ ns) split ∙ sym (append_assoc (journal log) front left_out) in
+    → Logged loaded nest cost trace next c b stack (log ++ broken ∷ [])
+    → LegalFront loaded nest cost trace (journal loaded log ++ front)
+front_logged loaded nest cost trace next c b stack log broken front left_out split below l =
+    let whole : journal loaded (log ++ broken ∷ []) ≡ (journal loaded log ++ front) ++ left_out =
+    journal-push loaded log broken ∙ ap (λ (ns : List Note). journal loaded log ++ ns) split ∙ sym (append_assoc (journal loaded log) front left_out) in
     let tail : notes_in (log ++ broken ∷ []) ≡ (notes_in log ++ front) ++ left_out =
     notes-push log broken ∙ ap (λ (ns : List Note). notes_in log ++ ns) split ∙ sym (append_assoc (notes_in log) front left_out) in
-    let last = last_step (StepFits nest cost trace) [] log broken l.fits in
+    let last = last_step (StepFits loaded nest cost trace) [] log broken l.fits in
     record {
       log = log;
       broken = broken;
@@ -358,10 +359,10 @@ front_logged nest cost trace next c b stack log broken front left_out split belo
       left_out = left_out;
       split = split;
       notes_are = refl;
-      in_time = each_front IsLater [] (journal log ++ front) left_out (subst (λ (ns : List Note). Journal ns) whole l.marks.in_time);
-      windowed = each_front (WindowRule trace) [] (journal log ++ front) left_out (subst (λ (ns : List Note). Windowed trace ns) whole l.marks.windowed);
-      controlled = each_front (λ before n. FitsControl (reverse before) n) [] (journal log ++ front) left_out (subst (λ (ns : List Note). Controlled ns) whole (in_order (journal (log ++ broken ∷ [])) l.marks.control.controlled));
-      nested = each_front (NestRule nest) opening (notes_in log ++ front) left_out (subst (λ (ns : List Note). NestedAfter nest opening ns) tail l.marks.nested);
+      in_time = each_front IsLater [] (journal loaded log ++ front) left_out (subst (λ (ns : List Note). Journal ns) whole l.marks.in_time);
+      windowed = each_front (WindowRule loaded trace) [] (journal loaded log ++ front) left_out (subst (λ (ns : List Note). Windowed loaded trace ns) whole l.marks.windowed);
+      controlled = each_front (λ before n. FitsControl (reverse before) n) [] (journal loaded log ++ front) left_out (subst (λ (ns : List Note). Controlled ns) whole (in_order (journal loaded (log ++ broken ∷ [])) l.marks.control.controlled));
+      nested = each_front (NestRule nest) (opening loaded) (notes_in log ++ front) left_out (subst (λ (ns : List Note). NestedAfter nest (opening loaded) ns) tail l.marks.nested);
       fits = l.fits;
       below = below;
       all_made = record {

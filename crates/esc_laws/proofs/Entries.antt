@@ -8,6 +8,7 @@ use Rattle.esc_base.specs.declared.event.Event.{Event}
 use Rattle.esc_base.specs.declared.note.Note.{Note}
 use Rattle.esc_base.specs.declared.note.Note.TheVariants as note
 use Rattle.esc_base.specs.Numbers.{kind_number}
+use Rattle.settings_block.specs.declared.stored.Loaded.{Loaded}
 use Rattle.timer_regs.specs.Bank.{Bank}
 use Rattle.timer_regs.specs.Effects.{after_entry}
 use Rattle.interrupt_machine.specs.declared.nest.Nest.{Nest}
@@ -171,17 +172,17 @@ entered_stack kind.Cmp p t i = absurd i
 entered_stack kind.Pwm p t i = absurd i
 entered_stack kind.Comm p t i = absurd i
 
-entered_signal : (k : Kind) → IsBuilt k → (nest : Nest) (trace : List Event) (c : Brain) (b : Bank) (rest : List Note) → OwnIn nest trace c b rest → due_now false b k ≡ true → left_of c k ≡ 0
-    → SignalTied (next (place (opening ++ rest)) (enters k b.time)).signal (entered_core c k).cap_at (cap_view trace (entered_core c k) (after_entry b k) (next (place (opening ++ rest)) (enters k b.time)))
-entered_signal kind.Tick t nest trace c b rest i due none = i.signal
-entered_signal kind.Cap t nest trace c b rest i due none =
-    cap_entered (place (opening ++ rest)).signal trace c b (place (opening ++ rest)) refl
-    (subst (λ (at : CapAt). SignalTied (place (opening ++ rest)).signal at (cap_view trace c b (place (opening ++ rest)))) (cap_shut c.cap_at none) i.signal) due
-entered_signal kind.Main t nest trace c b rest i due none = absurd t
-entered_signal kind.Uart t nest trace c b rest i due none = absurd t
-entered_signal kind.Cmp t nest trace c b rest i due none = absurd t
-entered_signal kind.Pwm t nest trace c b rest i due none = absurd t
-entered_signal kind.Comm t nest trace c b rest i due none = absurd t
+entered_signal : (loaded : Loaded) (k : Kind) → IsBuilt k → (nest : Nest) (trace : List Event) (c : Brain) (b : Bank) (rest : List Note) → OwnIn loaded nest trace c b rest → due_now false b k ≡ true → left_of c k ≡ 0
+    → SignalTied (next (place (opening loaded ++ rest)) (enters k b.time)).signal (entered_core c k).cap_at (cap_view trace (entered_core c k) (after_entry b k) (next (place (opening loaded ++ rest)) (enters k b.time)))
+entered_signal loaded kind.Tick t nest trace c b rest i due none = i.signal
+entered_signal loaded kind.Cap t nest trace c b rest i due none =
+    cap_entered (place (opening loaded ++ rest)).signal trace c b (place (opening loaded ++ rest)) refl
+    (subst (λ (at : CapAt). SignalTied (place (opening loaded ++ rest)).signal at (cap_view trace c b (place (opening loaded ++ rest)))) (cap_shut c.cap_at none) i.signal) due
+entered_signal loaded kind.Main t nest trace c b rest i due none = absurd t
+entered_signal loaded kind.Uart t nest trace c b rest i due none = absurd t
+entered_signal loaded kind.Cmp t nest trace c b rest i due none = absurd t
+entered_signal loaded kind.Pwm t nest trace c b rest i due none = absurd t
+entered_signal loaded kind.Comm t nest trace c b rest i due none = absurd t
 
 entered_tick : (k : Kind) → IsBuilt k → (c : Brain) (b : Bank) (p : Place) → b.number_read ≤ b.time / 2400 → due_now false b k ≡ true → TickTied c.tick_at b.number_read b.time p.ticks
     → TickTied (entered_core c k).tick_at (after_entry b k).number_read b.time (next p (enters k b.time)).ticks
@@ -210,21 +211,21 @@ entry_same kind.Cmp t c b = absurd t
 entry_same kind.Pwm t c b = absurd t
 entry_same kind.Comm t c b = absurd t
 
-pub entry_out : (nest : Nest) (trace : List Event) (c : Brain) (b : Bank) (rest : List Note) (stack : List Kind) (k : Kind) → OwnIn nest trace c b rest → Keeps c b stack → IsStack stack
-    → stack ≡ (place (opening ++ rest)).stack → next_entry nest stack (due_now false b) ≡ Some k
-    → OwnOut nest trace (entered_core c k) b (after_entry b k) (rest ++ enters k b.time ∷ []) (k ∷ stack)
-entry_out nest trace c b rest stack k i keeps sorted same chosen =
+pub entry_out : (loaded : Loaded) (nest : Nest) (trace : List Event) (c : Brain) (b : Bank) (rest : List Note) (stack : List Kind) (k : Kind) → OwnIn loaded nest trace c b rest → Keeps c b stack → IsStack stack
+    → stack ≡ (place (opening loaded ++ rest)).stack → next_entry nest stack (due_now false b) ≡ Some k
+    → OwnOut loaded nest trace (entered_core c k) b (after_entry b k) (rest ++ enters k b.time ∷ []) (k ∷ stack)
+entry_out loaded nest trace c b rest stack k i keeps sorted same chosen =
     let due = highest_is_due (due_now false b) k (entry_highest nest stack (due_now false b) k chosen) in
     let built : IsBuilt k = due_built b k due in
     let e = entry_same k built c b in
     let none : left_of c k ≡ 0 = keeps.shut k (closed_above stack k sorted (entry_above nest stack (due_now false b) k chosen)) in
-    let p : Place = place (opening ++ rest) in
-    let at : place (opening ++ (rest ++ enters k b.time ∷ [])) ≡ next p (enters k b.time) = place-push (opening ++ rest) (enters k b.time) in
+    let p : Place = place (opening loaded ++ rest) in
+    let at : place (opening loaded ++ (rest ++ enters k b.time ∷ [])) ≡ next p (enters k b.time) = place-push (opening loaded ++ rest) (enters k b.time) in
     record {
-      said = said_push nest trace b.time rest (enters k b.time) i.said refl tt
+      said = said_push loaded nest trace b.time rest (enters k b.time) i.said refl tt
           (subst (λ (s : List Kind). IsAboveAll nest s (kind_number k)) same (entry_above_all nest stack (due_now false b) k sorted chosen));
-      control = rw (e.control, reverse-push (opening ++ rest) (enters k b.time)) (other_stands (enters k b.time) c.control (reverse (opening ++ rest)) refl refl i.control);
-      signal = subst (λ (q : Place). SignalTied q.signal (entered_core c k).cap_at (cap_view trace (entered_core c k) (after_entry b k) q)) (sym at) (entered_signal k built nest trace c b rest i due none);
+      control = rw (e.control, reverse-push (opening loaded ++ rest) (enters k b.time)) (other_stands (enters k b.time) c.control (reverse (opening loaded ++ rest)) refl refl i.control);
+      signal = subst (λ (q : Place). SignalTied q.signal (entered_core c k).cap_at (cap_view trace (entered_core c k) (after_entry b k) q)) (sym at) (entered_signal loaded k built nest trace c b rest i due none);
       window = rw e.window i.window;
       tick = subst (λ (q : Place). TickTied (entered_core c k).tick_at (after_entry b k).number_read b.time q.ticks) (sym at) (entered_tick k built c b p i.read due i.tick);
       number = rw (e.control, e.number) i.number;

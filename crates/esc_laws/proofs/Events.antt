@@ -7,6 +7,7 @@ use Rattle.esc_base.specs.declared.event.Event.{Event}
 use Rattle.esc_base.specs.declared.event.Event.TheVariants as event
 use Rattle.esc_base.specs.Journal.{time_of}
 use Rattle.esc_base.specs.Trace.{line, tick_of}
+use Rattle.settings_block.specs.declared.stored.Loaded.{Loaded}
 use Rattle.timer_regs.specs.Bank.{Bank}
 use Rattle.timer_regs.specs.Effects.{advanced}
 use Rattle.interrupt_machine.specs.declared.nest.Nest.{Nest}
@@ -35,12 +36,12 @@ tick_later tick.Read read t u ticks le i = (let a : read < t / 2400 = i.0 in ome
 tick_later tick.Lower read t u ticks le i = i
 tick_later tick.Back read t u ticks le i = i
 
-pub ties_later : (trace : List Event) (c : Brain) (b : Bank) (log : List Turned) (u : ℕ) → b.time ≤ u → u < 2147483648 → Ties trace c b log → Ties trace c (advanced b u) log
-ties_later trace c b log u le small t = record {
-  signal = signal_follows (place (journal log)).signal c.cap_at (cap_view trace c b (place (journal log))) (cap_view trace c (advanced b u) (place (journal log)))
-      (time_follows (cap_view trace c b (place (journal log))) u le) t.signal;
+pub ties_later : (loaded : Loaded) (trace : List Event) (c : Brain) (b : Bank) (log : List Turned) (u : ℕ) → b.time ≤ u → u < 2147483648 → Ties loaded trace c b log → Ties loaded trace c (advanced b u) log
+ties_later loaded trace c b log u le small t = record {
+  signal = signal_follows (place (journal loaded log)).signal c.cap_at (cap_view trace c b (place (journal loaded log))) (cap_view trace c (advanced b u) (place (journal loaded log)))
+      (time_follows (cap_view trace c b (place (journal loaded log))) u le) t.signal;
   window = record { past = All-later (λ e. e.t.0) b.window.edges b.time u le t.window.past; order = t.window.order; few = t.window.few };
-  tick = tick_later c.tick_at b.number_read b.time u (place (journal log)).ticks le t.tick;
+  tick = tick_later c.tick_at b.number_read b.time u (place (journal loaded log)).ticks le t.tick;
   number = t.number;
   read = (let r = t.read in omega arith);
   level = t.level;
@@ -51,14 +52,14 @@ ties_later trace c b log u le small t = record {
 pub keeps_later : (c : Brain) (b : Bank) (stack : List Kind) (u : ℕ) → Keeps c b stack → Keeps c (advanced b u) stack
 keeps_later c b stack u k = record { hold = k.hold; enough = k.enough; tick_masked = k.tick_masked; live = k.live; shut = k.shut; built = k.built }
 
-pub marks_later : (nest : Nest) (trace : List Event) (c : Brain) (b : Bank) (stack : List Kind) (log : List Turned) (u : ℕ) → b.time ≤ u → Marks nest trace c b stack log → Marks nest trace c (advanced b u) stack log
-marks_later nest trace c b stack log u le m = record {
+pub marks_later : (loaded : Loaded) (nest : Nest) (trace : List Event) (c : Brain) (b : Bank) (stack : List Kind) (log : List Turned) (u : ℕ) → b.time ≤ u → Marks loaded nest trace c b stack log → Marks loaded nest trace c (advanced b u) stack log
+marks_later loaded nest trace c b stack log u le m = record {
   in_time = m.in_time;
   windowed = m.windowed;
   nested = m.nested;
   control = m.control;
   stack_is = m.stack_is;
-  past = All-later time_of (journal log) b.time u le m.past;
+  past = All-later time_of (journal loaded log) b.time u le m.past;
 }
 
 -- a kind that waits goes on to wait
@@ -66,11 +67,11 @@ waits_on : (x y f : Bool) → (x ≡ true → y ≡ true) → (x && f) ≡ true 
 waits_on true y f g e = rw (g refl) e
 waits_on false y f g e = cc
 
-pub patient_later : (nest : Nest) (trace : List Event) (c : Brain) (b : Bank) (stack : List Kind) (log : List Turned) (u : ℕ) → b.time ≤ u
-    → Patient nest c.hold b.masked stack (sees trace (journal log) b.time) (called nest trace log) → Patient nest c.hold b.masked stack (sees trace (journal log) u) (called nest trace log)
-patient_later nest trace c b stack log u le p =
-    grow_patient nest stack (sees trace (journal log) b.time) (sees trace (journal log) u) b.masked c.hold (called nest trace log)
-    (λ k e. waits_on (sees trace (journal log) b.time k) (sees trace (journal log) u k) (not (is_open stack k)) (sees_later trace (journal log) b.time u k le) e) p
+pub patient_later : (loaded : Loaded) (nest : Nest) (trace : List Event) (c : Brain) (b : Bank) (stack : List Kind) (log : List Turned) (u : ℕ) → b.time ≤ u
+    → Patient nest c.hold b.masked stack (sees trace (journal loaded log) b.time) (called loaded nest trace log) → Patient nest c.hold b.masked stack (sees trace (journal loaded log) u) (called loaded nest trace log)
+patient_later loaded nest trace c b stack log u le p =
+    grow_patient nest stack (sees trace (journal loaded log) b.time) (sees trace (journal loaded log) u) b.masked c.hold (called loaded nest trace log)
+    (λ k e. waits_on (sees trace (journal loaded log) b.time k) (sees trace (journal loaded log) u k) (not (is_open stack k)) (sees_later trace (journal loaded log) b.time u k le) e) p
 
 -- ---- the tick of the next step, in the longer trace
 
@@ -116,22 +117,22 @@ pub record SameRegs (b b' : Bank) : Type 0 where
   pub time : b'.time ≡ b.time
   pub masked : b'.masked ≡ b.masked
 
-patient_grows : (nest : Nest) (trace : List Event) (e : Event) (c : Brain) (b : Bank) (stack : List Kind) (log : List Turned) → b.time ≡ tick_of e → Below (tick_of e) log
-    → Patient nest c.hold b.masked stack (sees trace (journal log) b.time) (called nest trace log)
-    → Patient nest c.hold b.masked stack (sees (trace ++ e ∷ []) (journal log) b.time) (called nest (trace ++ e ∷ []) log)
-patient_grows nest trace e c b stack log at below p =
-    same_patient nest c.hold b.masked stack (sees (trace ++ e ∷ []) (journal log) b.time) (called nest trace log) (called nest (trace ++ e ∷ []) log) (λ k. count_before nest trace e log k below)
-    (grow_patient nest stack (sees trace (journal log) b.time) (sees (trace ++ e ∷ []) (journal log) b.time) b.masked c.hold (called nest trace log)
-    (λ k s. waits_on (sees trace (journal log) b.time k) (sees (trace ++ e ∷ []) (journal log) b.time k) (not (is_open stack k)) (sees_still trace e (journal log) b.time k (omega arith)) s) p)
+patient_grows : (loaded : Loaded) (nest : Nest) (trace : List Event) (e : Event) (c : Brain) (b : Bank) (stack : List Kind) (log : List Turned) → b.time ≡ tick_of e → Below (tick_of e) log
+    → Patient nest c.hold b.masked stack (sees trace (journal loaded log) b.time) (called loaded nest trace log)
+    → Patient nest c.hold b.masked stack (sees (trace ++ e ∷ []) (journal loaded log) b.time) (called loaded nest (trace ++ e ∷ []) log)
+patient_grows loaded nest trace e c b stack log at below p =
+    same_patient nest c.hold b.masked stack (sees (trace ++ e ∷ []) (journal loaded log) b.time) (called loaded nest trace log) (called loaded nest (trace ++ e ∷ []) log) (λ k. count_before loaded nest trace e log k below)
+    (grow_patient nest stack (sees trace (journal loaded log) b.time) (sees (trace ++ e ∷ []) (journal loaded log) b.time) b.masked c.hold (called loaded nest trace log)
+    (λ k s. waits_on (sees trace (journal loaded log) b.time k) (sees (trace ++ e ∷ []) (journal loaded log) b.time k) (not (is_open stack k)) (sees_still trace e (journal loaded log) b.time k (omega arith)) s) p)
 
-marks_grow : (nest : Nest) (trace : List Event) (e : Event) (c : Brain) (b b' : Bank) (stack : List Kind) (log : List Turned) → b.time ≡ tick_of e → SameRegs b b' → Marks nest trace c b stack log → Marks nest (trace ++ e ∷ []) c b' stack log
-marks_grow nest trace e c b b' stack log at same m = record {
+marks_grow : (loaded : Loaded) (nest : Nest) (trace : List Event) (e : Event) (c : Brain) (b b' : Bank) (stack : List Kind) (log : List Turned) → b.time ≡ tick_of e → SameRegs b b' → Marks loaded nest trace c b stack log → Marks loaded nest (trace ++ e ∷ []) c b' stack log
+marks_grow loaded nest trace e c b b' stack log at same m = record {
   in_time = m.in_time;
-  windowed = windowed_grows trace e (journal log) (All-later time_of (journal log) b.time (tick_of e) (omega arith) m.past) m.windowed;
+  windowed = windowed_grows loaded trace e (journal loaded log) (All-later time_of (journal loaded log) b.time (tick_of e) (omega arith) m.past) m.windowed;
   nested = m.nested;
   control = m.control;
   stack_is = m.stack_is;
-  past = All-later time_of (journal log) b.time b'.time (let s = same.time in omega arith) m.past;
+  past = All-later time_of (journal loaded log) b.time b'.time (let s = same.time in omega arith) m.past;
 }
 
 keeps_same : (c : Brain) (b b' : Bank) (stack : List Kind) → SameRegs b b' → Keeps c b stack → Keeps c b' stack
@@ -152,15 +153,15 @@ pub record Moved (cost : ℕ) (trace : List Event) (e : Event) (now next next' :
   pub at_next : stack ≢ [] → next' ≡ after cost (trace ++ e ∷ []) log
   pub put_off : (u : ℕ) → now ≤ u → u < next' → after cost (trace ++ e ∷ []) log ≤ u → free (trace ++ e ∷ []) u ≢ u
 
-awaits_grow : (nest : Nest) (cost : ℕ) (trace : List Event) (e : Event) (next next' : ℕ) (c : Brain) (b : Bank) (stack : List Kind) (log : List Turned) → b.time ≡ tick_of e → Logged nest cost trace next c b stack log
-    → Moved cost trace e b.time next next' stack log → Awaits cost (trace ++ e ∷ []) next' log
-awaits_grow nest cost trace e next next' c b stack log at l m = record {
+awaits_grow : (loaded : Loaded) (nest : Nest) (cost : ℕ) (trace : List Event) (e : Event) (next next' : ℕ) (c : Brain) (b : Bank) (stack : List Kind) (log : List Turned) → b.time ≡ tick_of e → Logged loaded nest cost trace next c b stack log
+    → Moved cost trace e b.time next next' stack log → Awaits loaded cost (trace ++ e ∷ []) next' log
+awaits_grow loaded nest cost trace e next next' c b stack log at l m = record {
   open_step = λ o. (let n = m.at_next (λ s. o (sym l.marks.stack_is ∙ s)) in omega arith);
   idle = λ o u from below f k. elim (by_order u) [
     | inl early ↦ (
         let a : after cost trace log ≤ u = (let g = after_grows cost trace e log in let p = past_more e (after cost trace log) in omega arith) in
         let soon : u < next = (let t = l.time in omega arith) in
-        sees_before trace e (journal log) u k (omega arith) ∙ l.awaits.idle o u a soon (free_less trace e u f) k)
+        sees_before trace e (journal loaded log) u k (omega arith) ∙ l.awaits.idle o u a soon (free_less trace e u f) k)
     | inr late ↦ absurd (m.put_off u late below from f)
   ];
 }
@@ -178,22 +179,22 @@ awaits_grow nest cost trace e next next' c b stack log at l m = record {
         by_test true e = inl (lt_from u b.time e)
         by_test false e = inr (ge_from u b.time e)
 
-pub event_logged : (nest : Nest) (cost : ℕ) (trace : List Event) (e : Event) (next next' : ℕ) (c : Brain) (b b' : Bank) (stack : List Kind) (log : List Turned) → b.time ≡ tick_of e → Below (tick_of e) log
-    → Logged nest cost trace next c b stack log → Moved cost trace e b.time next next' stack log → SameRegs b b' → Ties (trace ++ e ∷ []) c b' log
-    → Logged nest cost (trace ++ e ∷ []) next' c b' stack log
-event_logged nest cost trace e next next' c b b' stack log at below l m same ties = record {
+pub event_logged : (loaded : Loaded) (nest : Nest) (cost : ℕ) (trace : List Event) (e : Event) (next next' : ℕ) (c : Brain) (b b' : Bank) (stack : List Kind) (log : List Turned) → b.time ≡ tick_of e → Below (tick_of e) log
+    → Logged loaded nest cost trace next c b stack log → Moved cost trace e b.time next next' stack log → SameRegs b b' → Ties loaded (trace ++ e ∷ []) c b' log
+    → Logged loaded nest cost (trace ++ e ∷ []) next' c b' stack log
+event_logged loaded nest cost trace e next next' c b b' stack log at below l m same ties = record {
   keeps = keeps_same c b b' stack same l.keeps;
   sorted = l.sorted;
-  marks = marks_grow nest trace e c b b' stack log at same l.marks;
+  marks = marks_grow loaded nest trace e c b b' stack log at same l.marks;
   ties = ties;
-  patient = rw (same.masked, same.time) (patient_grows nest trace e c b stack log at below l.patient);
+  patient = rw (same.masked, same.time) (patient_grows loaded nest trace e c b stack log at below l.patient);
   owes = l.owes;
   reached = λ k o. reached_grows cost trace e log (steps_since k log) (entered_at k log) (l.reached k o) (l.reached_by k o (tick_of e) below);
   reached_by = λ k o t b. subst (λ (x : ℕ). x < t) (sym (uses_before cost trace e (steps_since k log) (entered_at k log) (uses cost trace (steps_since k log) (entered_at k log)) refl (l.reached_by k o (tick_of e) below)))
       (l.reached_by k o t b);
-  fits = fits_grow nest cost trace e log below l.fits;
+  fits = fits_grow loaded nest cost trace e log below l.fits;
   past = m.past;
-  awaits = awaits_grow nest cost trace e next next' c b stack log at l m;
+  awaits = awaits_grow loaded nest cost trace e next next' c b stack log at l m;
   time = (let t = l.time in let s = same.time in let n = m.more in omega arith);
   put_off = λ u from. m.put_off u (let s = same.time in omega arith);
   stalls = m.ends;

@@ -18,6 +18,7 @@ use Rattle.edge_capture.specs.Edges.{last_at, blank}
 use Rattle.edge_capture.specs.Burst.{burst, close, close_of, hears, is_closed, wait}
 use Rattle.edge_capture.proofs.Stable.{burst-push, closed_later}
 use Rattle.edge_capture.proofs.Grows.{burst_grows}
+use Rattle.settings_block.specs.declared.stored.Loaded.{Loaded}
 use Rattle.timer_regs.specs.Effects.{mode_of, is_reached}
 use Rattle.arming.specs.ControlAt.{number_at}
 use Rattle.esc_laws.specs.Place.{Signal, Silent, Listens, Judged, Rests, place}
@@ -32,8 +33,8 @@ use Rattle.esc_laws.proofs.Pushes.{free-push}
 pub close_grows : (trace : List Event) (e : Event) (w c : ℕ) (m : Mode) → close (line trace).edges w m ≡ Some c → c ≤ tick_of e → close (line (trace ++ e ∷ [])).edges w m ≡ Some c
 close_grows trace e w c m h le = ap (close_of m) (burst_grows trace e w c m h le) ∙ h
 
-answers_grow : (trace : List Event) (e : Event) (w m entered t : ℕ) (n : Note) → t ≤ tick_of e → Answers trace w m entered t n → Answers (trace ++ e ∷ []) w m entered t n
-answers_grow trace e w m entered t n le a =
+answers_grow : (loaded : Loaded) (trace : List Event) (e : Event) (w m entered t : ℕ) (n : Note) → t ≤ tick_of e → Answers loaded trace w m entered t n → Answers loaded (trace ++ e ∷ []) w m entered t n
+answers_grow loaded trace e w m entered t n le a =
     let before : a.closed_at ≤ tick_of e = (let x = a.waits in let y = a.entered_before in omega arith) in
     record {
       closed_at = a.closed_at;
@@ -43,28 +44,28 @@ answers_grow trace e w m entered t n le a =
       verdict_is = rw (burst_grows trace e w a.closed_at (mode_of m) a.closes before) a.verdict_is;
     }
 
-answers_at_grow : (trace : List Event) (e : Event) (s : Signal) (entered t : ℕ) (n : Note) → t ≤ tick_of e → AnswersAt trace s entered t n → AnswersAt (trace ++ e ∷ []) s entered t n
-answers_at_grow trace e (Listens w m) entered t n le a = answers_grow trace e w m entered t n le a
-answers_at_grow trace e Silent entered t n le a = a
-answers_at_grow trace e (Judged f opens) entered t n le a = a
-answers_at_grow trace e (Rests f r) entered t n le a = a
+answers_at_grow : (loaded : Loaded) (trace : List Event) (e : Event) (s : Signal) (entered t : ℕ) (n : Note) → t ≤ tick_of e → AnswersAt loaded trace s entered t n → AnswersAt loaded (trace ++ e ∷ []) s entered t n
+answers_at_grow loaded trace e (Listens w m) entered t n le a = answers_grow loaded trace e w m entered t n le a
+answers_at_grow loaded trace e Silent entered t n le a = a
+answers_at_grow loaded trace e (Judged f opens) entered t n le a = a
+answers_at_grow loaded trace e (Rests f r) entered t n le a = a
 
-rule_grows : (trace : List Event) (e : Event) (before : List Note) (n : Note) → time_of n ≤ tick_of e → WindowRule trace before n → WindowRule (trace ++ e ∷ []) before n
-rule_grows trace e before (note.Good t v q) le r = answers_at_grow trace e (place before).signal (place before).cap_entered t.0 (note.Good t v q) le r
-rule_grows trace e before (note.Detected t m) le r = answers_at_grow trace e (place before).signal (place before).cap_entered t.0 (note.Detected t m) le r
-rule_grows trace e before (note.Nothing t) le r = answers_at_grow trace e (place before).signal (place before).cap_entered t.0 (note.Nothing t) le r
-rule_grows trace e before (note.Bad t w) le r = answers_at_grow trace e (place before).signal (place before).cap_entered t.0 (note.Bad t w) le r
-rule_grows trace e before (note.Window t m) le r = r
-rule_grows trace e before (note.Leave t k) le r = r
-rule_grows trace e before n le r = r
+rule_grows : (loaded : Loaded) (trace : List Event) (e : Event) (before : List Note) (n : Note) → time_of n ≤ tick_of e → WindowRule loaded trace before n → WindowRule loaded (trace ++ e ∷ []) before n
+rule_grows loaded trace e before (note.Good t v q) le r = answers_at_grow loaded trace e (place before).signal (place before).cap_entered t.0 (note.Good t v q) le r
+rule_grows loaded trace e before (note.Detected t m) le r = answers_at_grow loaded trace e (place before).signal (place before).cap_entered t.0 (note.Detected t m) le r
+rule_grows loaded trace e before (note.Nothing t) le r = answers_at_grow loaded trace e (place before).signal (place before).cap_entered t.0 (note.Nothing t) le r
+rule_grows loaded trace e before (note.Bad t w) le r = answers_at_grow loaded trace e (place before).signal (place before).cap_entered t.0 (note.Bad t w) le r
+rule_grows loaded trace e before (note.Window t m) le r = r
+rule_grows loaded trace e before (note.Leave t k) le r = r
+rule_grows loaded trace e before n le r = r
 
-windowed_from : (trace : List Event) (e : Event) (before notes : List Note) → All (λ n. time_of n ≤ tick_of e) notes → Each (WindowRule trace) before notes → Each (WindowRule (trace ++ e ∷ [])) before notes
-windowed_from trace e before [] past w = tt
-windowed_from trace e before (n ∷ notes) past w =
-    (rule_grows trace e before n (All-head (λ x. time_of x ≤ tick_of e) n notes past) w.0, windowed_from trace e (before ++ n ∷ []) notes (All-tail (λ x. time_of x ≤ tick_of e) n notes past) w.1)
+windowed_from : (loaded : Loaded) (trace : List Event) (e : Event) (before notes : List Note) → All (λ n. time_of n ≤ tick_of e) notes → Each (WindowRule loaded trace) before notes → Each (WindowRule loaded (trace ++ e ∷ [])) before notes
+windowed_from loaded trace e before [] past w = tt
+windowed_from loaded trace e before (n ∷ notes) past w =
+    (rule_grows loaded trace e before n (All-head (λ x. time_of x ≤ tick_of e) n notes past) w.0, windowed_from loaded trace e (before ++ n ∷ []) notes (All-tail (λ x. time_of x ≤ tick_of e) n notes past) w.1)
 
-pub windowed_grows : (trace : List Event) (e : Event) (notes : List Note) → All (λ n. time_of n ≤ tick_of e) notes → Windowed trace notes → Windowed (trace ++ e ∷ []) notes
-windowed_grows trace e notes past w = windowed_from trace e [] notes past w
+pub windowed_grows : (loaded : Loaded) (trace : List Event) (e : Event) (notes : List Note) → All (λ n. time_of n ≤ tick_of e) notes → Windowed loaded trace notes → Windowed loaded (trace ++ e ∷ []) notes
+windowed_grows loaded trace e notes past w = windowed_from loaded trace e [] notes past w
 
 -- ---- stalls
 

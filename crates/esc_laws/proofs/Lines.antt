@@ -15,6 +15,7 @@ use Rattle.edge_capture.specs.Modes.{most}
 use Rattle.edge_capture.specs.Burst.{burst, hear, hears, is_closed}
 use Rattle.edge_capture.specs.Window.{Window, after_edge, window_closed, window_hears}
 use Rattle.edge_capture.proofs.Stable.{burst-push, deaf}
+use Rattle.settings_block.specs.declared.stored.Loaded.{Loaded}
 use Rattle.timer_regs.specs.Bank.{Bank}
 use Rattle.timer_regs.specs.Effects.{after_line, mode_of}
 use Rattle.esc_core.specs.Brain.{Brain}
@@ -46,10 +47,10 @@ plain_follows trace e c b p same le = record {
   closes = λ w m at h l. close_grows trace e w at (mode_of m) h (omega arith);
 }
 
-pub plain_ties : (trace : List Event) (e : Event) (c : Brain) (b : Bank) (log : List Turned) → line (trace ++ e ∷ []) ≡ line trace → b.time ≤ tick_of e → Ties trace c b log → Ties (trace ++ e ∷ []) c b log
-plain_ties trace e c b log same le t = record {
-  signal = signal_follows (place (journal log)).signal c.cap_at (cap_view trace c b (place (journal log))) (cap_view (trace ++ e ∷ []) c b (place (journal log)))
-      (plain_follows trace e c b (place (journal log)) same le) t.signal;
+pub plain_ties : (loaded : Loaded) (trace : List Event) (e : Event) (c : Brain) (b : Bank) (log : List Turned) → line (trace ++ e ∷ []) ≡ line trace → b.time ≤ tick_of e → Ties loaded trace c b log → Ties loaded (trace ++ e ∷ []) c b log
+plain_ties loaded trace e c b log same le t = record {
+  signal = signal_follows (place (journal loaded log)).signal c.cap_at (cap_view trace c b (place (journal loaded log))) (cap_view (trace ++ e ∷ []) c b (place (journal loaded log)))
+      (plain_follows trace e c b (place (journal loaded log)) same le) t.signal;
   window = t.window;
   tick = t.tick;
   number = t.number;
@@ -219,16 +220,16 @@ edge_sound w x s = by_test (window_hears w x) refl
 
 -- ---- the ties after an edge
 
-edge_ties : (v : Bool) (trace : List Event) (c : Brain) (b : Bank) (log : List Turned) (level : Bool) → differ b.level level ≡ v → Ties trace c b log
-    → Ties (trace ++ event.Edge (tick_at b.time) level ∷ []) c (if v then edge_bank b level else b) log
-edge_ties true trace c b log level d t =
+edge_ties : (loaded : Loaded) (v : Bool) (trace : List Event) (c : Brain) (b : Bank) (log : List Turned) (level : Bool) → differ b.level level ≡ v → Ties loaded trace c b log
+    → Ties loaded (trace ++ event.Edge (tick_at b.time) level ∷ []) c (if v then edge_bank b level else b) log
+edge_ties loaded true trace c b log level d t =
     let x : Edge = edge_now b level in
     let e : Event = event.Edge (tick_at b.time) level in
     let d' : differ (line trace).level level ≡ true = subst (λ (l : Bool). differ l level ≡ true) t.level d in
     let new : line (trace ++ e ∷ []) ≡ record { level = level; edges = (line trace).edges ++ x ∷ [] } = line-push trace e ∙ rw d' refl in
     record {
-      signal = signal_follows (place (journal log)).signal c.cap_at (cap_view trace c b (place (journal log))) (cap_view (trace ++ e ∷ []) c (edge_bank b level) (place (journal log)))
-          (edge_follows trace c b (place (journal log)) level (ap (λ (l : Line). l.edges) new)) t.signal;
+      signal = signal_follows (place (journal loaded log)).signal c.cap_at (cap_view trace c b (place (journal loaded log))) (cap_view (trace ++ e ∷ []) c (edge_bank b level) (place (journal loaded log)))
+          (edge_follows trace c b (place (journal loaded log)) level (ap (λ (l : Line). l.edges) new)) t.signal;
       window = edge_sound b.window x t.window;
       tick = t.tick;
       number = t.number;
@@ -237,12 +238,12 @@ edge_ties true trace c b log level d t =
       edges = rw new (All-push (λ y. y.t.0 ≤ b.time) (line trace).edges x t.edges (omega arith));
       small = t.small;
     }
-edge_ties false trace c b log level d t =
+edge_ties loaded false trace c b log level d t =
     let e : Event = event.Edge (tick_at b.time) level in
     let d' : differ (line trace).level level ≡ false = subst (λ (l : Bool). differ l level ≡ false) t.level d in
     let new : line (trace ++ e ∷ []) ≡ record { level = level; edges = (line trace).edges } = line-push trace e ∙ rw d' refl in
     let same : line (trace ++ e ∷ []) ≡ line trace = new ∙ ap (λ (l : Bool). record { level = l; edges = (line trace).edges }) (sym (same_level (line trace).level level d')) in
-    plain_ties trace e c b log same (omega arith) t
+    plain_ties loaded trace e c b log same (omega arith) t
 
-pub line_ties : (trace : List Event) (c : Brain) (b : Bank) (log : List Turned) (level : Bool) → Ties trace c b log → Ties (trace ++ event.Edge (tick_at b.time) level ∷ []) c (after_line b level) log
-line_ties trace c b log level t = edge_ties (differ b.level level) trace c b log level refl t
+pub line_ties : (loaded : Loaded) (trace : List Event) (c : Brain) (b : Bank) (log : List Turned) (level : Bool) → Ties loaded trace c b log → Ties loaded (trace ++ event.Edge (tick_at b.time) level ∷ []) c (after_line b level) log
+line_ties loaded trace c b log level t = edge_ties loaded (differ b.level level) trace c b log level refl t

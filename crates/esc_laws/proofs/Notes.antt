@@ -6,6 +6,7 @@ use Rattle.std.specs.List.{fold}
 use Rattle.esc_base.specs.declared.event.Event.{Event}
 use Rattle.esc_base.specs.declared.note.Note.{Note}
 use Rattle.esc_base.specs.Journal.{Journal, IsLater, time_of}
+use Rattle.settings_block.specs.declared.stored.Loaded.{Loaded}
 use Rattle.interrupt_machine.specs.declared.nest.Nest.{Nest}
 use Rattle.arming.proofs.InOrder.{each_push}
 use Rattle.esc_laws.specs.Place.{next, nowhere, place}
@@ -18,30 +19,30 @@ unfolding place
 place-append notes more = fold-append next nowhere notes more
 
 -- the notes keep the laws of windows and of nesting, in the order of their times, up to t
-pub record Said (nest : Nest) (trace : List Event) (t : ℕ) (rest : List Note) : Type 0 where
-  pub journal : Journal (opening ++ rest)
-  pub windowed : Windowed trace (opening ++ rest)
-  pub nested : NestedAfter nest opening rest
-  pub past : All (λ n. time_of n ≤ t) (opening ++ rest)
+pub record Said (loaded : Loaded) (nest : Nest) (trace : List Event) (t : ℕ) (rest : List Note) : Type 0 where
+  pub in_time : Journal (opening loaded ++ rest)
+  pub windowed : Windowed loaded trace (opening loaded ++ rest)
+  pub nested : NestedAfter nest (opening loaded) rest
+  pub past : All (λ n. time_of n ≤ t) (opening loaded ++ rest)
 
 at_end : (t u : ℕ) (xs : List Note) → t ≡ u → All (λ n. time_of n ≤ u) xs → All (λ n. time_of n ≤ t) xs
 at_end t u xs e a = λ k d l. rw e (a k d l)
 
 -- one more note at t
-pub said_push : (nest : Nest) (trace : List Event) (t : ℕ) (rest : List Note) (n : Note) → Said nest trace t rest → time_of n ≡ t
-    → WindowRule trace (opening ++ rest) n → NestRule nest (opening ++ rest) n → Said nest trace t (rest ++ n ∷ [])
-said_push nest trace t rest n s at w r =
+pub said_push : (loaded : Loaded) (nest : Nest) (trace : List Event) (t : ℕ) (rest : List Note) (n : Note) → Said loaded nest trace t rest → time_of n ≡ t
+    → WindowRule loaded trace (opening loaded ++ rest) n → NestRule nest (opening loaded ++ rest) n → Said loaded nest trace t (rest ++ n ∷ [])
+said_push loaded nest trace t rest n s at w r =
     record {
-      journal = each_push IsLater [] (opening ++ rest) n s.journal (at_end (time_of n) t (opening ++ rest) at s.past);
-      windowed = each_push (WindowRule trace) [] (opening ++ rest) n s.windowed w;
-      nested = each_push (NestRule nest) opening rest n s.nested r;
-      past = All-push (λ x. time_of x ≤ t) (opening ++ rest) n s.past (rw at (omega arith));
+      in_time = each_push IsLater [] (opening loaded ++ rest) n s.in_time (at_end (time_of n) t (opening loaded ++ rest) at s.past);
+      windowed = each_push (WindowRule loaded trace) [] (opening loaded ++ rest) n s.windowed w;
+      nested = each_push (NestRule nest) (opening loaded) rest n s.nested r;
+      past = All-push (λ x. time_of x ≤ t) (opening loaded ++ rest) n s.past (rw at (omega arith));
     }
 
-pub said_later : (nest : Nest) (trace : List Event) (t u : ℕ) (rest : List Note) → t ≤ u → Said nest trace t rest → Said nest trace u rest
-said_later nest trace t u rest le s = record {
-  journal = s.journal;
+pub said_later : (loaded : Loaded) (nest : Nest) (trace : List Event) (t u : ℕ) (rest : List Note) → t ≤ u → Said loaded nest trace t rest → Said loaded nest trace u rest
+said_later loaded nest trace t u rest le s = record {
+  in_time = s.in_time;
   windowed = s.windowed;
   nested = s.nested;
-  past = λ k d l. (let h : time_of (slice_index_or (opening ++ rest) k d) ≤ t = s.past k d l in omega arith);
+  past = λ k d l. (let h : time_of (slice_index_or (opening loaded ++ rest) k d) ≤ t = s.past k d l in omega arith);
 }

@@ -6,6 +6,7 @@ use Rattle.esc_base.specs.declared.kind.Kind.TheVariants as kind
 use Rattle.esc_base.specs.declared.event.Event.{Event}
 use Rattle.esc_base.specs.declared.note.Note.{Note}
 use Rattle.esc_base.specs.Numbers.{kind_number}
+use Rattle.settings_block.specs.declared.stored.Loaded.{Loaded}
 use Rattle.timer_regs.specs.Bank.{Bank}
 use Rattle.timer_regs.specs.Effects.{read_value}
 use Rattle.timer_regs.specs.declared.regs.Reg.TheVariants as reg
@@ -186,8 +187,8 @@ keeps_own k c b outer t sorted keeps l bounds =
 
 -- ---- the ties
 
-counted_in : (nest : Nest) (trace : List Event) (c : Brain) (b : Bank) (rest : List Note) → OwnIn nest trace c b rest → OwnIn nest trace (counted_down c b) b rest
-counted_in nest trace c b rest i = record {
+counted_in : (loaded : Loaded) (nest : Nest) (trace : List Event) (c : Brain) (b : Bank) (rest : List Note) → OwnIn loaded nest trace c b rest → OwnIn loaded nest trace (counted_down c b) b rest
+counted_in loaded nest trace c b rest i = record {
   said = i.said;
   control = i.control;
   signal = i.signal;
@@ -199,34 +200,34 @@ counted_in nest trace c b rest i = record {
   small = i.small;
 }
 
-cap_turn : (nest : Nest) (trace : List Event) (c : Brain) (b : Bank) (rest : List Note) (outer : List Kind) → OwnIn nest trace c b rest → (place (opening ++ rest)).stack ≡ kind.Cap ∷ outer → 0 < cap_left c.cap_at
-    → OwnOut nest trace (cap_step c.cap_at c b).core b (accessed b (cap_step c.cap_at c b).access) (rest ++ step_notes b.time kind.Cap (cap_step c.cap_at c b)) (open_left kind.Cap outer (cap_step c.cap_at c b))
-cap_turn nest trace c b rest outer i same l = elim (cap_goes c.cap_at c b l) [
-  | inl back ↦ rw back (cap_back nest trace c b rest outer i same (subst (λ (at : CapAt). SignalTied (place (opening ++ rest)).signal at (cap_view trace c b (place (opening ++ rest)))) back i.signal))
-  | inr on ↦ goes_out nest trace b rest (cap_step c.cap_at c b) kind.Cap outer on.2
-      (subst (λ (st : List Kind). StepOut nest trace b rest (cap_step c.cap_at c b) st) same (cap_out nest trace c b rest on.0 on.1 i (inside (place (opening ++ rest)).stack kind.Cap outer same)))
+cap_turn : (loaded : Loaded) (nest : Nest) (trace : List Event) (c : Brain) (b : Bank) (rest : List Note) (outer : List Kind) → OwnIn loaded nest trace c b rest → (place (opening loaded ++ rest)).stack ≡ kind.Cap ∷ outer → 0 < cap_left c.cap_at
+    → OwnOut loaded nest trace (cap_step c.cap_at c b).core b (accessed b (cap_step c.cap_at c b).access) (rest ++ step_notes b.time kind.Cap (cap_step c.cap_at c b)) (open_left kind.Cap outer (cap_step c.cap_at c b))
+cap_turn loaded nest trace c b rest outer i same l = elim (cap_goes c.cap_at c b l) [
+  | inl back ↦ rw back (cap_back loaded nest trace c b rest outer i same (subst (λ (at : CapAt). SignalTied (place (opening loaded ++ rest)).signal at (cap_view trace c b (place (opening loaded ++ rest)))) back i.signal))
+  | inr on ↦ goes_out loaded nest trace b rest (cap_step c.cap_at c b) kind.Cap outer on.2
+      (subst (λ (st : List Kind). StepOut loaded nest trace b rest (cap_step c.cap_at c b) st) same (cap_out loaded nest trace c b rest on.0 on.1 i (inside (place (opening loaded ++ rest)).stack kind.Cap outer same)))
 ]
   where
     inside : (stack : List Kind) (k : Kind) (outer : List Kind) → stack ≡ k ∷ outer → innermost stack ≡ Some k
     inside stack k outer e = rw e refl
 
-tick_turn : (nest : Nest) (trace : List Event) (c : Brain) (b : Bank) (rest : List Note) (outer : List Kind) → OwnIn nest trace c b rest → (place (opening ++ rest)).stack ≡ kind.Tick ∷ outer → 0 < tick_left c.tick_at
-    → OwnOut nest trace (tick_step c.tick_at c b).core b (accessed b (tick_step c.tick_at c b).access) (rest ++ step_notes b.time kind.Tick (tick_step c.tick_at c b)) (open_left kind.Tick outer (tick_step c.tick_at c b))
-tick_turn nest trace c b rest outer i same l = elim (tick_goes c.tick_at c b l) [
-  | inl back ↦ rw back (tick_back nest trace c b rest outer i same (subst (λ (at : TickAt). TickTied at b.number_read b.time (place (opening ++ rest)).ticks) back i.tick))
-  | inr on ↦ goes_out nest trace b rest (tick_step c.tick_at c b) kind.Tick outer on.2
-      (subst (λ (st : List Kind). StepOut nest trace b rest (tick_step c.tick_at c b) st) same (tick_out nest trace c b rest on.0 on.1 i (inside (place (opening ++ rest)).stack kind.Tick outer same)))
+tick_turn : (loaded : Loaded) (nest : Nest) (trace : List Event) (c : Brain) (b : Bank) (rest : List Note) (outer : List Kind) → OwnIn loaded nest trace c b rest → (place (opening loaded ++ rest)).stack ≡ kind.Tick ∷ outer → 0 < tick_left c.tick_at
+    → OwnOut loaded nest trace (tick_step c.tick_at c b).core b (accessed b (tick_step c.tick_at c b).access) (rest ++ step_notes b.time kind.Tick (tick_step c.tick_at c b)) (open_left kind.Tick outer (tick_step c.tick_at c b))
+tick_turn loaded nest trace c b rest outer i same l = elim (tick_goes c.tick_at c b l) [
+  | inl back ↦ rw back (tick_back loaded nest trace c b rest outer i same (subst (λ (at : TickAt). TickTied at b.number_read b.time (place (opening loaded ++ rest)).ticks) back i.tick))
+  | inr on ↦ goes_out loaded nest trace b rest (tick_step c.tick_at c b) kind.Tick outer on.2
+      (subst (λ (st : List Kind). StepOut loaded nest trace b rest (tick_step c.tick_at c b) st) same (tick_out loaded nest trace c b rest on.0 on.1 i (inside (place (opening loaded ++ rest)).stack kind.Tick outer same)))
 ]
   where
     inside : (stack : List Kind) (k : Kind) (outer : List Kind) → stack ≡ k ∷ outer → innermost stack ≡ Some k
     inside stack k outer e = rw e refl
 
-pub own_out : (k : Kind) → IsBuilt k → (nest : Nest) (trace : List Event) (c : Brain) (b : Bank) (rest : List Note) (outer : List Kind) → OwnIn nest trace c b rest → (place (opening ++ rest)).stack ≡ k ∷ outer → 0 < left_of c k
-    → OwnOut nest trace (kind_step k (counted_down c b) b).core b (accessed b (kind_step k (counted_down c b) b).access) (rest ++ step_notes b.time k (kind_step k (counted_down c b) b)) (open_left k outer (kind_step k (counted_down c b) b))
-own_out kind.Tick t nest trace c b rest outer i same l = tick_turn nest trace (counted_down c b) b rest outer (counted_in nest trace c b rest i) same l
-own_out kind.Cap t nest trace c b rest outer i same l = cap_turn nest trace (counted_down c b) b rest outer (counted_in nest trace c b rest i) same l
-own_out kind.Main t nest trace c b rest outer i same l = absurd t
-own_out kind.Uart t nest trace c b rest outer i same l = absurd t
-own_out kind.Cmp t nest trace c b rest outer i same l = absurd t
-own_out kind.Pwm t nest trace c b rest outer i same l = absurd t
-own_out kind.Comm t nest trace c b rest outer i same l = absurd t
+pub own_out : (loaded : Loaded) (k : Kind) → IsBuilt k → (nest : Nest) (trace : List Event) (c : Brain) (b : Bank) (rest : List Note) (outer : List Kind) → OwnIn loaded nest trace c b rest → (place (opening loaded ++ rest)).stack ≡ k ∷ outer → 0 < left_of c k
+    → OwnOut loaded nest trace (kind_step k (counted_down c b) b).core b (accessed b (kind_step k (counted_down c b) b).access) (rest ++ step_notes b.time k (kind_step k (counted_down c b) b)) (open_left k outer (kind_step k (counted_down c b) b))
+own_out loaded kind.Tick t nest trace c b rest outer i same l = tick_turn loaded nest trace (counted_down c b) b rest outer (counted_in loaded nest trace c b rest i) same l
+own_out loaded kind.Cap t nest trace c b rest outer i same l = cap_turn loaded nest trace (counted_down c b) b rest outer (counted_in loaded nest trace c b rest i) same l
+own_out loaded kind.Main t nest trace c b rest outer i same l = absurd t
+own_out loaded kind.Uart t nest trace c b rest outer i same l = absurd t
+own_out loaded kind.Cmp t nest trace c b rest outer i same l = absurd t
+own_out loaded kind.Pwm t nest trace c b rest outer i same l = absurd t
+own_out loaded kind.Comm t nest trace c b rest outer i same l = absurd t

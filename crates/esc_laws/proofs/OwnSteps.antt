@@ -13,6 +13,7 @@ use Rattle.esc_base.specs.Journal.{time_of}
 use Rattle.esc_base.specs.Trace.{line}
 use Rattle.esc_base.specs.Numbers.{mode_number, why_number}
 use Rattle.edge_capture.specs.Modes.{most}
+use Rattle.settings_block.specs.declared.stored.Loaded.{Loaded}
 use Rattle.timer_regs.specs.Bank.{Bank}
 use Rattle.timer_regs.specs.Effects.{read_value}
 use Rattle.timer_regs.specs.declared.regs.Reg.TheVariants as reg
@@ -42,36 +43,36 @@ use Rattle.esc_laws.proofs.Notes.{Said, said_push, place-append}
 use Rattle.esc_laws.proofs.CapTies.{start_tied, copy_tied, judged_tied, opens_tied, pause_tied}
 
 -- before a step: what the journal so far and the ties say
-pub record OwnIn (nest : Nest) (trace : List Event) (c : Brain) (b : Bank) (rest : List Note) : Type 0 where
-  pub said : Said nest trace b.time rest
-  pub control : Stands c.control (reverse (opening ++ rest))
-  pub signal : SignalTied (place (opening ++ rest)).signal c.cap_at (cap_view trace c b (place (opening ++ rest)))
+pub record OwnIn (loaded : Loaded) (nest : Nest) (trace : List Event) (c : Brain) (b : Bank) (rest : List Note) : Type 0 where
+  pub said : Said loaded nest trace b.time rest
+  pub control : Stands c.control (reverse (opening loaded ++ rest))
+  pub signal : SignalTied (place (opening loaded ++ rest)).signal c.cap_at (cap_view trace c b (place (opening loaded ++ rest)))
   pub window : WindowSound b.window b.time
-  pub tick : TickTied c.tick_at b.number_read b.time (place (opening ++ rest)).ticks
+  pub tick : TickTied c.tick_at b.number_read b.time (place (opening loaded ++ rest)).ticks
   pub number : b.number_read ≡ c.control.number
   pub read : b.number_read ≤ b.time / 2400
   pub edges : All (λ e. e.t.0 ≤ b.time) (line trace).edges
   pub small : b.time < 2147483648
 
 -- after it, with the step's notes in the journal
-pub record OwnOut (nest : Nest) (trace : List Event) (c' : Brain) (b b' : Bank) (rest : List Note) (stack : List Kind) : Type 0 where
-  pub said : Said nest trace b.time rest
-  pub control : Stands c'.control (reverse (opening ++ rest))
-  pub signal : SignalTied (place (opening ++ rest)).signal c'.cap_at (cap_view trace c' b' (place (opening ++ rest)))
+pub record OwnOut (loaded : Loaded) (nest : Nest) (trace : List Event) (c' : Brain) (b b' : Bank) (rest : List Note) (stack : List Kind) : Type 0 where
+  pub said : Said loaded nest trace b.time rest
+  pub control : Stands c'.control (reverse (opening loaded ++ rest))
+  pub signal : SignalTied (place (opening loaded ++ rest)).signal c'.cap_at (cap_view trace c' b' (place (opening loaded ++ rest)))
   pub window : WindowSound b'.window b.time
-  pub tick : TickTied c'.tick_at b'.number_read b.time (place (opening ++ rest)).ticks
+  pub tick : TickTied c'.tick_at b'.number_read b.time (place (opening loaded ++ rest)).ticks
   pub number : b'.number_read ≡ c'.control.number
   pub read : b'.number_read ≤ b.time / 2400
-  pub stack_is : (place (opening ++ rest)).stack ≡ stack
+  pub stack_is : (place (opening loaded ++ rest)).stack ≡ stack
 
-abbrev pub StepOut : Nest → List Event → Bank → List Note → Stepped → List Kind → Type 0
-StepOut nest trace b rest s stack = OwnOut nest trace s.core b (accessed b s.access) (rest ++ s.notes) stack
+abbrev pub StepOut : Loaded → Nest → List Event → Bank → List Note → Stepped → List Kind → Type 0
+StepOut loaded nest trace b rest s stack = OwnOut loaded nest trace s.core b (accessed b s.access) (rest ++ s.notes) stack
 
 -- a step without a note
-pub quiet : (nest : Nest) (trace : List Event) (b : Bank) (rest : List Note) (core : Brain) (access : Access) (over : Bool)
-    → OwnOut nest trace core b (accessed b access) rest (place (opening ++ rest)).stack
-    → StepOut nest trace b rest (record { core = core; access = access; notes = []; over = over }) (place (opening ++ rest)).stack
-quiet nest trace b rest core access over o = subst (λ (r : List Note). OwnOut nest trace core b (accessed b access) r (place (opening ++ rest)).stack) (sym (append-nil rest)) o
+pub quiet : (loaded : Loaded) (nest : Nest) (trace : List Event) (b : Bank) (rest : List Note) (core : Brain) (access : Access) (over : Bool)
+    → OwnOut loaded nest trace core b (accessed b access) rest (place (opening loaded ++ rest)).stack
+    → StepOut loaded nest trace b rest (record { core = core; access = access; notes = []; over = over }) (place (opening loaded ++ rest)).stack
+quiet loaded nest trace b rest core access over o = subst (λ (r : List Note). OwnOut loaded nest trace core b (accessed b access) r (place (opening loaded ++ rest)).stack) (sym (append-nil rest)) o
 
 most_few : (m : Mode) (n : ℕ) → n ≤ most m → n ≤ 32
 most_few mode.Unknown n le = le
@@ -86,14 +87,14 @@ few b w = most_few b.window.mode (length b.window.edges) w.few
 
 -- ---- CAP
 
-start_out : (nest : Nest) (trace : List Event) (c : Brain) (b : Bank) (rest : List Note) (w m : ℕ) → OwnIn nest trace c b rest → (place (opening ++ rest)).signal ≡ Listens w m
-    → IsClosing (cap_view trace c b (place (opening ++ rest))) w m
-    → StepOut nest trace b rest (goes_on (record c { burst = []; cap_at = after_edges (read_value b reg.CapState) }) (Reads reg.CapState)) (place (opening ++ rest)).stack
-start_out nest trace c b rest w m i e k =
-    quiet nest trace b rest (record c { burst = []; cap_at = after_edges (read_value b reg.CapState) }) (Reads reg.CapState) false (record {
+start_out : (loaded : Loaded) (nest : Nest) (trace : List Event) (c : Brain) (b : Bank) (rest : List Note) (w m : ℕ) → OwnIn loaded nest trace c b rest → (place (opening loaded ++ rest)).signal ≡ Listens w m
+    → IsClosing (cap_view trace c b (place (opening loaded ++ rest))) w m
+    → StepOut loaded nest trace b rest (goes_on (record c { burst = []; cap_at = after_edges (read_value b reg.CapState) }) (Reads reg.CapState)) (place (opening loaded ++ rest)).stack
+start_out loaded nest trace c b rest w m i e k =
+    quiet loaded nest trace b rest (record c { burst = []; cap_at = after_edges (read_value b reg.CapState) }) (Reads reg.CapState) false (record {
       said = i.said;
       control = i.control;
-      signal = start_tied trace c b (place (opening ++ rest)) w m e (few b i.window) k;
+      signal = start_tied trace c b (place (opening loaded ++ rest)) w m e (few b i.window) k;
       window = i.window;
       tick = i.tick;
       number = i.number;
@@ -101,14 +102,14 @@ start_out nest trace c b rest w m i e k =
       stack_is = refl;
     })
 
-copy_out : (nest : Nest) (trace : List Event) (c : Brain) (b : Bank) (rest : List Note) (w m left : ℕ) → OwnIn nest trace c b rest → (place (opening ++ rest)).signal ≡ Listens w m
-    → IsCopying (cap_view trace c b (place (opening ++ rest))) w m left
-    → StepOut nest trace b rest (cap_step (cap.Copy left) c b) (place (opening ++ rest)).stack
-copy_out nest trace c b rest w m left i e k =
-    quiet nest trace b rest (cap_step (cap.Copy left) c b).core (cap_step (cap.Copy left) c b).access false (record {
+copy_out : (loaded : Loaded) (nest : Nest) (trace : List Event) (c : Brain) (b : Bank) (rest : List Note) (w m left : ℕ) → OwnIn loaded nest trace c b rest → (place (opening loaded ++ rest)).signal ≡ Listens w m
+    → IsCopying (cap_view trace c b (place (opening loaded ++ rest))) w m left
+    → StepOut loaded nest trace b rest (cap_step (cap.Copy left) c b) (place (opening loaded ++ rest)).stack
+copy_out loaded nest trace c b rest w m left i e k =
+    quiet loaded nest trace b rest (cap_step (cap.Copy left) c b).core (cap_step (cap.Copy left) c b).access false (record {
       said = i.said;
       control = copied_control (takes c.burst (next_edge c b)) i.control;
-      signal = copy_tied trace c b (place (opening ++ rest)) w m left e (few b i.window) i.window i.small k;
+      signal = copy_tied trace c b (place (opening loaded ++ rest)) w m left e (few b i.window) i.window i.small k;
       window = i.window;
       tick = copied_tick (takes c.burst (next_edge c b)) i.tick;
       number = i.number ∙ copied_number (takes c.burst (next_edge c b));
@@ -116,12 +117,12 @@ copy_out nest trace c b rest w m left i e k =
       stack_is = refl;
     })
   where
-    copied_control : (v : Bool) → Stands c.control (reverse (opening ++ rest)) → Stands (if v then record c { burst = c.burst ++ next_edge c b ∷ []; cap_at = after_copy left } else record c { cap_at = cap.Back }).control (reverse (opening ++ rest))
+    copied_control : (v : Bool) → Stands c.control (reverse (opening loaded ++ rest)) → Stands (if v then record c { burst = c.burst ++ next_edge c b ∷ []; cap_at = after_copy left } else record c { cap_at = cap.Back }).control (reverse (opening loaded ++ rest))
     copied_control true s = s
     copied_control false s = s
 
-    copied_tick : (v : Bool) → TickTied c.tick_at b.number_read b.time (place (opening ++ rest)).ticks
-        → TickTied (if v then record c { burst = c.burst ++ next_edge c b ∷ []; cap_at = after_copy left } else record c { cap_at = cap.Back }).tick_at b.number_read b.time (place (opening ++ rest)).ticks
+    copied_tick : (v : Bool) → TickTied c.tick_at b.number_read b.time (place (opening loaded ++ rest)).ticks
+        → TickTied (if v then record c { burst = c.burst ++ next_edge c b ∷ []; cap_at = after_copy left } else record c { cap_at = cap.Back }).tick_at b.number_read b.time (place (opening loaded ++ rest)).ticks
     copied_tick true s = s
     copied_tick false s = s
 
@@ -129,14 +130,14 @@ copy_out nest trace c b rest w m left i e k =
     copied_number true = refl
     copied_number false = refl
 
-pause_out : (nest : Nest) (trace : List Event) (c : Brain) (b : Bank) (rest : List Note) (f at : ℕ) (opens_next : Bool) → OwnIn nest trace c b rest → (place (opening ++ rest)).signal ≡ Judged f opens_next
-    → IsJudged (cap_view trace c b (place (opening ++ rest))) → opens_next ≡ false → at ≡ f + 600
-    → StepOut nest trace b rest (cap_step (cap.Pause at) c b) (place (opening ++ rest)).stack
-pause_out nest trace c b rest f at opens_next i e k shuts is =
-    quiet nest trace b rest (record c { cap_at = cap.Back; paused = true }) (Writes reg.CapAt at) false (record {
+pause_out : (loaded : Loaded) (nest : Nest) (trace : List Event) (c : Brain) (b : Bank) (rest : List Note) (f at : ℕ) (opens_next : Bool) → OwnIn loaded nest trace c b rest → (place (opening loaded ++ rest)).signal ≡ Judged f opens_next
+    → IsJudged (cap_view trace c b (place (opening loaded ++ rest))) → opens_next ≡ false → at ≡ f + 600
+    → StepOut loaded nest trace b rest (cap_step (cap.Pause at) c b) (place (opening loaded ++ rest)).stack
+pause_out loaded nest trace c b rest f at opens_next i e k shuts is =
+    quiet loaded nest trace b rest (record c { cap_at = cap.Back; paused = true }) (Writes reg.CapAt at) false (record {
       said = i.said;
       control = i.control;
-      signal = pause_tied trace c b (place (opening ++ rest)) f at opens_next e k shuts is;
+      signal = pause_tied trace c b (place (opening loaded ++ rest)) f at opens_next e k shuts is;
       window = i.window;
       tick = i.tick;
       number = i.number;
@@ -145,47 +146,47 @@ pause_out nest trace c b rest f at opens_next i e k shuts is =
     })
 
 -- the ties after a step with one note
-one_tied : (trace : List Event) (c' : Brain) (b' : Bank) (rest : List Note) (n : Note) → SignalTied (next (place (opening ++ rest)) n).signal c'.cap_at (cap_view trace c' b' (next (place (opening ++ rest)) n))
-    → SignalTied (place (opening ++ (rest ++ n ∷ []))).signal c'.cap_at (cap_view trace c' b' (place (opening ++ (rest ++ n ∷ []))))
-one_tied trace c' b' rest n t = subst (λ (p : Place). SignalTied p.signal c'.cap_at (cap_view trace c' b' p)) (sym (place-push (opening ++ rest) n)) t
+one_tied : (loaded : Loaded) (trace : List Event) (c' : Brain) (b' : Bank) (rest : List Note) (n : Note) → SignalTied (next (place (opening loaded ++ rest)) n).signal c'.cap_at (cap_view trace c' b' (next (place (opening loaded ++ rest)) n))
+    → SignalTied (place (opening loaded ++ (rest ++ n ∷ []))).signal c'.cap_at (cap_view trace c' b' (place (opening loaded ++ (rest ++ n ∷ []))))
+one_tied loaded trace c' b' rest n t = subst (λ (p : Place). SignalTied p.signal c'.cap_at (cap_view trace c' b' p)) (sym (place-push (opening loaded ++ rest) n)) t
 
-window_opens : (trace : List Event) (c : Brain) (t : ℕ) (rest : List Note) (s : Signal) → (place (opening ++ rest)).signal ≡ s → OpensAt s t → Stands c.control (reverse (opening ++ rest))
-    → WindowRule trace (opening ++ rest) (note.Window (tick_at t) (mode_number c.control.mode))
-window_opens trace c t rest s e o st = (rw e o, st.ties.mode_is)
+window_opens : (loaded : Loaded) (trace : List Event) (c : Brain) (t : ℕ) (rest : List Note) (s : Signal) → (place (opening loaded ++ rest)).signal ≡ s → OpensAt s t → Stands c.control (reverse (opening loaded ++ rest))
+    → WindowRule loaded trace (opening loaded ++ rest) (note.Window (tick_at t) (mode_number c.control.mode))
+window_opens loaded trace c t rest s e o st = (rw e o, st.ties.mode_is)
 
-opens_out : (nest : Nest) (trace : List Event) (c : Brain) (b : Bank) (rest : List Note) (s : Signal) → OwnIn nest trace c b rest → (place (opening ++ rest)).signal ≡ s → OpensAt s b.time
-    → IsIn kind.Cap (place (opening ++ rest)) → b.timer ≡ None
-    → ((place (opening ++ rest)).verdicts ≡ 1) ⊎ (((place (opening ++ rest)).verdicts ≡ 0) × ((place (opening ++ rest)).windows ≡ 0))
-    → StepOut nest trace b rest (opens c b) (place (opening ++ rest)).stack
-opens_out nest trace c b rest s i e o inside none done =
+opens_out : (loaded : Loaded) (nest : Nest) (trace : List Event) (c : Brain) (b : Bank) (rest : List Note) (s : Signal) → OwnIn loaded nest trace c b rest → (place (opening loaded ++ rest)).signal ≡ s → OpensAt s b.time
+    → IsIn kind.Cap (place (opening loaded ++ rest)) → b.timer ≡ None
+    → ((place (opening loaded ++ rest)).verdicts ≡ 1) ⊎ (((place (opening loaded ++ rest)).verdicts ≡ 0) × ((place (opening loaded ++ rest)).windows ≡ 0))
+    → StepOut loaded nest trace b rest (opens c b) (place (opening loaded ++ rest)).stack
+opens_out loaded nest trace c b rest s i e o inside none done =
     let w : Note = note.Window (tick_at b.time) (mode_number c.control.mode) in
     record {
-      said = said_push nest trace b.time rest w i.said refl (window_opens trace c b.time rest s e o i.control) inside;
-      control = rw (reverse-push (opening ++ rest) w) (other_stands w c.control (reverse (opening ++ rest)) refl refl i.control);
-      signal = one_tied trace (opens c b).core (accessed b (opens c b).access) rest w (opens_tied trace c b (place (opening ++ rest)) i.edges none done);
+      said = said_push loaded nest trace b.time rest w i.said refl (window_opens loaded trace c b.time rest s e o i.control) inside;
+      control = rw (reverse-push (opening loaded ++ rest) w) (other_stands w c.control (reverse (opening loaded ++ rest)) refl refl i.control);
+      signal = one_tied loaded trace (opens c b).core (accessed b (opens c b).access) rest w (opens_tied trace c b (place (opening loaded ++ rest)) i.edges none done);
       window = record { past = λ k d l. absurd (omega arith); order = λ x y le l. absurd (omega arith); few = omega arith };
-      tick = subst (λ (p : Place). TickTied c.tick_at b.number_read b.time p.ticks) (sym (place-push (opening ++ rest) w)) i.tick;
+      tick = subst (λ (p : Place). TickTied c.tick_at b.number_read b.time p.ticks) (sym (place-push (opening loaded ++ rest) w)) i.tick;
       number = i.number;
       read = i.read;
-      stack_is = ap (λ (p : Place). p.stack) (place-push (opening ++ rest) w);
+      stack_is = ap (λ (p : Place). p.stack) (place-push (opening loaded ++ rest) w);
     }
 
 -- ---- the verdict
 
-answered : (trace : List Event) (rest : List Note) (w m t : ℕ) (n : Note) → (place (opening ++ rest)).signal ≡ Listens w m → Answers trace w m (place (opening ++ rest)).cap_entered t n
-    → AnswersAt trace (place (opening ++ rest)).signal (place (opening ++ rest)).cap_entered t n
-answered trace rest w m t n e a = rw e a
+answered : (loaded : Loaded) (trace : List Event) (rest : List Note) (w m t : ℕ) (n : Note) → (place (opening loaded ++ rest)).signal ≡ Listens w m → Answers loaded trace w m (place (opening loaded ++ rest)).cap_entered t n
+    → AnswersAt loaded trace (place (opening loaded ++ rest)).signal (place (opening loaded ++ rest)).cap_entered t n
+answered loaded trace rest w m t n e a = rw e a
 
-verdict_rule : (j : Judgement) (trace : List Event) (rest : List Note) (w m t : ℕ) → (place (opening ++ rest)).signal ≡ Listens w m → Answers trace w m (place (opening ++ rest)).cap_entered t (verdict_note t j)
-    → WindowRule trace (opening ++ rest) (verdict_note t j)
-verdict_rule (Good frame) trace rest w m t e a = answered trace rest w m t _ e a
-verdict_rule (Bad why) trace rest w m t e a = answered trace rest w m t _ e a
-verdict_rule (Found mode) trace rest w m t e a = answered trace rest w m t _ e a
-verdict_rule Nothing trace rest w m t e a = answered trace rest w m t _ e a
+verdict_rule : (loaded : Loaded) (j : Judgement) (trace : List Event) (rest : List Note) (w m t : ℕ) → (place (opening loaded ++ rest)).signal ≡ Listens w m → Answers loaded trace w m (place (opening loaded ++ rest)).cap_entered t (verdict_note t j)
+    → WindowRule loaded trace (opening loaded ++ rest) (verdict_note t j)
+verdict_rule loaded (Good frame) trace rest w m t e a = answered loaded trace rest w m t _ e a
+verdict_rule loaded (Bad why) trace rest w m t e a = answered loaded trace rest w m t _ e a
+verdict_rule loaded (Found mode) trace rest w m t e a = answered loaded trace rest w m t _ e a
+verdict_rule loaded Nothing trace rest w m t e a = answered loaded trace rest w m t _ e a
 
-answers_is : (trace : List Event) (c : Brain) (b : Bank) (p : Place) (w m : ℕ) → IsClosing (cap_view trace c b p) w m → c.burst ≡ b.window.edges
-    → Answers trace w m p.cap_entered b.time (verdict_note b.time (judged c.window c.burst))
-answers_is trace c b p w m i e = record {
+answers_is : (loaded : Loaded) (trace : List Event) (c : Brain) (b : Bank) (p : Place) (w m : ℕ) → IsClosing (cap_view trace c b p) w m → c.burst ≡ b.window.edges
+    → Answers loaded trace w m p.cap_entered b.time (verdict_note b.time (judged c.window c.burst))
+answers_is loaded trace c b p w m i e = record {
   closed_at = i.closed_at;
   closes = i.closes;
   waits = i.waits;
@@ -194,55 +195,55 @@ answers_is trace c b p w m i e = record {
 }
 
 -- the notes and control of each judgement
-pub record JudgeOut (nest : Nest) (trace : List Event) (t : ℕ) (rest : List Note) (s : Stepped) (stack : List Kind) : Type 0 where
-  pub said : Said nest trace t (rest ++ s.notes)
-  pub control : Stands s.core.control (reverse (opening ++ (rest ++ s.notes)))
-  pub stack_is : (place (opening ++ (rest ++ s.notes))).stack ≡ stack
+pub record JudgeOut (loaded : Loaded) (nest : Nest) (trace : List Event) (t : ℕ) (rest : List Note) (s : Stepped) (stack : List Kind) : Type 0 where
+  pub said : Said loaded nest trace t (rest ++ s.notes)
+  pub control : Stands s.core.control (reverse (opening loaded ++ (rest ++ s.notes)))
+  pub stack_is : (place (opening loaded ++ (rest ++ s.notes))).stack ≡ stack
 
-one_judged : (nest : Nest) (trace : List Event) (t : ℕ) (rest : List Note) (core : Brain) (n : Note) → Said nest trace t rest → time_of n ≡ t → WindowRule trace (opening ++ rest) n → NestRule nest (opening ++ rest) n
-    → Stands core.control (n ∷ reverse (opening ++ rest)) → (next (place (opening ++ rest)) n).stack ≡ (place (opening ++ rest)).stack
-    → JudgeOut nest trace t rest (record { core = core; access = NoAccess; notes = n ∷ []; over = false }) (place (opening ++ rest)).stack
-one_judged nest trace t rest core n said at w r st same = record {
-  said = said_push nest trace t rest n said at w r;
-  control = rw (reverse-push (opening ++ rest) n) st;
-  stack_is = ap (λ (p : Place). p.stack) (place-push (opening ++ rest) n) ∙ same;
+one_judged : (loaded : Loaded) (nest : Nest) (trace : List Event) (t : ℕ) (rest : List Note) (core : Brain) (n : Note) → Said loaded nest trace t rest → time_of n ≡ t → WindowRule loaded trace (opening loaded ++ rest) n → NestRule nest (opening loaded ++ rest) n
+    → Stands core.control (n ∷ reverse (opening loaded ++ rest)) → (next (place (opening loaded ++ rest)) n).stack ≡ (place (opening loaded ++ rest)).stack
+    → JudgeOut loaded nest trace t rest (record { core = core; access = NoAccess; notes = n ∷ []; over = false }) (place (opening loaded ++ rest)).stack
+one_judged loaded nest trace t rest core n said at w r st same = record {
+  said = said_push loaded nest trace t rest n said at w r;
+  control = rw (reverse-push (opening loaded ++ rest) n) st;
+  stack_is = ap (λ (p : Place). p.stack) (place-push (opening loaded ++ rest) n) ∙ same;
 }
 
-good_judged : (o : Option Act) (nest : Nest) (trace : List Event) (c : Brain) (b : Bank) (rest : List Note) (frame : Frame) → Said nest trace b.time rest
-    → WindowRule trace (opening ++ rest) (verdict_note b.time (Good frame)) → IsIn kind.Cap (place (opening ++ rest))
-    → Stands (after_frame c.control frame.value) (with_frame (tick_at b.time) frame.value (bit_of frame.telemetry) o (reverse (opening ++ rest)))
-    → JudgeOut nest trace b.time rest (record { core = record c { cap_at = cap.Open; control = after_frame c.control frame.value }; access = NoAccess; notes = note.Good (tick_at b.time) frame.value (bit_of frame.telemetry) ∷ command_note b.time o; over = false }) (place (opening ++ rest)).stack
-good_judged None nest trace c b rest frame said w inside st =
-    one_judged nest trace b.time rest (record c { cap_at = cap.Open; control = after_frame c.control frame.value }) (note.Good (tick_at b.time) frame.value (bit_of frame.telemetry)) said refl w inside st refl
-good_judged (Some act) nest trace c b rest frame said w inside st =
+good_judged : (loaded : Loaded) (o : Option Act) (nest : Nest) (trace : List Event) (c : Brain) (b : Bank) (rest : List Note) (frame : Frame) → Said loaded nest trace b.time rest
+    → WindowRule loaded trace (opening loaded ++ rest) (verdict_note b.time (Good frame)) → IsIn kind.Cap (place (opening loaded ++ rest))
+    → Stands (after_frame c.control frame.value) (with_frame (tick_at b.time) frame.value (bit_of frame.telemetry) o (reverse (opening loaded ++ rest)))
+    → JudgeOut loaded nest trace b.time rest (record { core = record c { cap_at = cap.Open; control = after_frame c.control frame.value }; access = NoAccess; notes = note.Good (tick_at b.time) frame.value (bit_of frame.telemetry) ∷ command_note b.time o; over = false }) (place (opening loaded ++ rest)).stack
+good_judged loaded None nest trace c b rest frame said w inside st =
+    one_judged loaded nest trace b.time rest (record c { cap_at = cap.Open; control = after_frame c.control frame.value }) (note.Good (tick_at b.time) frame.value (bit_of frame.telemetry)) said refl w inside st refl
+good_judged loaded (Some act) nest trace c b rest frame said w inside st =
     let good : Note = note.Good (tick_at b.time) frame.value (bit_of frame.telemetry) in
     let command : Note = note.Command (tick_at b.time) (number_of act) in
     let both : rest ++ good ∷ command ∷ [] ≡ (rest ++ good ∷ []) ++ command ∷ [] = sym (append_assoc rest (good ∷ []) (command ∷ [])) in
-    let first = said_push nest trace b.time rest good said refl w inside in
-    let still : IsIn kind.Cap (place (opening ++ (rest ++ good ∷ []))) = subst (λ (p : Place). IsIn kind.Cap p) (sym (place-push (opening ++ rest) good)) inside in
+    let first = said_push loaded nest trace b.time rest good said refl w inside in
+    let still : IsIn kind.Cap (place (opening loaded ++ (rest ++ good ∷ []))) = subst (λ (p : Place). IsIn kind.Cap p) (sym (place-push (opening loaded ++ rest) good)) inside in
     record {
-      said = subst (λ (r : List Note). Said nest trace b.time r) (sym both) (said_push nest trace b.time (rest ++ good ∷ []) command first refl tt still);
-      control = subst (λ (r : List Note). Stands (after_frame c.control frame.value) (reverse (opening ++ r))) (sym both)
-          (rw (reverse-push (opening ++ (rest ++ good ∷ [])) command, reverse-push (opening ++ rest) good) st);
-      stack_is = subst (λ (r : List Note). (place (opening ++ r)).stack ≡ (place (opening ++ rest)).stack) (sym both)
-          (ap (λ (p : Place). p.stack) (place-push (opening ++ (rest ++ good ∷ [])) command) ∙ ap (λ (p : Place). p.stack) (place-push (opening ++ rest) good));
+      said = subst (λ (r : List Note). Said loaded nest trace b.time r) (sym both) (said_push loaded nest trace b.time (rest ++ good ∷ []) command first refl tt still);
+      control = subst (λ (r : List Note). Stands (after_frame c.control frame.value) (reverse (opening loaded ++ r))) (sym both)
+          (rw (reverse-push (opening loaded ++ (rest ++ good ∷ [])) command, reverse-push (opening loaded ++ rest) good) st);
+      stack_is = subst (λ (r : List Note). (place (opening loaded ++ r)).stack ≡ (place (opening loaded ++ rest)).stack) (sym both)
+          (ap (λ (p : Place). p.stack) (place-push (opening loaded ++ (rest ++ good ∷ [])) command) ∙ ap (λ (p : Place). p.stack) (place-push (opening loaded ++ rest) good));
     }
 
-judge_judged : (j : Judgement) (nest : Nest) (trace : List Event) (c : Brain) (b : Bank) (rest : List Note) → Said nest trace b.time rest → Stands c.control (reverse (opening ++ rest))
-    → WindowRule trace (opening ++ rest) (verdict_note b.time j) → IsIn kind.Cap (place (opening ++ rest))
-    → JudgeOut nest trace b.time rest (judge_step j c b) (place (opening ++ rest)).stack
-judge_judged (Good frame) nest trace c b rest said st w inside =
-    good_judged (acting (after_frame c.control frame.value).run.frames frame.value) nest trace c b rest frame said w inside
-    (frame_stands c.control (reverse (opening ++ rest)) (tick_at b.time) frame.value (bit_of frame.telemetry) st)
-judge_judged (Bad why) nest trace c b rest said st w inside =
-    one_judged nest trace b.time rest (record c { cap_at = cap.Pause (b.time + 600) }) (note.Bad (tick_at b.time) (why_number why)) said refl w inside
-    (other_stands (note.Bad (tick_at b.time) (why_number why)) c.control (reverse (opening ++ rest)) refl refl st) refl
-judge_judged (Found mode) nest trace c b rest said st w inside =
-    one_judged nest trace b.time rest (record c { cap_at = cap.Open; control = after_found c.control mode }) (note.Detected (tick_at b.time) (mode_number mode)) said refl w inside
-    (found_stands c.control (reverse (opening ++ rest)) (tick_at b.time) mode st) refl
-judge_judged Nothing nest trace c b rest said st w inside =
-    one_judged nest trace b.time rest (record c { cap_at = cap.Pause (b.time + 600) }) (note.Nothing (tick_at b.time)) said refl w inside
-    (other_stands (note.Nothing (tick_at b.time)) c.control (reverse (opening ++ rest)) refl refl st) refl
+judge_judged : (loaded : Loaded) (j : Judgement) (nest : Nest) (trace : List Event) (c : Brain) (b : Bank) (rest : List Note) → Said loaded nest trace b.time rest → Stands c.control (reverse (opening loaded ++ rest))
+    → WindowRule loaded trace (opening loaded ++ rest) (verdict_note b.time j) → IsIn kind.Cap (place (opening loaded ++ rest))
+    → JudgeOut loaded nest trace b.time rest (judge_step j c b) (place (opening loaded ++ rest)).stack
+judge_judged loaded (Good frame) nest trace c b rest said st w inside =
+    good_judged loaded (acting (after_frame c.control frame.value).run.frames frame.value) nest trace c b rest frame said w inside
+    (frame_stands c.control (reverse (opening loaded ++ rest)) (tick_at b.time) frame.value (bit_of frame.telemetry) st)
+judge_judged loaded (Bad why) nest trace c b rest said st w inside =
+    one_judged loaded nest trace b.time rest (record c { cap_at = cap.Pause (b.time + 600) }) (note.Bad (tick_at b.time) (why_number why)) said refl w inside
+    (other_stands (note.Bad (tick_at b.time) (why_number why)) c.control (reverse (opening loaded ++ rest)) refl refl st) refl
+judge_judged loaded (Found mode) nest trace c b rest said st w inside =
+    one_judged loaded nest trace b.time rest (record c { cap_at = cap.Open; control = after_found c.control mode }) (note.Detected (tick_at b.time) (mode_number mode)) said refl w inside
+    (found_stands c.control (reverse (opening loaded ++ rest)) (tick_at b.time) mode st) refl
+judge_judged loaded Nothing nest trace c b rest said st w inside =
+    one_judged loaded nest trace b.time rest (record c { cap_at = cap.Pause (b.time + 600) }) (note.Nothing (tick_at b.time)) said refl w inside
+    (other_stands (note.Nothing (tick_at b.time)) c.control (reverse (opening loaded ++ rest)) refl refl st) refl
 
 -- no judgement touches TICK, and its notes are no K
 abbrev SameTick : Brain → Place → Stepped → Type 0
@@ -264,17 +265,17 @@ judge_access (Bad why) c b = refl
 judge_access (Found mode) c b = refl
 judge_access Nothing c b = refl
 
-judge_out : (nest : Nest) (trace : List Event) (c : Brain) (b : Bank) (rest : List Note) (w m : ℕ) → OwnIn nest trace c b rest → (place (opening ++ rest)).signal ≡ Listens w m
-    → IsClosing (cap_view trace c b (place (opening ++ rest))) w m → c.burst ≡ b.window.edges → IsIn kind.Cap (place (opening ++ rest))
-    → StepOut nest trace b rest (judge_step (judged c.window c.burst) c b) (place (opening ++ rest)).stack
-judge_out nest trace c b rest w m i e k copied inside =
-    let p : Place = place (opening ++ rest) in
+judge_out : (loaded : Loaded) (nest : Nest) (trace : List Event) (c : Brain) (b : Bank) (rest : List Note) (w m : ℕ) → OwnIn loaded nest trace c b rest → (place (opening loaded ++ rest)).signal ≡ Listens w m
+    → IsClosing (cap_view trace c b (place (opening loaded ++ rest))) w m → c.burst ≡ b.window.edges → IsIn kind.Cap (place (opening loaded ++ rest))
+    → StepOut loaded nest trace b rest (judge_step (judged c.window c.burst) c b) (place (opening loaded ++ rest)).stack
+judge_out loaded nest trace c b rest w m i e k copied inside =
+    let p : Place = place (opening loaded ++ rest) in
     let j : Judgement = judged c.window c.burst in
     let s : Stepped = judge_step j c b in
-    let rule = verdict_rule j trace rest w m b.time e (answers_is trace c b p w m k copied) in
-    let o = judge_judged j nest trace c b rest i.said i.control rule inside in
+    let rule = verdict_rule loaded j trace rest w m b.time e (answers_is loaded trace c b p w m k copied) in
+    let o = judge_judged loaded j nest trace c b rest i.said i.control rule inside in
     let t = judge_tick j c b p in
-    let at : place (opening ++ (rest ++ s.notes)) ≡ fold next p s.notes = place-append (opening ++ rest) s.notes in
+    let at : place (opening loaded ++ (rest ++ s.notes)) ≡ fold next p s.notes = place-append (opening loaded ++ rest) s.notes in
     let bank : accessed b s.access ≡ b = ap (λ (a : Access). accessed b a) (judge_access j c b) in
     record {
       said = o.said;
@@ -293,49 +294,49 @@ pick_else : (P : Stepped → Type 0) (v : Bool) (x y : Stepped) → v ≡ false 
 pick_else P true x y e h = cc
 pick_else P false x y e h = h
 
-cap_listens : (nest : Nest) (trace : List Event) (c : Brain) (b : Bank) (rest : List Note) (w m : ℕ) (at : CapAt) → at ≢ cap.Back → at ≢ cap.Shut → OwnIn nest trace c b rest
-    → (place (opening ++ rest)).signal ≡ Listens w m → SignalTied (Listens w m) at (cap_view trace c b (place (opening ++ rest))) → IsIn kind.Cap (place (opening ++ rest))
-    → StepOut nest trace b rest (cap_step at c b) (place (opening ++ rest)).stack
-cap_listens nest trace c b rest w m cap.Shut nb ns i e k inside = absurd (ns refl)
-cap_listens nest trace c b rest w m cap.Start nb ns i e k inside =
-    pick_else (λ (s : Stepped). StepOut nest trace b rest s (place (opening ++ rest)).stack) c.paused (opens c b) (goes_on (record c { burst = []; cap_at = after_edges (read_value b reg.CapState) }) (Reads reg.CapState))
-    k.hears.running (start_out nest trace c b rest w m i e k)
-cap_listens nest trace c b rest w m (cap.Copy left) nb ns i e k inside = copy_out nest trace c b rest w m left i e k
-cap_listens nest trace c b rest w m cap.Judge nb ns i e k inside = judge_out nest trace c b rest w m i e k.0 k.1 inside
-cap_listens nest trace c b rest w m cap.Open nb ns i e k inside = absurd k
-cap_listens nest trace c b rest w m (cap.Pause at) nb ns i e k inside = absurd k
-cap_listens nest trace c b rest w m cap.Back nb ns i e k inside = absurd (nb refl)
+cap_listens : (loaded : Loaded) (nest : Nest) (trace : List Event) (c : Brain) (b : Bank) (rest : List Note) (w m : ℕ) (at : CapAt) → at ≢ cap.Back → at ≢ cap.Shut → OwnIn loaded nest trace c b rest
+    → (place (opening loaded ++ rest)).signal ≡ Listens w m → SignalTied (Listens w m) at (cap_view trace c b (place (opening loaded ++ rest))) → IsIn kind.Cap (place (opening loaded ++ rest))
+    → StepOut loaded nest trace b rest (cap_step at c b) (place (opening loaded ++ rest)).stack
+cap_listens loaded nest trace c b rest w m cap.Shut nb ns i e k inside = absurd (ns refl)
+cap_listens loaded nest trace c b rest w m cap.Start nb ns i e k inside =
+    pick_else (λ (s : Stepped). StepOut loaded nest trace b rest s (place (opening loaded ++ rest)).stack) c.paused (opens c b) (goes_on (record c { burst = []; cap_at = after_edges (read_value b reg.CapState) }) (Reads reg.CapState))
+    k.hears.running (start_out loaded nest trace c b rest w m i e k)
+cap_listens loaded nest trace c b rest w m (cap.Copy left) nb ns i e k inside = copy_out loaded nest trace c b rest w m left i e k
+cap_listens loaded nest trace c b rest w m cap.Judge nb ns i e k inside = judge_out loaded nest trace c b rest w m i e k.0 k.1 inside
+cap_listens loaded nest trace c b rest w m cap.Open nb ns i e k inside = absurd k
+cap_listens loaded nest trace c b rest w m (cap.Pause at) nb ns i e k inside = absurd k
+cap_listens loaded nest trace c b rest w m cap.Back nb ns i e k inside = absurd (nb refl)
 
-cap_judged : (nest : Nest) (trace : List Event) (c : Brain) (b : Bank) (rest : List Note) (f : ℕ) (opens_next : Bool) (at : CapAt) → at ≢ cap.Back → OwnIn nest trace c b rest
-    → (place (opening ++ rest)).signal ≡ Judged f opens_next → SignalTied (Judged f opens_next) at (cap_view trace c b (place (opening ++ rest))) → IsIn kind.Cap (place (opening ++ rest))
-    → StepOut nest trace b rest (cap_step at c b) (place (opening ++ rest)).stack
-cap_judged nest trace c b rest f opens_next cap.Shut nb i e k inside = absurd k
-cap_judged nest trace c b rest f opens_next cap.Start nb i e k inside = absurd k
-cap_judged nest trace c b rest f opens_next (cap.Copy left) nb i e k inside = absurd k
-cap_judged nest trace c b rest f opens_next cap.Judge nb i e k inside = absurd k
-cap_judged nest trace c b rest f opens_next cap.Open nb i e k inside = opens_out nest trace c b rest (Judged f opens_next) i e k.1 inside k.0.no_timer (inl k.0.verdict)
-cap_judged nest trace c b rest f opens_next (cap.Pause at) nb i e k inside = pause_out nest trace c b rest f at opens_next i e k.0 k.1.0 k.1.1
-cap_judged nest trace c b rest f opens_next cap.Back nb i e k inside = absurd (nb refl)
+cap_judged : (loaded : Loaded) (nest : Nest) (trace : List Event) (c : Brain) (b : Bank) (rest : List Note) (f : ℕ) (opens_next : Bool) (at : CapAt) → at ≢ cap.Back → OwnIn loaded nest trace c b rest
+    → (place (opening loaded ++ rest)).signal ≡ Judged f opens_next → SignalTied (Judged f opens_next) at (cap_view trace c b (place (opening loaded ++ rest))) → IsIn kind.Cap (place (opening loaded ++ rest))
+    → StepOut loaded nest trace b rest (cap_step at c b) (place (opening loaded ++ rest)).stack
+cap_judged loaded nest trace c b rest f opens_next cap.Shut nb i e k inside = absurd k
+cap_judged loaded nest trace c b rest f opens_next cap.Start nb i e k inside = absurd k
+cap_judged loaded nest trace c b rest f opens_next (cap.Copy left) nb i e k inside = absurd k
+cap_judged loaded nest trace c b rest f opens_next cap.Judge nb i e k inside = absurd k
+cap_judged loaded nest trace c b rest f opens_next cap.Open nb i e k inside = opens_out loaded nest trace c b rest (Judged f opens_next) i e k.1 inside k.0.no_timer (inl k.0.verdict)
+cap_judged loaded nest trace c b rest f opens_next (cap.Pause at) nb i e k inside = pause_out loaded nest trace c b rest f at opens_next i e k.0 k.1.0 k.1.1
+cap_judged loaded nest trace c b rest f opens_next cap.Back nb i e k inside = absurd (nb refl)
 
-cap_rests : (nest : Nest) (trace : List Event) (c : Brain) (b : Bank) (rest : List Note) (f r : ℕ) (at : CapAt) → at ≢ cap.Shut → OwnIn nest trace c b rest
-    → (place (opening ++ rest)).signal ≡ Rests f r → SignalTied (Rests f r) at (cap_view trace c b (place (opening ++ rest))) → IsIn kind.Cap (place (opening ++ rest))
-    → StepOut nest trace b rest (cap_step at c b) (place (opening ++ rest)).stack
-cap_rests nest trace c b rest f r cap.Shut ns i e k inside = absurd (ns refl)
-cap_rests nest trace c b rest f r cap.Start ns i e k inside = rw k.paused (opens_out nest trace c b rest (Rests f r) i e k.reached inside k.no_timer (inr (k.no_verdict, k.no_window)))
-cap_rests nest trace c b rest f r (cap.Copy left) ns i e k inside = absurd k
-cap_rests nest trace c b rest f r cap.Judge ns i e k inside = absurd k
-cap_rests nest trace c b rest f r cap.Open ns i e k inside = absurd k
-cap_rests nest trace c b rest f r (cap.Pause at) ns i e k inside = absurd k
-cap_rests nest trace c b rest f r cap.Back ns i e k inside = absurd k
+cap_rests : (loaded : Loaded) (nest : Nest) (trace : List Event) (c : Brain) (b : Bank) (rest : List Note) (f r : ℕ) (at : CapAt) → at ≢ cap.Shut → OwnIn loaded nest trace c b rest
+    → (place (opening loaded ++ rest)).signal ≡ Rests f r → SignalTied (Rests f r) at (cap_view trace c b (place (opening loaded ++ rest))) → IsIn kind.Cap (place (opening loaded ++ rest))
+    → StepOut loaded nest trace b rest (cap_step at c b) (place (opening loaded ++ rest)).stack
+cap_rests loaded nest trace c b rest f r cap.Shut ns i e k inside = absurd (ns refl)
+cap_rests loaded nest trace c b rest f r cap.Start ns i e k inside = rw k.paused (opens_out loaded nest trace c b rest (Rests f r) i e k.reached inside k.no_timer (inr (k.no_verdict, k.no_window)))
+cap_rests loaded nest trace c b rest f r (cap.Copy left) ns i e k inside = absurd k
+cap_rests loaded nest trace c b rest f r cap.Judge ns i e k inside = absurd k
+cap_rests loaded nest trace c b rest f r cap.Open ns i e k inside = absurd k
+cap_rests loaded nest trace c b rest f r (cap.Pause at) ns i e k inside = absurd k
+cap_rests loaded nest trace c b rest f r cap.Back ns i e k inside = absurd k
 
-cap_by : (s : Signal) (nest : Nest) (trace : List Event) (c : Brain) (b : Bank) (rest : List Note) → c.cap_at ≢ cap.Back → c.cap_at ≢ cap.Shut → OwnIn nest trace c b rest
-    → (place (opening ++ rest)).signal ≡ s → SignalTied s c.cap_at (cap_view trace c b (place (opening ++ rest))) → IsIn kind.Cap (place (opening ++ rest))
-    → StepOut nest trace b rest (cap_step c.cap_at c b) (place (opening ++ rest)).stack
-cap_by Silent nest trace c b rest nb ns i e k inside = absurd k
-cap_by (Listens w m) nest trace c b rest nb ns i e k inside = cap_listens nest trace c b rest w m c.cap_at nb ns i e k inside
-cap_by (Judged f opens_next) nest trace c b rest nb ns i e k inside = cap_judged nest trace c b rest f opens_next c.cap_at nb i e k inside
-cap_by (Rests f r) nest trace c b rest nb ns i e k inside = cap_rests nest trace c b rest f r c.cap_at ns i e k inside
+cap_by : (loaded : Loaded) (s : Signal) (nest : Nest) (trace : List Event) (c : Brain) (b : Bank) (rest : List Note) → c.cap_at ≢ cap.Back → c.cap_at ≢ cap.Shut → OwnIn loaded nest trace c b rest
+    → (place (opening loaded ++ rest)).signal ≡ s → SignalTied s c.cap_at (cap_view trace c b (place (opening loaded ++ rest))) → IsIn kind.Cap (place (opening loaded ++ rest))
+    → StepOut loaded nest trace b rest (cap_step c.cap_at c b) (place (opening loaded ++ rest)).stack
+cap_by loaded Silent nest trace c b rest nb ns i e k inside = absurd k
+cap_by loaded (Listens w m) nest trace c b rest nb ns i e k inside = cap_listens loaded nest trace c b rest w m c.cap_at nb ns i e k inside
+cap_by loaded (Judged f opens_next) nest trace c b rest nb ns i e k inside = cap_judged loaded nest trace c b rest f opens_next c.cap_at nb i e k inside
+cap_by loaded (Rests f r) nest trace c b rest nb ns i e k inside = cap_rests loaded nest trace c b rest f r c.cap_at ns i e k inside
 
-pub cap_out : (nest : Nest) (trace : List Event) (c : Brain) (b : Bank) (rest : List Note) → c.cap_at ≢ cap.Back → c.cap_at ≢ cap.Shut → OwnIn nest trace c b rest → IsIn kind.Cap (place (opening ++ rest))
-    → StepOut nest trace b rest (cap_step c.cap_at c b) (place (opening ++ rest)).stack
-cap_out nest trace c b rest nb ns i inside = cap_by (place (opening ++ rest)).signal nest trace c b rest nb ns i refl i.signal inside
+pub cap_out : (loaded : Loaded) (nest : Nest) (trace : List Event) (c : Brain) (b : Bank) (rest : List Note) → c.cap_at ≢ cap.Back → c.cap_at ≢ cap.Shut → OwnIn loaded nest trace c b rest → IsIn kind.Cap (place (opening loaded ++ rest))
+    → StepOut loaded nest trace b rest (cap_step c.cap_at c b) (place (opening loaded ++ rest)).stack
+cap_out loaded nest trace c b rest nb ns i inside = cap_by loaded (place (opening loaded ++ rest)).signal nest trace c b rest nb ns i refl i.signal inside

@@ -10,6 +10,7 @@ use Rattle.esc_base.specs.declared.note.Note.{Note}
 use Rattle.esc_base.specs.declared.note.Note.TheVariants as note
 use Rattle.esc_base.specs.Journal.{time_of}
 use Rattle.esc_base.specs.Numbers.{kind_number, mode_number, why_number}
+use Rattle.settings_block.specs.declared.stored.Loaded.{Loaded}
 use Rattle.timer_regs.specs.Bank.{Bank}
 use Rattle.timer_regs.specs.Effects.{read_value}
 use Rattle.timer_regs.specs.declared.regs.Reg.TheVariants as reg
@@ -192,10 +193,10 @@ abbrev pub open_left : Kind → List Kind → Stepped → List Kind
 open_left k outer s = if s.over then outer else k ∷ outer
 
 -- after a step that goes on
-pub goes_out : (nest : Nest) (trace : List Event) (b : Bank) (rest : List Note) (s : Stepped) (k : Kind) (outer : List Kind) → s.over ≡ false → StepOut nest trace b rest s (k ∷ outer)
-    → OwnOut nest trace s.core b (accessed b s.access) (rest ++ step_notes b.time k s) (open_left k outer s)
-goes_out nest trace b rest s k outer e o =
-    rw e (subst (λ (ns : List Note). OwnOut nest trace s.core b (accessed b s.access) (rest ++ ns) (k ∷ outer)) (sym (append-nil s.notes)) o)
+pub goes_out : (loaded : Loaded) (nest : Nest) (trace : List Event) (b : Bank) (rest : List Note) (s : Stepped) (k : Kind) (outer : List Kind) → s.over ≡ false → StepOut loaded nest trace b rest s (k ∷ outer)
+    → OwnOut loaded nest trace s.core b (accessed b s.access) (rest ++ step_notes b.time k s) (open_left k outer s)
+goes_out loaded nest trace b rest s k outer e o =
+    rw e (subst (λ (ns : List Note). OwnOut loaded nest trace s.core b (accessed b s.access) (rest ++ ns) (k ∷ outer)) (sym (append-nil s.notes)) o)
 
 popped : (stack : List Kind) (k : Kind) (outer : List Kind) → stack ≡ k ∷ outer → outer_ones stack ≡ outer
 popped stack k outer e = rw e refl
@@ -203,16 +204,16 @@ popped stack k outer e = rw e refl
 in_stack : (k : Kind) (outer stack : List Kind) → stack ≡ k ∷ outer → innermost stack ≡ Some k
 in_stack k outer stack e = rw e refl
 
-pub cap_back : (nest : Nest) (trace : List Event) (c : Brain) (b : Bank) (rest : List Note) (outer : List Kind) → OwnIn nest trace c b rest → (place (opening ++ rest)).stack ≡ kind.Cap ∷ outer
-    → SignalTied (place (opening ++ rest)).signal cap.Back (cap_view trace c b (place (opening ++ rest)))
-    → OwnOut nest trace (record c { cap_at = cap.Shut }) b b (rest ++ note.Leave (tick_at b.time) 3 ∷ []) outer
-cap_back nest trace c b rest outer i same tied =
-    let p : Place = place (opening ++ rest) in
+pub cap_back : (loaded : Loaded) (nest : Nest) (trace : List Event) (c : Brain) (b : Bank) (rest : List Note) (outer : List Kind) → OwnIn loaded nest trace c b rest → (place (opening loaded ++ rest)).stack ≡ kind.Cap ∷ outer
+    → SignalTied (place (opening loaded ++ rest)).signal cap.Back (cap_view trace c b (place (opening loaded ++ rest)))
+    → OwnOut loaded nest trace (record c { cap_at = cap.Shut }) b b (rest ++ note.Leave (tick_at b.time) 3 ∷ []) outer
+cap_back loaded nest trace c b rest outer i same tied =
+    let p : Place = place (opening loaded ++ rest) in
     let n : Note = note.Leave (tick_at b.time) 3 in
-    let at : place (opening ++ (rest ++ n ∷ [])) ≡ next p n = place-push (opening ++ rest) n in
+    let at : place (opening loaded ++ (rest ++ n ∷ [])) ≡ next p n = place-push (opening loaded ++ rest) n in
     record {
-      said = said_push nest trace b.time rest n i.said refl (λ e. back_may trace c b p p.signal tied) (in_stack kind.Cap outer p.stack same, back_done trace c b p p.signal tied);
-      control = rw (reverse-push (opening ++ rest) n) (other_stands n c.control (reverse (opening ++ rest)) refl refl i.control);
+      said = said_push loaded nest trace b.time rest n i.said refl (λ e. back_may trace c b p p.signal tied) (in_stack kind.Cap outer p.stack same, back_done trace c b p p.signal tied);
+      control = rw (reverse-push (opening loaded ++ rest) n) (other_stands n c.control (reverse (opening loaded ++ rest)) refl refl i.control);
       signal = subst (λ (q : Place). SignalTied q.signal cap.Shut (cap_view trace (record c { cap_at = cap.Shut }) b q)) (sym at) (back_tied trace c b p p.signal b.time refl tied);
       window = i.window;
       tick = subst (λ (q : Place). TickTied c.tick_at b.number_read b.time q.ticks) (sym at) i.tick;
@@ -221,16 +222,16 @@ cap_back nest trace c b rest outer i same tied =
       stack_is = ap (λ (q : Place). q.stack) at ∙ popped p.stack kind.Cap outer same;
     }
 
-pub tick_back : (nest : Nest) (trace : List Event) (c : Brain) (b : Bank) (rest : List Note) (outer : List Kind) → OwnIn nest trace c b rest → (place (opening ++ rest)).stack ≡ kind.Tick ∷ outer
-    → (place (opening ++ rest)).ticks ≡ 1
-    → OwnOut nest trace (record c { tick_at = tick.Shut }) b b (rest ++ note.Leave (tick_at b.time) 2 ∷ []) outer
-tick_back nest trace c b rest outer i same one =
-    let p : Place = place (opening ++ rest) in
+pub tick_back : (loaded : Loaded) (nest : Nest) (trace : List Event) (c : Brain) (b : Bank) (rest : List Note) (outer : List Kind) → OwnIn loaded nest trace c b rest → (place (opening loaded ++ rest)).stack ≡ kind.Tick ∷ outer
+    → (place (opening loaded ++ rest)).ticks ≡ 1
+    → OwnOut loaded nest trace (record c { tick_at = tick.Shut }) b b (rest ++ note.Leave (tick_at b.time) 2 ∷ []) outer
+tick_back loaded nest trace c b rest outer i same one =
+    let p : Place = place (opening loaded ++ rest) in
     let n : Note = note.Leave (tick_at b.time) 2 in
-    let at : place (opening ++ (rest ++ n ∷ [])) ≡ next p n = place-push (opening ++ rest) n in
+    let at : place (opening loaded ++ (rest ++ n ∷ [])) ≡ next p n = place-push (opening loaded ++ rest) n in
     record {
-      said = said_push nest trace b.time rest n i.said refl (λ e. cc) (in_stack kind.Tick outer p.stack same, one);
-      control = rw (reverse-push (opening ++ rest) n) (other_stands n c.control (reverse (opening ++ rest)) refl refl i.control);
+      said = said_push loaded nest trace b.time rest n i.said refl (λ e. cc) (in_stack kind.Tick outer p.stack same, one);
+      control = rw (reverse-push (opening loaded ++ rest) n) (other_stands n c.control (reverse (opening loaded ++ rest)) refl refl i.control);
       signal = subst (λ (q : Place). SignalTied q.signal c.cap_at (cap_view trace (record c { tick_at = tick.Shut }) b q)) (sym at) i.signal;
       window = i.window;
       tick = tt;

@@ -5,6 +5,7 @@ use Rattle.esc_base.specs.declared.kind.Kind.{Kind}
 use Rattle.esc_base.specs.declared.event.Event.{Event}
 use Rattle.esc_base.specs.declared.note.Note.{Note}
 use Rattle.esc_base.specs.Journal.{IsLater, Journal, time_of}
+use Rattle.settings_block.specs.declared.stored.Loaded.{Loaded}
 use Rattle.interrupt_machine.specs.declared.nest.Nest.{Nest}
 use Rattle.arming.proofs.InOrder.{each_push}
 use Rattle.esc_laws.specs.Place.{next, nowhere, place}
@@ -30,8 +31,8 @@ pub notes-push : (log : List Turned) (e : Turned) → notes_in (log ++ e ∷ [])
 notes-push [] e = append-nil e.notes
 notes-push (x ∷ log) e = ap (λ (ns : List Note). x.notes ++ ns) (notes-push log e) ∙ sym (append_assoc x.notes (notes_in log) e.notes)
 
-pub journal-push : (log : List Turned) (e : Turned) → journal (log ++ e ∷ []) ≡ journal log ++ e.notes
-journal-push log e = ap (λ (ns : List Note). opening ++ ns) (notes-push log e) ∙ sym (append_assoc opening (notes_in log) e.notes)
+pub journal-push : (loaded : Loaded) (log : List Turned) (e : Turned) → journal loaded (log ++ e ∷ []) ≡ journal loaded log ++ e.notes
+journal-push loaded log e = ap (λ (ns : List Note). opening loaded ++ ns) (notes-push log e) ∙ sym (append_assoc (opening loaded) (notes_in log) e.notes)
 
 pub after-push : (cost : ℕ) (trace : List Event) (log : List Turned) (e : Turned) → after cost trace (log ++ e ∷ []) ≡ next_step cost trace e.tick
 unfolding after
@@ -53,20 +54,20 @@ pub since-push : (k : Kind) (log : List Turned) (e : Turned) → steps_since k (
 unfolding steps_since
 since-push k log e = fold_push (since_next k) 0 log e
 
-called_from-push : (nest : Nest) (trace : List Event) (k : Kind) (before : List Turned) (n : ℕ) (log : List Turned) (e : Turned)
-    → called_from nest trace k before n (log ++ e ∷ []) ≡ called_next nest trace k (before ++ log) (called_from nest trace k before n log) e
-called_from-push nest trace k before n [] e = subst (λ (l : List Turned). called_next nest trace k before n e ≡ called_next nest trace k l n e) (sym (append-nil before)) refl
-called_from-push nest trace k before n (x ∷ log) e =
-    subst (λ (l : List Turned). called_from nest trace k before n ((x ∷ log) ++ e ∷ []) ≡ called_next nest trace k l (called_from nest trace k before n (x ∷ log)) e) (append_assoc before (x ∷ []) log)
-    (called_from-push nest trace k (before ++ x ∷ []) (called_next nest trace k before n x) log e)
+called_from-push : (loaded : Loaded) (nest : Nest) (trace : List Event) (k : Kind) (before : List Turned) (n : ℕ) (log : List Turned) (e : Turned)
+    → called_from loaded nest trace k before n (log ++ e ∷ []) ≡ called_next loaded nest trace k (before ++ log) (called_from loaded nest trace k before n log) e
+called_from-push loaded nest trace k before n [] e = subst (λ (l : List Turned). called_next loaded nest trace k before n e ≡ called_next loaded nest trace k l n e) (sym (append-nil before)) refl
+called_from-push loaded nest trace k before n (x ∷ log) e =
+    subst (λ (l : List Turned). called_from loaded nest trace k before n ((x ∷ log) ++ e ∷ []) ≡ called_next loaded nest trace k l (called_from loaded nest trace k before n (x ∷ log)) e) (append_assoc before (x ∷ []) log)
+    (called_from-push loaded nest trace k (before ++ x ∷ []) (called_next loaded nest trace k before n x) log e)
 
-pub called-push : (nest : Nest) (trace : List Event) (log : List Turned) (e : Turned) (k : Kind) → called nest trace (log ++ e ∷ []) k ≡ called_next nest trace k log (called nest trace log k) e
-unfolding called
-called-push nest trace log e k = called_from-push nest trace k [] 0 log e
+pub called-push : (loaded : Loaded) (nest : Nest) (trace : List Event) (log : List Turned) (e : Turned) (k : Kind) → called loaded nest trace (log ++ e ∷ []) k ≡ called_next loaded nest trace k log (called loaded nest trace log k) e
+unfolding called loaded
+called-push loaded nest trace log e k = called_from-push loaded nest trace k [] 0 log e
 
-pub called-none : (nest : Nest) (trace : List Event) (k : Kind) → called nest trace [] k ≡ 0
-unfolding called
-called-none nest trace k = refl
+pub called-none : (loaded : Loaded) (nest : Nest) (trace : List Event) (k : Kind) → called loaded nest trace [] k ≡ 0
+unfolding called loaded
+called-none loaded nest trace k = refl
 
 pub step-push : (P : List Turned → Turned → Type 0) (before log : List Turned) (e : Turned) → EachStep P before log → P (before ++ log) e → EachStep P before (log ++ e ∷ [])
 step-push P before [] e w h = (subst (λ (l : List Turned). P l e) (append-nil before) h, tt)

@@ -8,6 +8,7 @@ use Rattle.esc_base.specs.Journal.{Journal, time_of}
 use Rattle.esc_base.specs.Trace.{Line, line}
 use Rattle.edge_capture.proofs.Stable.{burst-nil}
 use Rattle.edge_capture.specs.Burst.{burst}
+use Rattle.settings_block.specs.declared.stored.Loaded.{Loaded}
 use Rattle.timer_regs.specs.Effects.{mode_of}
 use Rattle.interrupt_machine.specs.declared.nest.Nest.{Nest}
 use Rattle.interrupt_machine.specs.Response.{Patient}
@@ -24,9 +25,9 @@ use Rattle.esc_laws.specs.Tied.{Keeps}
 use Rattle.esc_laws.specs.Logged.{Marks, Ties, EndsBy, Logged, first_bank}
 use Rattle.esc_laws.proofs.Pushes.{after-none, free-none, called-none}
 
-place-opening : place opening ≡ record nowhere { signal = Listens 0 0; windows = 1; last = 0 }
+place-opening : (loaded : Loaded) → place (opening loaded) ≡ record nowhere { signal = Listens 0 0; windows = 1; last = 0 }
 unfolding place
-place-opening = refl
+place-(opening loaded) = refl
 
 place-up : place (note.Up (tick_at 0) 1 ∷ []) ≡ nowhere
 unfolding place
@@ -36,15 +37,15 @@ line-none : line [] ≡ record { level = false; edges = [] }
 unfolding line
 line-none = refl
 
-opening_in_time : Journal opening
-opening_in_time =
+opening_in_time : (loaded : Loaded) → Journal (opening loaded)
+opening_in_time loaded =
     (All-nil (λ b. time_of b ≤ 0), (All-cons (λ b. time_of b ≤ 0) (note.Up (tick_at 0) 1) [] (omega arith) (All-nil (λ b. time_of b ≤ 0)), tt))
 
-opening_windowed : Windowed [] opening
-opening_windowed = (tt, (rw place-up (refl, refl), tt))
+opening_windowed : (loaded : Loaded) → Windowed loaded [] (opening loaded)
+opening_windowed loaded = (tt, (rw place-up (refl, refl), tt))
 
-opening_stands : Stands start (reverse opening)
-opening_stands =
+opening_stands : (loaded : Loaded) → Stands start (reverse (opening loaded))
+opening_stands loaded =
     other_stands (note.Window (tick_at 0) 0) start (note.Up (tick_at 0) 1 ∷ []) refl refl (other_stands (note.Up (tick_at 0) 1) start [] refl refl start_stands)
 
 start_keeps : Keeps new_core first_bank []
@@ -66,13 +67,13 @@ start_keeps = record {
     shut_at kind.Pwm = refl
     shut_at kind.Comm = refl
 
-start_marks : (nest : Nest) → Marks nest [] new_core first_bank [] []
-start_marks nest = record {
-  in_time = opening_in_time;
-  windowed = opening_windowed;
+start_marks : (loaded : Loaded) (nest : Nest) → Marks loaded nest [] new_core first_bank [] []
+start_marks loaded nest = record {
+  in_time = opening_in_time loaded;
+  windowed = opening_windowed loaded;
   nested = tt;
-  control = opening_stands;
-  stack_is = ap (λ (p : Place). p.stack) (sym place-opening);
+  control = opening_stands loaded;
+  stack_is = ap (λ (p : Place). p.stack) (sym place-(opening loaded));
   past = All-cons (λ n. time_of n ≤ 0) (note.Up (tick_at 0) 1) (note.Window (tick_at 0) 0 ∷ []) (omega arith)
       (All-cons (λ n. time_of n ≤ 0) (note.Window (tick_at 0) 0) [] (omega arith) (All-nil (λ n. time_of n ≤ 0)));
 }
@@ -80,9 +81,9 @@ start_marks nest = record {
 no_burst : [] ≡ burst (line []).edges 0 (mode_of 0)
 no_burst = sym (ap (λ (l : Line). burst l.edges 0 (mode_of 0)) line-none ∙ burst-nil 0 (mode_of 0))
 
-start_ties : Ties [] new_core first_bank []
-start_ties = record {
-  signal = rw place-opening (record {
+start_ties : (loaded : Loaded) → Ties loaded [] new_core first_bank []
+start_ties loaded = record {
+  signal = rw place-(opening loaded) (record {
     hears = record { armed = refl; mode = refl; opened = refl; edges = no_burst; core_mode = refl; running = refl; no_timer = refl };
     untaken = refl;
   });
@@ -95,25 +96,25 @@ start_ties = record {
   small = lit< tt;
 }
 
-start_patient : (nest : Nest) → Patient nest 0 false [] (sees [] (journal []) 0) (called nest [] [])
-start_patient nest = record {
-  bound = λ k w. rw (called-none nest [] k) (omega arith);
-  calm = λ k w. called-none nest [] k;
+start_patient : (loaded : Loaded) (nest : Nest) → Patient nest 0 false [] (sees [] (journal loaded []) 0) (called loaded nest [] [])
+start_patient loaded nest = record {
+  bound = λ k w. rw (called-none loaded nest [] k) (omega arith);
+  calm = λ k w. called-none loaded nest [] k;
   held = λ m. cc;
 }
 
 after_start : (cost : ℕ) → after cost [] [] ≡ 0
 after_start cost = after-none cost [] ∙ free-none 0
 
-pub logged_start : (nest : Nest) (cost : ℕ) → Logged nest cost [] 0 new_core first_bank [] []
-logged_start nest cost =
+pub logged_start : (loaded : Loaded) (nest : Nest) (cost : ℕ) → Logged loaded nest cost [] 0 new_core first_bank [] []
+logged_start loaded nest cost =
     let zero_after = after_start cost in
     record {
       keeps = start_keeps;
       sorted = tt;
-      marks = start_marks nest;
-      ties = start_ties;
-      patient = start_patient nest;
+      marks = start_marks loaded nest;
+      ties = start_ties loaded;
+      patient = start_patient loaded nest;
       owes = λ k o. cc;
       reached = λ k o. cc;
       reached_by = λ k o. cc;

@@ -5,6 +5,7 @@ use Rattle.std.proofs.lemmas.List.Elements.{All-nil, All-head, All-tail, All-pus
 use Rattle.esc_base.specs.declared.kind.Kind.{Kind}
 use Rattle.esc_base.specs.declared.event.Event.{Event}
 use Rattle.esc_base.specs.Trace.{tick_of}
+use Rattle.settings_block.specs.declared.stored.Loaded.{Loaded}
 use Rattle.interrupt_machine.specs.declared.nest.Nest.{Nest}
 use Rattle.interrupt_machine.specs.Open.{is_open}
 use Rattle.interrupt_machine.specs.Response.{wait_next}
@@ -49,28 +50,28 @@ uses_before cost trace e (suc m) t u a l =
 
 -- ---- counts
 
-pub called_before : (trace : List Event) (e : Event) (log : List Turned) (t : ℕ) (k : Kind) → t < tick_of e → is_called (trace ++ e ∷ []) log t k ≡ is_called trace log t k
-called_before trace e log t k l = ap (λ (v : Bool). v && not (is_open (open_in log) k)) (sees_before trace e (journal log) t k l)
+pub called_before : (loaded : Loaded) (trace : List Event) (e : Event) (log : List Turned) (t : ℕ) (k : Kind) → t < tick_of e → is_called loaded (trace ++ e ∷ []) log t k ≡ is_called loaded trace log t k
+called_before loaded trace e log t k l = ap (λ (v : Bool). v && not (is_open (open_in loaded log) k)) (sees_before trace e (journal loaded log) t k l)
 
-count_from : (nest : Nest) (trace : List Event) (e : Event) (k : Kind) (before : List Turned) (n : ℕ) (log : List Turned) → Below (tick_of e) log
-    → called_from nest (trace ++ e ∷ []) k before n log ≡ called_from nest trace k before n log
-count_from nest trace e k before n [] b = refl
-count_from nest trace e k before n (x ∷ log) b =
+count_from : (loaded : Loaded) (nest : Nest) (trace : List Event) (e : Event) (k : Kind) (before : List Turned) (n : ℕ) (log : List Turned) → Below (tick_of e) log
+    → called_from loaded nest (trace ++ e ∷ []) k before n log ≡ called_from loaded nest trace k before n log
+count_from loaded nest trace e k before n [] b = refl
+count_from loaded nest trace e k before n (x ∷ log) b =
     let l : x.tick < tick_of e = All-head (λ (y : Turned). y.tick < tick_of e) x log b in
-    let same : called_next nest (trace ++ e ∷ []) k before n x ≡ called_next nest trace k before n x =
-    ap (λ (v : Bool). wait_next nest k v (is_called (trace ++ e ∷ []) (before ++ x ∷ []) x.tick k) (Some x.kind) n) (called_before trace e before x.tick k l)
-    ∙ ap (λ (v : Bool). wait_next nest k (is_called trace before x.tick k) v (Some x.kind) n) (called_before trace e (before ++ x ∷ []) x.tick k l) in
-    ap (λ (y : ℕ). called_from nest (trace ++ e ∷ []) k (before ++ x ∷ []) y log) same
-    ∙ count_from nest trace e k (before ++ x ∷ []) (called_next nest trace k before n x) log (All-tail (λ (y : Turned). y.tick < tick_of e) x log b)
+    let same : called_next loaded nest (trace ++ e ∷ []) k before n x ≡ called_next loaded nest trace k before n x =
+    ap (λ (v : Bool). wait_next nest k v (is_called loaded (trace ++ e ∷ []) (before ++ x ∷ []) x.tick k) (Some x.kind) n) (called_before loaded trace e before x.tick k l)
+    ∙ ap (λ (v : Bool). wait_next nest k (is_called loaded trace before x.tick k) v (Some x.kind) n) (called_before loaded trace e (before ++ x ∷ []) x.tick k l) in
+    ap (λ (y : ℕ). called_from loaded nest (trace ++ e ∷ []) k (before ++ x ∷ []) y log) same
+    ∙ count_from loaded nest trace e k (before ++ x ∷ []) (called_next loaded nest trace k before n x) log (All-tail (λ (y : Turned). y.tick < tick_of e) x log b)
 
-pub count_before : (nest : Nest) (trace : List Event) (e : Event) (log : List Turned) (k : Kind) → Below (tick_of e) log → called nest (trace ++ e ∷ []) log k ≡ called nest trace log k
-unfolding called
-count_before nest trace e log k b = count_from nest trace e k [] 0 log b
+pub count_before : (loaded : Loaded) (nest : Nest) (trace : List Event) (e : Event) (log : List Turned) (k : Kind) → Below (tick_of e) log → called loaded nest (trace ++ e ∷ []) log k ≡ called loaded nest trace log k
+unfolding called loaded
+count_before loaded nest trace e log k b = count_from loaded nest trace e k [] 0 log b
 
 -- ---- steps
 
-step_grows : (nest : Nest) (cost : ℕ) (trace : List Event) (e : Event) (before : List Turned) (x : Turned) → Below (tick_of e) before → x.tick < tick_of e → StepFits nest cost trace before x → StepFits nest cost (trace ++ e ∷ []) before x
-step_grows nest cost trace e before x past l f =
+step_grows : (loaded : Loaded) (nest : Nest) (cost : ℕ) (trace : List Event) (e : Event) (before : List Turned) (x : Turned) → Below (tick_of e) before → x.tick < tick_of e → StepFits loaded nest cost trace before x → StepFits loaded nest cost (trace ++ e ∷ []) before x
+step_grows loaded nest cost trace e before x past l f =
     let le : after cost trace before < tick_of e = (let a = f.later in omega arith) in
     let same = after_before cost trace e before (after cost trace before) refl le in
     record {
@@ -79,8 +80,8 @@ step_grows nest cost trace e before x past l f =
       open_step = λ o. rw same (f.open_step o);
       idle = λ o t from below free_at k.
           (let earlier : t < tick_of e = omega arith in
-          rw (sees_before trace e (journal before) t k earlier) (f.idle o t (rw same at from) below (free_less trace e t free_at) k));
-      first = λ o. ((f.first o).0, λ k s. (f.first o).1 k (rw (sees_before trace e (journal before) x.tick k l) at s));
+          rw (sees_before trace e (journal loaded before) t k earlier) (f.idle o t (rw same at from) below (free_less trace e t free_at) k));
+      first = λ o. ((f.first o).0, λ k s. (f.first o).1 k (rw (sees_before trace e (journal loaded before) x.tick k l) at s));
       entry = f.entry;
       own = f.own;
       reached = λ n. sym (uses_before cost trace e (steps_since x.kind (before ++ x ∷ [])) (entered_at x.kind before) x.tick (sym (f.reached n)) l);
@@ -88,18 +89,18 @@ step_grows nest cost trace e before x past l f =
       few = f.few;
       at_tick = f.at_tick;
       no_entry = f.no_entry;
-      patient = λ k. rw (count_before nest trace e (before ++ x ∷ []) k (All-push (λ (y : Turned). y.tick < tick_of e) before x past l)) (f.patient k);
+      patient = λ k. rw (count_before loaded nest trace e (before ++ x ∷ []) k (All-push (λ (y : Turned). y.tick < tick_of e) before x past l)) (f.patient k);
     }
 
-steps_from : (nest : Nest) (cost : ℕ) (trace : List Event) (e : Event) (before log : List Turned) → Below (tick_of e) before → Below (tick_of e) log
-    → EachStep (StepFits nest cost trace) before log → EachStep (StepFits nest cost (trace ++ e ∷ [])) before log
-steps_from nest cost trace e before [] past b f = tt
-steps_from nest cost trace e before (x ∷ log) past b f =
+steps_from : (loaded : Loaded) (nest : Nest) (cost : ℕ) (trace : List Event) (e : Event) (before log : List Turned) → Below (tick_of e) before → Below (tick_of e) log
+    → EachStep (StepFits loaded nest cost trace) before log → EachStep (StepFits loaded nest cost (trace ++ e ∷ [])) before log
+steps_from loaded nest cost trace e before [] past b f = tt
+steps_from loaded nest cost trace e before (x ∷ log) past b f =
     let l : x.tick < tick_of e = All-head (λ (y : Turned). y.tick < tick_of e) x log b in (
-      step_grows nest cost trace e before x past l f.0,
-      steps_from nest cost trace e (before ++ x ∷ []) log (All-push (λ (y : Turned). y.tick < tick_of e) before x past l) (All-tail (λ (y : Turned). y.tick < tick_of e) x log b) f.1,
+      step_grows loaded nest cost trace e before x past l f.0,
+      steps_from loaded nest cost trace e (before ++ x ∷ []) log (All-push (λ (y : Turned). y.tick < tick_of e) before x past l) (All-tail (λ (y : Turned). y.tick < tick_of e) x log b) f.1,
     )
 
-pub fits_grow : (nest : Nest) (cost : ℕ) (trace : List Event) (e : Event) (log : List Turned) → Below (tick_of e) log
-    → EachStep (StepFits nest cost trace) [] log → EachStep (StepFits nest cost (trace ++ e ∷ [])) [] log
-fits_grow nest cost trace e log b f = steps_from nest cost trace e [] log (All-nil (λ (y : Turned). y.tick < tick_of e)) b f
+pub fits_grow : (loaded : Loaded) (nest : Nest) (cost : ℕ) (trace : List Event) (e : Event) (log : List Turned) → Below (tick_of e) log
+    → EachStep (StepFits loaded nest cost trace) [] log → EachStep (StepFits loaded nest cost (trace ++ e ∷ [])) [] log
+fits_grow loaded nest cost trace e log b f = steps_from loaded nest cost trace e [] log (All-nil (λ (y : Turned). y.tick < tick_of e)) b f

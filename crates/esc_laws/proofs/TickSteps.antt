@@ -8,6 +8,7 @@ use Rattle.esc_base.specs.declared.note.Note.{Note}
 use Rattle.esc_base.specs.declared.note.Note.TheVariants as note
 use Rattle.esc_base.specs.declared.note.Cause.{Cause}
 use Rattle.esc_base.specs.Numbers.{cause_number}
+use Rattle.settings_block.specs.declared.stored.Loaded.{Loaded}
 use Rattle.timer_regs.specs.Bank.{Bank}
 use Rattle.timer_regs.specs.declared.regs.Reg.TheVariants as reg
 use Rattle.interrupt_machine.specs.declared.nest.Nest.{Nest}
@@ -34,31 +35,31 @@ use Rattle.esc_laws.proofs.Notes.{Said, said_push, place-append}
 use Rattle.esc_laws.proofs.OwnSteps.{OwnIn, StepOut, quiet}
 
 -- the notes of a control tick: a K, then an A or an X
-pub record TickOut (nest : Nest) (trace : List Event) (control : Kept) (t : ℕ) (rest more : List Note) : Type 0 where
-  pub said : Said nest trace t (rest ++ more)
-  pub control_is : Stands control (reverse (opening ++ (rest ++ more)))
+pub record TickOut (loaded : Loaded) (nest : Nest) (trace : List Event) (control : Kept) (t : ℕ) (rest more : List Note) : Type 0 where
+  pub said : Said loaded nest trace t (rest ++ more)
+  pub control_is : Stands control (reverse (opening loaded ++ (rest ++ more)))
 
 -- two notes of one step
-two_notes : (nest : Nest) (trace : List Event) (control : Kept) (t : ℕ) (rest : List Note) (k x : Note) → Said nest trace t ((rest ++ k ∷ []) ++ x ∷ []) → Stands control (x ∷ k ∷ reverse (opening ++ rest))
-    → TickOut nest trace control t rest (k ∷ x ∷ [])
-two_notes nest trace control t rest k x said st =
+two_notes : (loaded : Loaded) (nest : Nest) (trace : List Event) (control : Kept) (t : ℕ) (rest : List Note) (k x : Note) → Said loaded nest trace t ((rest ++ k ∷ []) ++ x ∷ []) → Stands control (x ∷ k ∷ reverse (opening loaded ++ rest))
+    → TickOut loaded nest trace control t rest (k ∷ x ∷ [])
+two_notes loaded nest trace control t rest k x said st =
     let both : rest ++ k ∷ x ∷ [] ≡ (rest ++ k ∷ []) ++ x ∷ [] = sym (append_assoc rest (k ∷ []) (x ∷ [])) in
     record {
-      said = subst (λ (r : List Note). Said nest trace t r) (sym both) said;
-      control_is = subst (λ (r : List Note). Stands control (reverse (opening ++ r))) (sym both)
-          (rw (reverse-push (opening ++ (rest ++ k ∷ [])) x, reverse-push (opening ++ rest) k) st);
+      said = subst (λ (r : List Note). Said loaded nest trace t r) (sym both) said;
+      control_is = subst (λ (r : List Note). Stands control (reverse (opening loaded ++ r))) (sym both)
+          (rw (reverse-push (opening loaded ++ (rest ++ k ∷ [])) x, reverse-push (opening loaded ++ rest) k) st);
     }
 
-outcome_out : (lost : Option Cause) (armed_now : Bool) (nest : Nest) (trace : List Event) (control : Kept) (t : ℕ) (rest : List Note) (k : Note)
-    → Said nest trace t (rest ++ k ∷ []) → IsIn kind.Tick (place (opening ++ (rest ++ k ∷ [])))
-    → Stands control (with_outcome (tick_at t) lost armed_now (k ∷ reverse (opening ++ rest)))
-    → TickOut nest trace control t rest (k ∷ outcome_note t lost armed_now)
-outcome_out (Some cause) armed_now nest trace control t rest k said inside st =
-    two_notes nest trace control t rest k (note.Lost (tick_at t) (cause_number cause))
-    (said_push nest trace t (rest ++ k ∷ []) (note.Lost (tick_at t) (cause_number cause)) said refl tt inside) st
-outcome_out None true nest trace control t rest k said inside st =
-    two_notes nest trace control t rest k (note.Armed (tick_at t)) (said_push nest trace t (rest ++ k ∷ []) (note.Armed (tick_at t)) said refl tt inside) st
-outcome_out None false nest trace control t rest k said inside st = record { said = said; control_is = rw (reverse-push (opening ++ rest) k) st }
+outcome_out : (loaded : Loaded) (lost : Option Cause) (armed_now : Bool) (nest : Nest) (trace : List Event) (control : Kept) (t : ℕ) (rest : List Note) (k : Note)
+    → Said loaded nest trace t (rest ++ k ∷ []) → IsIn kind.Tick (place (opening loaded ++ (rest ++ k ∷ [])))
+    → Stands control (with_outcome (tick_at t) lost armed_now (k ∷ reverse (opening loaded ++ rest)))
+    → TickOut loaded nest trace control t rest (k ∷ outcome_note t lost armed_now)
+outcome_out loaded (Some cause) armed_now nest trace control t rest k said inside st =
+    two_notes loaded nest trace control t rest k (note.Lost (tick_at t) (cause_number cause))
+    (said_push loaded nest trace t (rest ++ k ∷ []) (note.Lost (tick_at t) (cause_number cause)) said refl tt inside) st
+outcome_out loaded None true nest trace control t rest k said inside st =
+    two_notes loaded nest trace control t rest k (note.Armed (tick_at t)) (said_push loaded nest trace t (rest ++ k ∷ []) (note.Armed (tick_at t)) said refl tt inside) st
+outcome_out loaded None false nest trace control t rest k said inside st = record { said = said; control_is = rw (reverse-push (opening loaded ++ rest) k) st }
 
 -- what a place says after these notes
 outcome_place : (lost : Option Cause) (armed_now : Bool) (p : Place) (t : ℕ) → (fold next p (outcome_note t lost armed_now)).ticks ≡ p.ticks
@@ -91,21 +92,21 @@ asked c b n = record {
   over = false;
 }
 
-asked_out : (nest : Nest) (trace : List Event) (c : Brain) (b : Bank) (rest : List Note) → OwnIn nest trace c b rest → IsIn kind.Tick (place (opening ++ rest)) → c.control.number < b.time / 2400
-    → (place (opening ++ rest)).ticks ≡ 0
-    → StepOut nest trace b rest (asked c b (b.time / 2400)) (place (opening ++ rest)).stack
-asked_out nest trace c b rest i inside less none =
+asked_out : (loaded : Loaded) (nest : Nest) (trace : List Event) (c : Brain) (b : Bank) (rest : List Note) → OwnIn loaded nest trace c b rest → IsIn kind.Tick (place (opening loaded ++ rest)) → c.control.number < b.time / 2400
+    → (place (opening loaded ++ rest)).ticks ≡ 0
+    → StepOut loaded nest trace b rest (asked c b (b.time / 2400)) (place (opening loaded ++ rest)).stack
+asked_out loaded nest trace c b rest i inside less none =
     let n : ℕ = b.time / 2400 in
-    let p : Place = place (opening ++ rest) in
+    let p : Place = place (opening loaded ++ rest) in
     let answer : Ticked = ticked c n 0 in
     let k : Note = note.Control (tick_at b.time) n 0 answer.demand in
-    let st = tick_stands c.control (reverse (opening ++ rest)) (tick_at b.time) n 0 refl less i.control in
-    let first = said_push nest trace b.time rest k i.said refl tt inside in
-    let still : IsIn kind.Tick (place (opening ++ (rest ++ k ∷ []))) = subst (λ (q : Place). IsIn kind.Tick q) (sym (place-push (opening ++ rest) k)) inside in
-    let o = outcome_out answer.lost answer.armed_now nest trace (after_tick c.control n (decide (view_of c.control) n 0)) b.time rest k first still st in
-    let at : place (opening ++ (rest ++ tick_notes b.time n 0 answer)) ≡ fold next p (tick_notes b.time n 0 answer) = place-append (opening ++ rest) (tick_notes b.time n 0 answer) in
+    let st = tick_stands c.control (reverse (opening loaded ++ rest)) (tick_at b.time) n 0 refl less i.control in
+    let first = said_push loaded nest trace b.time rest k i.said refl tt inside in
+    let still : IsIn kind.Tick (place (opening loaded ++ (rest ++ k ∷ []))) = subst (λ (q : Place). IsIn kind.Tick q) (sym (place-push (opening loaded ++ rest) k)) inside in
+    let o = outcome_out loaded answer.lost answer.armed_now nest trace (after_tick c.control n (decide (view_of c.control) n 0)) b.time rest k first still st in
+    let at : place (opening loaded ++ (rest ++ tick_notes b.time n 0 answer)) ≡ fold next p (tick_notes b.time n 0 answer) = place-append (opening loaded ++ rest) (tick_notes b.time n 0 answer) in
     let number : (after_tick c.control n (decide (view_of c.control) n 0)).number ≡ n =
-    st.ties.number_is ∙ outcome_number answer.lost answer.armed_now b.time n 0 answer.demand (reverse (opening ++ rest)) in
+    st.ties.number_is ∙ outcome_number answer.lost answer.armed_now b.time n 0 answer.demand (reverse (opening loaded ++ rest)) in
     record {
       said = o.said;
       control = o.control_is;
@@ -125,12 +126,12 @@ pick_then P false x y e h = cc
 less_test : (m n : ℕ) → m < n → nat_lt m n ≡ true
 less_test m n l = grind (arith, nat_tests)
 
-tick_place : (at : TickAt) (nest : Nest) (trace : List Event) (c : Brain) (b : Bank) (rest : List Note) → at ≢ tick.Back → at ≢ tick.Shut → OwnIn nest trace c b rest
-    → TickTied at b.number_read b.time (place (opening ++ rest)).ticks → IsIn kind.Tick (place (opening ++ rest))
-    → StepOut nest trace b rest (tick_step at c b) (place (opening ++ rest)).stack
-tick_place tick.Shut nest trace c b rest nb ns i t inside = absurd (ns refl)
-tick_place tick.Raise nest trace c b rest nb ns i t inside =
-    quiet nest trace b rest (record c { hold = 8; tick_at = tick.Read }) (Writes reg.Mask 1) false (record {
+tick_place : (loaded : Loaded) (at : TickAt) (nest : Nest) (trace : List Event) (c : Brain) (b : Bank) (rest : List Note) → at ≢ tick.Back → at ≢ tick.Shut → OwnIn loaded nest trace c b rest
+    → TickTied at b.number_read b.time (place (opening loaded ++ rest)).ticks → IsIn kind.Tick (place (opening loaded ++ rest))
+    → StepOut loaded nest trace b rest (tick_step at c b) (place (opening loaded ++ rest)).stack
+tick_place loaded tick.Shut nest trace c b rest nb ns i t inside = absurd (ns refl)
+tick_place loaded tick.Raise nest trace c b rest nb ns i t inside =
+    quiet loaded nest trace b rest (record c { hold = 8; tick_at = tick.Read }) (Writes reg.Mask 1) false (record {
       said = i.said;
       control = i.control;
       signal = i.signal;
@@ -140,13 +141,13 @@ tick_place tick.Raise nest trace c b rest nb ns i t inside =
       read = i.read;
       stack_is = refl;
     })
-tick_place tick.Read nest trace c b rest nb ns i t inside =
+tick_place loaded tick.Read nest trace c b rest nb ns i t inside =
     let less : c.control.number < b.time / 2400 = (let a = i.number in let l : b.number_read < b.time / 2400 = t.0 in omega arith) in
-    pick_then (λ (s : Stepped). StepOut nest trace b rest s (place (opening ++ rest)).stack) (nat_lt c.control.number (b.time / 2400)) (asked c b (b.time / 2400))
+    pick_then (λ (s : Stepped). StepOut loaded nest trace b rest s (place (opening loaded ++ rest)).stack) (nat_lt c.control.number (b.time / 2400)) (asked c b (b.time / 2400))
     (goes_on (record c { tick_at = tick.Lower }) (Reads reg.TickState)) (less_test c.control.number (b.time / 2400) less)
-    (asked_out nest trace c b rest i inside less t.1)
-tick_place tick.Lower nest trace c b rest nb ns i t inside =
-    quiet nest trace b rest (record c { tick_at = tick.Back }) (Writes reg.Mask 0) false (record {
+    (asked_out loaded nest trace c b rest i inside less t.1)
+tick_place loaded tick.Lower nest trace c b rest nb ns i t inside =
+    quiet loaded nest trace b rest (record c { tick_at = tick.Back }) (Writes reg.Mask 0) false (record {
       said = i.said;
       control = i.control;
       signal = i.signal;
@@ -156,8 +157,8 @@ tick_place tick.Lower nest trace c b rest nb ns i t inside =
       read = i.read;
       stack_is = refl;
     })
-tick_place tick.Back nest trace c b rest nb ns i t inside = absurd (nb refl)
+tick_place loaded tick.Back nest trace c b rest nb ns i t inside = absurd (nb refl)
 
-pub tick_out : (nest : Nest) (trace : List Event) (c : Brain) (b : Bank) (rest : List Note) → c.tick_at ≢ tick.Back → c.tick_at ≢ tick.Shut → OwnIn nest trace c b rest → IsIn kind.Tick (place (opening ++ rest))
-    → StepOut nest trace b rest (tick_step c.tick_at c b) (place (opening ++ rest)).stack
-tick_out nest trace c b rest nb ns i inside = tick_place c.tick_at nest trace c b rest nb ns i i.tick inside
+pub tick_out : (loaded : Loaded) (nest : Nest) (trace : List Event) (c : Brain) (b : Bank) (rest : List Note) → c.tick_at ≢ tick.Back → c.tick_at ≢ tick.Shut → OwnIn loaded nest trace c b rest → IsIn kind.Tick (place (opening loaded ++ rest))
+    → StepOut loaded nest trace b rest (tick_step c.tick_at c b) (place (opening loaded ++ rest)).stack
+tick_out loaded nest trace c b rest nb ns i inside = tick_place loaded c.tick_at nest trace c b rest nb ns i i.tick inside

@@ -3,6 +3,7 @@ use Rattle.std.specs.Prelude.{◌≡◌, ℕ, List, [], ◌∷◌, ◌++◌}
 use Rattle.esc_base.specs.declared.event.Event.{Event}
 use Rattle.esc_base.specs.declared.note.Note.{Note}
 use Rattle.esc_base.specs.Journal.{Journal}
+use Rattle.settings_block.specs.declared.stored.Loaded.{Loaded}
 use Rattle.interrupt_machine.specs.declared.nest.Nest.{Nest}
 use Rattle.arming.specs.Controlled.{Controlled}
 use Rattle.esc_laws.specs.Windowed.{Windowed}
@@ -13,33 +14,33 @@ use Rattle.esc_laws.specs.Steps.{Turned, opening, journal, notes_in, EachStep, S
 -- window; times never fall; windows, control and nesting keep their rules; and there is a log of steps of which the other
 -- notes are the notes, whose steps stand at the ticks that the cost and the stalls give, each kind in time, below T, and
 -- which lacks no step that is due below T.
-pub record Legal (nest : Nest) (cost : ℕ) (trace : List Event) (until : ℕ) (notes : List Note) : Type 0 where
+pub record Legal (loaded : Loaded) (nest : Nest) (cost : ℕ) (trace : List Event) (until : ℕ) (notes : List Note) : Type 0 where
   pub rest : List Note
-  pub begins : notes ≡ opening ++ rest
+  pub begins : notes ≡ opening loaded ++ rest
   pub in_time : Journal notes
-  pub windowed : Windowed trace notes
+  pub windowed : Windowed loaded trace notes
   pub controlled : Controlled notes
-  pub nested : NestedAfter nest opening rest
+  pub nested : NestedAfter nest (opening loaded) rest
   pub log : List Turned
   pub steps_are : rest ≡ notes_in log
-  pub fits : EachStep (StepFits nest cost trace) [] log
+  pub fits : EachStep (StepFits loaded nest cost trace) [] log
   pub below : Below until log
-  pub all_made : Awaits cost trace until log
-  pub open_few : OpenFew log
+  pub all_made : Awaits loaded cost trace until log
+  pub open_few : OpenFew loaded log
 
 -- What stands where a write failed: whole steps, and a front of the notes of one more step. The journal is legal but for
 -- that step's later notes.
-pub record LegalFront (nest : Nest) (cost : ℕ) (trace : List Event) (notes : List Note) : Type 0 where
+pub record LegalFront (loaded : Loaded) (nest : Nest) (cost : ℕ) (trace : List Event) (notes : List Note) : Type 0 where
   pub log : List Turned
   pub broken : Turned
   pub front : List Note
   pub left_out : List Note
   pub split : broken.notes ≡ front ++ left_out
-  pub notes_are : notes ≡ journal log ++ front
+  pub notes_are : notes ≡ journal loaded log ++ front
   pub in_time : Journal notes
-  pub windowed : Windowed trace notes
+  pub windowed : Windowed loaded trace notes
   pub controlled : Controlled notes
-  pub nested : NestedAfter nest opening (notes_in log ++ front)
-  pub fits : EachStep (StepFits nest cost trace) [] (log ++ broken ∷ [])
+  pub nested : NestedAfter nest (opening loaded) (notes_in log ++ front)
+  pub fits : EachStep (StepFits loaded nest cost trace) [] (log ++ broken ∷ [])
   pub below : Below broken.tick log
-  pub all_made : Awaits cost trace broken.tick log
+  pub all_made : Awaits loaded cost trace broken.tick log

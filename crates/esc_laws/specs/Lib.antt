@@ -4,5 +4,6 @@ pub mod Nested
 pub mod Seen
 pub mod Steps
 pub mod Legal
+pub mod Saves
 pub mod Tied
 pub mod Logged

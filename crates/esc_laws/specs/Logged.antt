@@ -5,8 +5,10 @@ use Rattle.esc_base.specs.declared.kind.Kind.{Kind}
 use Rattle.esc_base.specs.declared.event.Event.{Event}
 use Rattle.esc_base.specs.declared.event.Event.TheVariants as event
 use Rattle.esc_base.specs.declared.note.Note.{Note}
+use Rattle.esc_base.specs.Flash.{Told}
 use Rattle.esc_base.specs.Journal.{Journal, time_of}
 use Rattle.esc_base.specs.Trace.{line}
+use Rattle.settings_block.specs.declared.stored.Loaded.{Loaded}
 use Rattle.timer_regs.specs.Bank.{Bank}
 use Rattle.timer_regs.specs.Effects.{reset, written}
 use Rattle.timer_regs.specs.declared.regs.Reg.TheVariants as reg
@@ -17,33 +19,35 @@ use Rattle.interrupt_machine.specs.Response.{Patient}
 use Rattle.interrupt_machine.specs.Turn.{Turn}
 use Rattle.arming.specs.Stands.{Stands}
 use Rattle.esc_core.specs.Brain.{Brain}
-use Rattle.esc_core.specs.Stepped.{IsStepped}
-use Rattle.esc_core.specs.Firmware.{core_step, entered_core, left_of}
+use Rattle.esc_core.specs.Saving.{IsMade}
+use Rattle.esc_core.specs.Firmware.{core_step, core_saves, entered_core, left_of}
 use Rattle.esc_laws.specs.Place.{place}
 use Rattle.esc_laws.specs.Windowed.{Windowed}
 use Rattle.esc_laws.specs.Nested.{NestedAfter}
 use Rattle.esc_laws.specs.Seen.{sees}
 use Rattle.esc_laws.specs.Steps.{Turned, opening, notes_in, journal, open_in, free, after, uses, own_steps, steps_since, entered_at, called, EachStep, StepFits, Awaits, Below}
-use Rattle.esc_laws.specs.Tied.{Keeps, SignalTied, cap_view, WindowSound, TickTied}
+use Rattle.esc_laws.specs.Tied.{Keeps, SignalTied, cap_view, WindowSound, TickTied, MainTied, OrdersTied}
 
 -- the registers at the start of a run: the first window is open in mode 0
 abbrev pub first_bank : Bank
 first_bank = written reset reg.CapArm 0
 
 -- the journal keeps its laws, and is no later than now
-pub record Marks (nest : Nest) (trace : List Event) (c : Brain) (b : Bank) (stack : List Kind) (log : List Turned) : Type 0 where
-  pub in_time : Journal (journal log)
-  pub windowed : Windowed trace (journal log)
-  pub nested : NestedAfter nest opening (notes_in log)
-  pub control : Stands c.control (reverse (journal log))
-  pub stack_is : stack ≡ open_in log
-  pub past : All (λ n. time_of n ≤ b.time) (journal log)
+pub record Marks (loaded : Loaded) (nest : Nest) (trace : List Event) (c : Brain) (b : Bank) (stack : List Kind) (log : List Turned) : Type 0 where
+  pub in_time : Journal (journal loaded log)
+  pub windowed : Windowed loaded trace (journal loaded log)
+  pub nested : NestedAfter nest (opening loaded) (notes_in log)
+  pub control : Stands c.control (reverse (journal loaded log))
+  pub stack_is : stack ≡ open_in loaded log
+  pub past : All (λ n. time_of n ≤ b.time) (journal loaded log)
 
 -- the core and the registers are what the notes and the trace say
-pub record Ties (trace : List Event) (c : Brain) (b : Bank) (log : List Turned) : Type 0 where
-  pub signal : SignalTied (place (journal log)).signal c.cap_at (cap_view trace c b (place (journal log)))
+pub record Ties (loaded : Loaded) (trace : List Event) (c : Brain) (b : Bank) (log : List Turned) : Type 0 where
+  pub signal : SignalTied (place (journal loaded log)).signal c.cap_at (cap_view trace c b (place (journal loaded log)))
   pub window : WindowSound b.window b.time
-  pub tick : TickTied c.tick_at b.number_read b.time (place (journal log)).ticks
+  pub tick : TickTied c.tick_at b.number_read b.time (place (journal loaded log)).ticks
+  pub main : MainTied c.main_at c.orders.save (place (journal loaded log)).saves
+  pub orders : OrdersTied loaded c.orders (reverse (journal loaded log))
   pub number : b.number_read ≡ c.control.number
   pub read : b.number_read ≤ b.time / 2400
   pub level : b.level ≡ (line trace).level
@@ -57,19 +61,19 @@ EndsBy t (event.Comp at level) = Unit {0}
 EndsBy t (event.Serial at byte) = Unit {0}
 
 -- `next` is the tick of the next step, or earlier than it while nothing is due
-pub record Logged (nest : Nest) (cost : ℕ) (trace : List Event) (next : ℕ) (c : Brain) (b : Bank) (stack : List Kind) (log : List Turned) : Type 0 where
+pub record Logged (loaded : Loaded) (nest : Nest) (cost : ℕ) (trace : List Event) (next : ℕ) (c : Brain) (b : Bank) (stack : List Kind) (log : List Turned) : Type 0 where
   pub keeps : Keeps c b stack
   pub sorted : IsStack stack
-  pub marks : Marks nest trace c b stack log
-  pub ties : Ties trace c b log
-  pub patient : Patient nest c.hold b.masked stack (sees trace (journal log) b.time) (called nest trace log)
+  pub marks : Marks loaded nest trace c b stack log
+  pub ties : Ties loaded trace c b log
+  pub patient : Patient nest c.hold b.masked stack (sees trace (journal loaded log) b.time) (called loaded nest trace log)
   pub owes : (k : Kind) → is_open stack k ≡ true → own_steps k log + left_of c k ≤ most k
   pub reached : (k : Kind) → is_open stack k ≡ true → after cost trace log ≡ uses cost trace (steps_since k log + 1) (entered_at k log)
   -- and the newest step of the log stands where `next_step` leads from the entry
   pub reached_by : (k : Kind) → is_open stack k ≡ true → (t : ℕ) → Below t log → uses cost trace (steps_since k log) (entered_at k log) < t
-  pub fits : EachStep (StepFits nest cost trace) [] log
+  pub fits : EachStep (StepFits loaded nest cost trace) [] log
   pub past : after cost trace log ≤ next
-  pub awaits : Awaits cost trace next log
+  pub awaits : Awaits loaded cost trace next log
   pub time : b.time ≤ next
   -- from now to the next step there is no tick that a step could have
   pub put_off : (u : ℕ) → b.time ≤ u → u < next → after cost trace log ≤ u → free trace u ≢ u
@@ -78,12 +82,12 @@ pub record Logged (nest : Nest) (cost : ℕ) (trace : List Event) (next : ℕ) (
   -- while a kind is open the next step stands at the next tick
   pub at_next : stack ≢ [] → next ≡ after cost trace log
 
--- one step of the machine over the core
-abbrev pub CoreTurn : Nest → Brain → List Kind → Bank → List Note → Brain → List Kind → Bank → Type 0
-CoreTurn nest c stack b notes c' stack' b' =
-    Turn (λ x k y. y ≡ entered_core x k) (λ x a k did y a'. IsStepped a (core_step k x a) did y a') (λ x. false) nest c stack b notes c' stack' b'
+-- one step of the machine over the core, and what the flash tells before and after it
+abbrev pub CoreTurn : Nest → Brain → List Kind → Bank → Told → List Note → Brain → List Kind → Bank → Told → Type 0
+CoreTurn nest c stack b flash notes c' stack' b' flash' =
+    Turn (λ x k y. y ≡ entered_core x k) (λ x a f k did y a' f'. IsMade (λ saved. core_step k saved x a) (core_saves k x a) a f did y a' f') (λ x. x.orders.save) nest c stack b flash notes c' stack' b' flash'
 
 -- the log's entry for a step, at a tick
-abbrev pub turned : {nest : Nest} {c c' : Brain} {stack stack' : List Kind} {b b' : Bank} → ℕ → (notes : List Note) → CoreTurn nest c stack b notes c' stack' b' → Turned
+abbrev pub turned : {nest : Nest} {c c' : Brain} {stack stack' : List Kind} {b b' : Bank} {flash flash' : Told} → ℕ → (notes : List Note) → CoreTurn nest c stack b flash notes c' stack' b' flash' → Turned
 turned t notes (inl e) = record { tick = t; kind = e.0; enters = true; notes = notes }
 turned t notes (inr e) = record { tick = t; kind = e.0; enters = false; notes = notes }

@@ -20,11 +20,11 @@ IsAboveAll One stack k = All (λ j. (kind_number j ≡ 0) × (0 < k)) stack
 abbrev pub IsIn : Kind → Place → Type 0
 IsIn k p = innermost p.stack ≡ Some k
 
--- a TICK that returns has one K; a CAP that returns has one F, or one W without an F
+-- a TICK that returns has one K; a CAP that returns has one F, or one W without an F; a MAIN that returns has one P
 abbrev pub HasDone : Kind → Place → Type 0
 HasDone kind.Tick p = p.ticks ≡ 1
 HasDone kind.Cap p = (p.verdicts ≡ 1) ⊎ ((p.verdicts ≡ 0) × (p.windows ≡ 1))
-HasDone kind.Main p = Unit {0}
+HasDone kind.Main p = p.saves ≡ 1
 HasDone kind.Uart p = Unit {0}
 HasDone kind.Cmp p = Unit {0}
 HasDone kind.Pwm p = Unit {0}
@@ -42,6 +42,7 @@ NestRule nest before (note.Command t c) = IsIn kind.Cap (place before)
 NestRule nest before (note.Control t n s d) = IsIn kind.Tick (place before)
 NestRule nest before (note.Armed t) = IsIn kind.Tick (place before)
 NestRule nest before (note.Lost t c) = IsIn kind.Tick (place before)
+NestRule nest before (note.Saved t r) = IsIn kind.Main (place before)
 -- the others don't stand in a journal yet
 NestRule nest before n = ⊥
 

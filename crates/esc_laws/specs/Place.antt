@@ -28,16 +28,19 @@ pub record Place : Type 0 where
   pub verdicts : ℕ
   -- how many K stand since the newest I of TICK
   pub ticks : ℕ
+  -- how many P stand since the newest I of MAIN
+  pub saves : ℕ
   -- the time of the newest note
   pub last : ℕ
 
 abbrev pub nowhere : Place
-nowhere = record { stack = []; signal = Silent; cap_entered = 0; windows = 0; verdicts = 0; ticks = 0; last = 0 }
+nowhere = record { stack = []; signal = Silent; cap_entered = 0; windows = 0; verdicts = 0; ticks = 0; saves = 0; last = 0 }
 
 abbrev pub entered_at : Place → ℕ → ℕ → Place
 entered_at p t k =
     if k == 3 then record p { stack = kind_of k ∷ p.stack; cap_entered = t; windows = 0; verdicts = 0; last = t }
     else if k == 2 then record p { stack = kind_of k ∷ p.stack; ticks = 0; last = t }
+    else if k == 0 then record p { stack = kind_of k ∷ p.stack; saves = 0; last = t }
     else record p { stack = kind_of k ∷ p.stack; last = t }
 
 abbrev pub rested : Signal → ℕ → Signal
@@ -66,7 +69,7 @@ next p (note.Gate t hi lo) = record p { last = t.0 }
 next p (note.Armed t) = record p { last = t.0 }
 next p (note.Lost t c) = record p { last = t.0 }
 next p (note.Command t c) = record p { last = t.0 }
-next p (note.Saved t r) = record p { last = t.0 }
+next p (note.Saved t r) = record p { saves = p.saves + 1; last = t.0 }
 next p (note.Step t s) = record p { last = t.0 }
 next p (note.Cross t) = record p { last = t.0 }
 next p (note.Period t d) = record p { last = t.0 }

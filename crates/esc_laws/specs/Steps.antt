@@ -1,6 +1,6 @@
 -- The log of the machine's steps with their ticks, of which the journal is the notes. No value keeps it: an entry has
 -- its own step alone, and each count is a fold over the log.
-use Rattle.std.specs.Prelude.{◌≡◌, ◌≢◌, ◌<◌, ◌≤◌, ◌+◌, ℕ, zero, suc, Bool, true, false, ◌&&◌, ◌==◌, if◌then◌else◌, nat_lt, nat_le, List, [], ◌∷◌, ◌++◌, Some, All}
+use Rattle.std.specs.Prelude.{◌≡◌, ◌≢◌, ◌<◌, ◌≤◌, ◌+◌, ℕ, zero, suc, Bool, true, false, ◌&&◌, ◌==◌, if◌then◌else◌, nat_lt, nat_le, List, [], ◌∷◌, ◌++◌, Option, Some, None, All}
 use Rattle.std.specs.List.{fold, flat_map}
 use Rattle.esc_base.specs.declared.kind.Kind.{Kind}
 use Rattle.esc_base.specs.declared.event.Event.{Event}
@@ -9,6 +9,9 @@ use Rattle.esc_base.specs.declared.note.Note.{Note}
 use Rattle.esc_base.specs.declared.note.Note.TheVariants as note
 use Rattle.esc_base.specs.Numbers.{kind_number}
 use Rattle.esc_base.specs.Journal.{time_of}
+use Rattle.settings_block.specs.declared.block.BlockFault.{BlockFault}
+use Rattle.settings_block.specs.declared.block.BlockFault.TheVariants.{Marker, Version, Range}
+use Rattle.settings_block.specs.declared.stored.Loaded.{Loaded}
 use Rattle.interrupt_machine.specs.declared.nest.Nest.{Nest}
 use Rattle.interrupt_machine.specs.Did.{most}
 use Rattle.interrupt_machine.specs.Open.{innermost, is_open}
@@ -24,18 +27,28 @@ pub record Turned : Type 0 where
   pub enters : Bool
   pub notes : List Note
 
--- the two first notes: the settings, and the first window
-abbrev pub opening : List Note
-opening = note.Up (tick_at 0) 1 ∷ note.Window (tick_at 0) 0 ∷ []
+-- the number of what the load of the settings gave: those that were read, or the default ones with the block's fault
+abbrev pub load_number : Option BlockFault → ℕ
+load_number None = 0
+load_number (Some Marker) = 1
+load_number (Some Version) = 2
+load_number (Some (Range offset)) = 3
+
+-- the two first notes: the load of the settings, and the first window
+abbrev pub first_notes : Option BlockFault → List Note
+first_notes fault = note.Up (tick_at 0) (load_number fault) ∷ note.Window (tick_at 0) 0 ∷ []
+
+abbrev pub opening : Loaded → List Note
+opening loaded = first_notes loaded.fault
 
 abbrev pub notes_in : List Turned → List Note
 notes_in log = flat_map (λ e. e.notes) log
 
-abbrev pub journal : List Turned → List Note
-journal log = opening ++ notes_in log
+abbrev pub journal : Loaded → List Turned → List Note
+journal loaded log = opening loaded ++ notes_in log
 
-abbrev pub open_in : List Turned → List Kind
-open_in log = (place (journal log)).stack
+abbrev pub open_in : Loaded → List Turned → List Kind
+open_in loaded log = (place (journal loaded log)).stack
 
 -- ---- the tick of the next step
 
@@ -90,20 +103,20 @@ unfoldable pub steps_since : Kind → List Turned → ℕ
 steps_since k log = fold (since_next k) 0 log
 
 -- a kind is seen due and isn't open, at a tick after these steps
-abbrev pub is_called : List Event → List Turned → ℕ → Kind → Bool
-is_called trace log t k = is_waiting (sees trace (journal log) t) (open_in log) k
+abbrev pub is_called : Loaded → List Event → List Turned → ℕ → Kind → Bool
+is_called loaded trace log t k = is_waiting (sees trace (journal loaded log) t) (open_in loaded log) k
 
 -- for how many counted steps a kind has been called
-abbrev pub called_next : Nest → List Event → Kind → List Turned → ℕ → Turned → ℕ
-called_next nest trace k before n e =
-    wait_next nest k (is_called trace before e.tick k) (is_called trace (before ++ e ∷ []) e.tick k) (Some e.kind) n
+abbrev pub called_next : Loaded → Nest → List Event → Kind → List Turned → ℕ → Turned → ℕ
+called_next loaded nest trace k before n e =
+    wait_next nest k (is_called loaded trace before e.tick k) (is_called loaded trace (before ++ e ∷ []) e.tick k) (Some e.kind) n
 
-abbrev pub called_from : Nest → List Event → Kind → List Turned → ℕ → List Turned → ℕ
-called_from nest trace k before n [] = n
-called_from nest trace k before n (e ∷ rest) = called_from nest trace k (before ++ e ∷ []) (called_next nest trace k before n e) rest
+abbrev pub called_from : Loaded → Nest → List Event → Kind → List Turned → ℕ → List Turned → ℕ
+called_from loaded nest trace k before n [] = n
+called_from loaded nest trace k before n (e ∷ rest) = called_from loaded nest trace k (before ++ e ∷ []) (called_next loaded nest trace k before n e) rest
 
-unfoldable pub called : Nest → List Event → List Turned → Kind → ℕ
-called nest trace log k = called_from nest trace k [] 0 log
+unfoldable pub called : Loaded → Nest → List Event → List Turned → Kind → ℕ
+called loaded nest trace log k = called_from loaded nest trace k [] 0 log
 
 -- ---- the rules of each step, which look at it and at the steps before
 
@@ -115,37 +128,37 @@ abbrev pub is_entry : Note → Bool
 is_entry (note.Enter t k) = true
 is_entry n = false
 
-pub record StepFits (nest : Nest) (cost : ℕ) (trace : List Event) (before : List Turned) (e : Turned) : Type 0 where
+pub record StepFits (loaded : Loaded) (nest : Nest) (cost : ℕ) (trace : List Event) (before : List Turned) (e : Turned) : Type 0 where
   pub later : after cost trace before ≤ e.tick
   -- no step stands in a stall
   pub free_at : free trace e.tick ≡ e.tick
   -- while a kind is open each step stands at the next tick
-  pub open_step : open_in before ≢ [] → e.tick ≡ after cost trace before
+  pub open_step : open_in loaded before ≢ [] → e.tick ≡ after cost trace before
   -- while none is open no kind is seen due at an earlier tick outside of stalls, and the step enters the highest kind that
   -- is seen due, or a higher one
-  pub idle : open_in before ≡ [] → (t : ℕ) → after cost trace before ≤ t → t < e.tick → free trace t ≡ t → (k : Kind) → sees trace (journal before) t k ≡ false
-  pub first : open_in before ≡ [] → (e.enters ≡ true) × ((k : Kind) → sees trace (journal before) e.tick k ≡ true → kind_number k ≤ kind_number e.kind)
+  pub idle : open_in loaded before ≡ [] → (t : ℕ) → after cost trace before ≤ t → t < e.tick → free trace t ≡ t → (k : Kind) → sees trace (journal loaded before) t k ≡ false
+  pub first : open_in loaded before ≡ [] → (e.enters ≡ true) × ((k : Kind) → sees trace (journal loaded before) e.tick k ≡ true → kind_number k ≤ kind_number e.kind)
   -- an entry is its I note, and other steps are those of the innermost kind
   pub entry : e.enters ≡ true → e.notes ≡ note.Enter (tick_at e.tick) (kind_number e.kind) ∷ []
-  pub own : e.enters ≡ false → innermost (open_in before) ≡ Some e.kind
+  pub own : e.enters ≡ false → innermost (open_in loaded before) ≡ Some e.kind
   -- an own step, the return too, stands where `next_step` leads from the entry, and is one of 1 to the most of its kind
   pub reached : e.enters ≡ false → e.tick ≡ uses cost trace (steps_since e.kind (before ++ e ∷ [])) (entered_at e.kind before)
   pub some : e.enters ≡ false → 1 ≤ own_steps e.kind (before ++ e ∷ [])
   pub few : e.enters ≡ false → own_steps e.kind (before ++ e ∷ []) ≤ most e.kind
-  -- its notes stand at its tick, at most six, and an own step has no I
+  -- its notes stand at its tick, and an own step has no I
   pub at_tick : All (λ n. time_of n ≡ e.tick) e.notes
   pub no_entry : e.enters ≡ false → All (λ n. is_entry n ≡ false) e.notes
   -- no kind that is seen due waits for more than 8 counted steps
-  pub patient : (k : Kind) → called nest trace (before ++ e ∷ []) k ≤ 8
+  pub patient : (k : Kind) → called loaded nest trace (before ++ e ∷ []) k ≤ 8
 
 -- no step is due at a tick below this one
-pub record Awaits (cost : ℕ) (trace : List Event) (until : ℕ) (log : List Turned) : Type 0 where
-  pub open_step : open_in log ≢ [] → until ≤ after cost trace log
-  pub idle : open_in log ≡ [] → (t : ℕ) → after cost trace log ≤ t → t < until → free trace t ≡ t → (k : Kind) → sees trace (journal log) t k ≡ false
+pub record Awaits (loaded : Loaded) (cost : ℕ) (trace : List Event) (until : ℕ) (log : List Turned) : Type 0 where
+  pub open_step : open_in loaded log ≢ [] → until ≤ after cost trace log
+  pub idle : open_in loaded log ≡ [] → (t : ℕ) → after cost trace log ≤ t → t < until → free trace t ≡ t → (k : Kind) → sees trace (journal loaded log) t k ≡ false
 
 -- an open activation has made fewer own steps than the most of its kind
-abbrev pub OpenFew : List Turned → Type 0
-OpenFew log = (k : Kind) → is_open (open_in log) k ≡ true → own_steps k log < most k
+abbrev pub OpenFew : Loaded → List Turned → Type 0
+OpenFew loaded log = (k : Kind) → is_open (open_in loaded log) k ≡ true → own_steps k log < most k
 
 -- each step stands below this tick
 abbrev pub Below : ℕ → List Turned → Type 0

@@ -1,4 +1,4 @@
--- What ties the core and the registers to what the notes and the trace say, by where CAP and TICK stand. Each fact holds
+-- What ties the core and the registers to what the notes and the trace say, by where CAP, TICK and MAIN stand. Each fact holds
 -- between any two steps, whatever higher kinds do meanwhile.
 use Rattle.std.specs.Prelude.{◌≡◌, ◌<◌, ◌≤◌, ◌+◌, ◌-◌, ◌/◌, ◌⊎◌, ℕ, Bool, true, false, List, length, take, Option, Some, None, All}
 use Rattle.esc_base.specs.declared.kind.Kind.{Kind}
@@ -6,6 +6,7 @@ use Rattle.esc_base.specs.declared.kind.Kind.TheVariants as kind
 use Rattle.esc_base.specs.declared.event.Event.{Event}
 use Rattle.esc_base.specs.declared.signal.Edge.{Edge}
 use Rattle.esc_base.specs.declared.signal.Mode.{Mode}
+use Rattle.esc_base.specs.declared.note.Note.{Note}
 use Rattle.esc_base.specs.Trace.{line}
 use Rattle.edge_capture.specs.Burst.{burst, close}
 use Rattle.edge_capture.specs.Edges.{IsInOrder}
@@ -13,13 +14,19 @@ use Rattle.edge_capture.specs.Modes.{most}
 use Rattle.edge_capture.specs.Window.{Window}
 use Rattle.timer_regs.specs.Bank.{Bank}
 use Rattle.timer_regs.specs.Effects.{mode_of}
+use Rattle.settings_block.specs.declared.stored.Loaded.{Loaded}
+use Rattle.arming.specs.ControlAt.{asked_at}
 use Rattle.interrupt_machine.specs.Open.{innermost, is_open}
 use Rattle.esc_core.specs.declared.state.CapAt.{CapAt}
 use Rattle.esc_core.specs.declared.state.CapAt.TheVariants as cap
 use Rattle.esc_core.specs.declared.state.TickAt.{TickAt}
 use Rattle.esc_core.specs.declared.state.TickAt.TheVariants as tick
+use Rattle.esc_core.specs.declared.state.MainAt.{MainAt}
+use Rattle.esc_core.specs.declared.state.MainAt.TheVariants as main
+use Rattle.esc_core.specs.declared.orders.Orders.{Orders}
 use Rattle.esc_core.specs.Brain.{Brain}
 use Rattle.esc_core.specs.Firmware.{left_of, need_of, tick_need}
+use Rattle.esc_laws.specs.Saves.{settings_at}
 use Rattle.esc_laws.specs.Place.{Signal, Silent, Listens, Judged, Rests, Place}
 
 -- what the core, the registers and the notes say of the signal line
@@ -148,11 +155,22 @@ TickTied tick.Read read time ticks = (read < time / 2400) × (ticks ≡ 0)
 TickTied tick.Lower read time ticks = ticks ≡ 1
 TickTied tick.Back read time ticks = ticks ≡ 1
 
+-- how far MAIN has come: whether a save is asked for, and the P since its entry
+abbrev pub MainTied : MainAt → Bool → ℕ → Type 0
+MainTied main.Shut save saves = Unit {0}
+MainTied main.Work save saves = (save ≡ true) × (saves ≡ 0)
+MainTied main.Back save saves = saves ≡ 1
+
+-- the settings in memory, and whether a save is asked for, are what the notes say, the newest first
+pub record OrdersTied (loaded : Loaded) (o : Orders) (back : List Note) : Type 0 where
+  pub settings_are : o.settings ≡ settings_at loaded.settings back
+  pub save_is : o.save ≡ asked_at back
+
 -- the kinds that are built
 abbrev pub IsBuilt : Kind → Type 0
 IsBuilt kind.Tick = Unit {0}
 IsBuilt kind.Cap = Unit {0}
-IsBuilt kind.Main = ⊥
+IsBuilt kind.Main = Unit {0}
 IsBuilt kind.Uart = ⊥
 IsBuilt kind.Cmp = ⊥
 IsBuilt kind.Pwm = ⊥

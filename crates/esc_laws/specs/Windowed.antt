@@ -7,12 +7,13 @@ use Rattle.esc_base.specs.Numbers.{mode_number, why_number}
 use Rattle.esc_base.specs.Journal.{Each}
 use Rattle.esc_base.specs.Trace.{line}
 use Rattle.edge_capture.specs.Burst.{burst, close}
+use Rattle.settings_block.specs.declared.stored.Loaded.{Loaded}
 use Rattle.timer_regs.specs.Effects.{mode_of}
 use Rattle.arming.specs.ControlAt.{mode_at}
 use Rattle.esc_core.specs.declared.judge.Judgement.{Judgement}
 use Rattle.esc_core.specs.declared.judge.Judgement.TheVariants.{Good, Bad, Found, Nothing}
 use Rattle.esc_core.specs.Cap.{bit_of, tick_at}
-use Rattle.esc_core.specs.Judge.{judged}
+use Rattle.esc_core.specs.Judge.{inputs_of, judged}
 use Rattle.esc_laws.specs.Place.{Signal, Silent, Listens, Judged, Rests, place}
 
 -- the F of a window
@@ -23,20 +24,20 @@ verdict_note t (Found mode) = note.Detected (tick_at t) (mode_number mode)
 verdict_note t Nothing = note.Nothing (tick_at t)
 
 -- An F at t answers the window that opened at w in this mode: it is the verdict on the window's burst, in an activation of
--- CAP that was entered at or after the window's close.
-pub record Answers (trace : List Event) (w m entered t : ℕ) (said : Note) : Type 0 where
+-- CAP that was entered at or after the window's close, with the inputs that the loaded settings allow.
+pub record Answers (loaded : Loaded) (trace : List Event) (w m entered t : ℕ) (said : Note) : Type 0 where
   pub closed_at : ℕ
   pub closes : close (line trace).edges w (mode_of m) ≡ Some closed_at
   pub waits : closed_at ≤ entered
   pub entered_before : entered ≤ t
-  pub verdict_is : said ≡ verdict_note t (judged (mode_of m) (burst (line trace).edges w (mode_of m)))
+  pub verdict_is : said ≡ verdict_note t (judged (inputs_of loaded.settings) (mode_of m) (burst (line trace).edges w (mode_of m)))
 
 -- W and F alternate, so an F answers the newest W
-abbrev pub AnswersAt : List Event → Signal → ℕ → ℕ → Note → Type 0
-AnswersAt trace (Listens w m) entered t said = Answers trace w m entered t said
-AnswersAt trace Silent entered t said = ⊥
-AnswersAt trace (Judged f opens) entered t said = ⊥
-AnswersAt trace (Rests f r) entered t said = ⊥
+abbrev pub AnswersAt : Loaded → List Event → Signal → ℕ → ℕ → Note → Type 0
+AnswersAt loaded trace (Listens w m) entered t said = Answers loaded trace w m entered t said
+AnswersAt loaded trace Silent entered t said = ⊥
+AnswersAt loaded trace (Judged f opens) entered t said = ⊥
+AnswersAt loaded trace (Rests f r) entered t said = ⊥
 
 -- The first window opens at tick 0. After a good frame and after a detection the next one opens in the same activation.
 -- After a bad window, and where nothing was detected, it opens in a later one, at least 600 ticks after the F.
@@ -53,14 +54,14 @@ MayReturn (Listens w m) = Unit {0}
 MayReturn (Judged f opens) = opens ≡ false
 MayReturn (Rests f r) = Unit {0}
 
-abbrev pub WindowRule : List Event → List Note → Note → Type 0
-WindowRule trace before (note.Window t m) = OpensAt (place before).signal t.0 × (m ≡ mode_at (reverse before))
-WindowRule trace before (note.Good t v q) = AnswersAt trace (place before).signal (place before).cap_entered t.0 (note.Good t v q)
-WindowRule trace before (note.Detected t m) = AnswersAt trace (place before).signal (place before).cap_entered t.0 (note.Detected t m)
-WindowRule trace before (note.Nothing t) = AnswersAt trace (place before).signal (place before).cap_entered t.0 (note.Nothing t)
-WindowRule trace before (note.Bad t w) = AnswersAt trace (place before).signal (place before).cap_entered t.0 (note.Bad t w)
-WindowRule trace before (note.Leave t k) = k ≡ 3 → MayReturn (place before).signal
-WindowRule trace before n = Unit {0}
+abbrev pub WindowRule : Loaded → List Event → List Note → Note → Type 0
+WindowRule loaded trace before (note.Window t m) = OpensAt (place before).signal t.0 × (m ≡ mode_at (reverse before))
+WindowRule loaded trace before (note.Good t v q) = AnswersAt loaded trace (place before).signal (place before).cap_entered t.0 (note.Good t v q)
+WindowRule loaded trace before (note.Detected t m) = AnswersAt loaded trace (place before).signal (place before).cap_entered t.0 (note.Detected t m)
+WindowRule loaded trace before (note.Nothing t) = AnswersAt loaded trace (place before).signal (place before).cap_entered t.0 (note.Nothing t)
+WindowRule loaded trace before (note.Bad t w) = AnswersAt loaded trace (place before).signal (place before).cap_entered t.0 (note.Bad t w)
+WindowRule loaded trace before (note.Leave t k) = k ≡ 3 → MayReturn (place before).signal
+WindowRule loaded trace before n = Unit {0}
 
-abbrev pub Windowed : List Event → List Note → Type 0
-Windowed trace notes = Each (WindowRule trace) [] notes
+abbrev pub Windowed : Loaded → List Event → List Note → Type 0
+Windowed loaded trace notes = Each (WindowRule loaded trace) [] notes
