@@ -18,14 +18,14 @@ use Rattle.timer_regs.specs.declared.regs.Reg.TheVariants as reg
 use Rattle.interrupt_machine.specs.Did.{NoAccess, Reads, Writes, accessed}
 use Rattle.esc_base.specs.declared.signal.Frame.{Frame}
 use Rattle.dshot_commands.specs.declared.act.Act.{Act}
-use Rattle.dshot_commands.specs.Act.{acting}
 use Rattle.arming.specs.Kept.{after_frame}
 use Rattle.esc_core.specs.declared.state.CapAt.TheVariants as cap
 use Rattle.esc_core.specs.declared.judge.Judgement.{Judgement}
 use Rattle.esc_core.specs.declared.judge.Judgement.TheVariants.{Good, Bad, Found, Nothing}
 use Rattle.esc_core.specs.Brain.{Brain}
+use Rattle.esc_core.specs.Orders.{obeyed_if}
 use Rattle.esc_core.specs.Stepped.{Stepped}
-use Rattle.esc_core.specs.Cap.{tick_at, bit_of, after_edges, after_copy, command_note, edge_of, judge_step, next_edge, opens, takes}
+use Rattle.esc_core.specs.Cap.{tick_at, bit_of, act_in, after_edges, after_copy, command_note, edge_of, judge_step, next_edge, opens, takes}
 use Rattle.esc_laws.specs.Place.{Signal, Silent, Listens, Judged, Rests, Place, next}
 use Rattle.esc_laws.specs.Windowed.{MayReturn}
 use Rattle.esc_laws.specs.Tied.{CapView, cap_view, Hears, IsClosing, IsCopying, IsListening, IsJudged, IsPaused, SignalTied, WindowSound}
@@ -207,7 +207,7 @@ copy_tied trace c b p w m rest e few sound small i =
 
 -- it judges
 good_tied : (o : Option Act) (frame : Frame) (trace : List Event) (c : Brain) (b : Bank) (p : Place) (w m : ℕ) → IsClosing (cap_view trace c b p) w m → TiedAfter trace b p (record {
-  core = record c { cap_at = cap.Open; control = after_frame c.control frame.value };
+  core = record c { cap_at = cap.Open; control = after_frame c.control frame.value; orders = obeyed_if c.orders o };
   access = NoAccess;
   notes = note.Good (tick_at b.time) frame.value (bit_of frame.telemetry) ∷ command_note b.time o;
   over = false;
@@ -216,7 +216,7 @@ good_tied None frame trace c b p w m i = (record { verdict = ap (λ (n : ℕ). n
 good_tied (Some act) frame trace c b p w m i = (record { verdict = ap (λ (n : ℕ). n + 1) i.no_verdict; taken = i.taken; running = i.hears.running; no_timer = i.hears.no_timer }, refl)
 
 pub judged_tied : (j : Judgement) (trace : List Event) (c : Brain) (b : Bank) (p : Place) (w m : ℕ) → IsClosing (cap_view trace c b p) w m → TiedAfter trace b p (judge_step j c b)
-judged_tied (Good frame) trace c b p w m i = good_tied (acting (after_frame c.control frame.value).run.frames frame.value) frame trace c b p w m i
+judged_tied (Good frame) trace c b p w m i = good_tied (act_in c frame) frame trace c b p w m i
 judged_tied (Bad why) trace c b p w m i = (record { verdict = ap (λ (n : ℕ). n + 1) i.no_verdict; taken = i.taken; running = i.hears.running; no_timer = i.hears.no_timer }, (refl, refl))
 judged_tied (Found mode) trace c b p w m i = (record { verdict = ap (λ (n : ℕ). n + 1) i.no_verdict; taken = i.taken; running = i.hears.running; no_timer = i.hears.no_timer }, refl)
 judged_tied Nothing trace c b p w m i = (record { verdict = ap (λ (n : ℕ). n + 1) i.no_verdict; taken = i.taken; running = i.hears.running; no_timer = i.hears.no_timer }, (refl, refl))

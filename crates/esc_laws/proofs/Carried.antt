@@ -7,6 +7,7 @@ use Rattle.esc_base.specs.declared.kind.Kind.TheVariants as kind
 use Rattle.esc_base.specs.declared.event.Event.{Event}
 use Rattle.esc_base.specs.declared.event.Event.TheVariants as event
 use Rattle.esc_base.specs.declared.note.Note.{Note}
+use Rattle.esc_base.specs.Flash.{Told}
 use Rattle.esc_base.specs.Journal.{IsLater, Journal}
 use Rattle.esc_base.specs.Trace.{differ}
 use Rattle.esc_base.proofs.TraceLaws.{line-push}
@@ -44,7 +45,7 @@ use Rattle.esc_laws.proofs.Start.{logged_start}
 use Rattle.esc_laws.proofs.Lines.{plain_ties, line_ties}
 use Rattle.esc_laws.proofs.Events.{SameRegs, Moved, ties_later, keeps_later, marks_later, patient_later, after_grows, past_more, event_logged}
 
-pub start_logged : (loaded : Loaded) (nest : Nest) (cost : ℕ) → Logged loaded nest cost [] 0 new_core first_bank [] []
+pub start_logged : (loaded : Loaded) (nest : Nest) (cost : ℕ) → Logged loaded nest cost [] 0 (new_core loaded.settings) first_bank [] []
 start_logged loaded nest cost = logged_start loaded nest cost
 
 -- ---- a step
@@ -55,27 +56,27 @@ entry_told : (loaded : Loaded) (nest : Nest) (cost : ℕ) (trace : List Event) (
     → Logged loaded nest cost trace (b.time + cost) c' b' stack' (log ++ record { tick = b.time; kind = k; enters = true; notes = notes } ∷ [])
 entry_told loaded nest cost trace c c' b b' stack stack' log notes k e f g h l = rw (e, f, g, h) l
 
-own_told : (loaded : Loaded) (nest : Nest) (cost : ℕ) (trace : List Event) (c c' : Brain) (b b' : Bank) (stack stack' : List Kind) (log : List Turned) (notes : List Note) (k : Kind) (outer : List Kind) (did : Did) → 1 ≤ cost
-    → Logged loaded nest cost trace b.time c b stack log → (b.masked ≡ false → next_entry nest stack (due_now false b) ≡ None) → stack ≡ k ∷ outer → IsStepped b (core_step k c b) did c' b'
+own_told : (loaded : Loaded) (nest : Nest) (cost : ℕ) (trace : List Event) (c c' : Brain) (b b' : Bank) (stack stack' : List Kind) (log : List Turned) (notes : List Note) (k : Kind) (outer : List Kind) (did : Did) (saved : Bool) → 1 ≤ cost
+    → Logged loaded nest cost trace b.time c b stack log → (b.masked ≡ false → next_entry nest stack (due_now c.orders.save b) ≡ None) → stack ≡ k ∷ outer → IsStepped b (core_step k saved c b) did c' b'
     → stack' ≡ open_after k outer did → notes ≡ own_notes b.hi b.lo b' k did
     → Logged loaded nest cost trace (b.time + cost) c' b' stack' (log ++ record { tick = b.time; kind = k; enters = false; notes = notes } ∷ [])
-own_told loaded nest cost trace c c' b b' stack stack' log notes k outer did some l none same stepped open_is notes_are =
+own_told loaded nest cost trace c c' b b' stack stack' log notes k outer did saved some l none same stepped open_is notes_are =
     let l' : Logged loaded nest cost trace b.time c b (k ∷ outer) log = subst (λ (st : List Kind). Logged loaded nest cost trace b.time c b st log) same l in
-    let none' : b.masked ≡ false → next_entry nest (k ∷ outer) (due_now false b) ≡ None = subst (λ (st : List Kind). b.masked ≡ false → next_entry nest st (due_now false b) ≡ None) same none in
-    let i : IsStepped b (stepped_by k c b) did c' b' = rw (core_step-goes k c b (steady k c b (k ∷ outer) l'.keeps refl)) at stepped in
-    let told = notes_are ∙ own_are k b b' (stepped_by k c b) did c' i in
-    let left = open_is ∙ left_is k outer did (stepped_by k c b).over i.over_is in
-    rw (i.core_is, i.bank_is, left, told) (own_turn loaded nest cost trace c b outer log k some l' none')
+    let none' : b.masked ≡ false → next_entry nest (k ∷ outer) (due_now c.orders.save b) ≡ None = subst (λ (st : List Kind). b.masked ≡ false → next_entry nest st (due_now c.orders.save b) ≡ None) same none in
+    let i : IsStepped b (stepped_by k saved c b) did c' b' = rw (core_step-goes k saved c b (steady k c b (k ∷ outer) l'.keeps refl)) at stepped in
+    let told = notes_are ∙ own_are k b b' (stepped_by k saved c b) did c' i in
+    let left = open_is ∙ left_is k outer did (stepped_by k saved c b).over i.over_is in
+    rw (i.core_is, i.bank_is, left, told) (own_turn loaded nest cost trace c b outer log k saved some l' none')
 
-pub turn_logged : (loaded : Loaded) (nest : Nest) (cost : ℕ) (trace : List Event) (c c' : Brain) (b b' : Bank) (stack stack' : List Kind) (log : List Turned) (notes : List Note)
-    → 1 ≤ cost → b.time + cost < 2147483648 → Logged loaded nest cost trace b.time c b stack log → is_idle stack (due_now false b) ≡ false
-    → (t : CoreTurn nest c stack b notes c' stack' b')
+pub turn_logged : (loaded : Loaded) (nest : Nest) (cost : ℕ) (trace : List Event) (c c' : Brain) (b b' : Bank) (flash flash' : Told) (stack stack' : List Kind) (log : List Turned) (notes : List Note)
+    → 1 ≤ cost → b.time + cost < 2147483648 → Logged loaded nest cost trace b.time c b stack log → is_idle stack (due_now c.orders.save b) ≡ false
+    → (t : CoreTurn nest c stack b flash notes c' stack' b' flash')
     → Logged loaded nest cost trace (b.time + cost) c' b' stack' (log ++ turned b.time notes t ∷ [])
-turn_logged loaded nest cost trace c c' b b' stack stack' log notes some small l busy (inl e) =
+turn_logged loaded nest cost trace c c' b b' flash flash' stack stack' log notes some small l busy (inl e) =
     entry_told loaded nest cost trace c c' b b' stack stack' log notes e.0 e.1.entered e.1.regs_are e.1.stack_is e.1.notes_are
     (entry_turn loaded nest cost trace c b stack log e.0 some l e.1.unmasked e.1.chosen)
-turn_logged loaded nest cost trace c c' b b' stack stack' log notes some small l busy (inr e) =
-    own_told loaded nest cost trace c c' b b' stack stack' log notes e.0 e.1 e.2 some l e.3.none_enters e.3.innermost_is e.3.stepped e.3.stack_is e.3.notes_are
+turn_logged loaded nest cost trace c c' b b' flash flash' stack stack' log notes some small l busy (inr e) =
+    own_told loaded nest cost trace c c' b b' stack stack' log notes e.0 e.1 e.2 e.3.stepped.saved some l e.3.none_enters e.3.innermost_is e.3.stepped.stepped e.3.stack_is e.3.notes_are
 
 -- ---- time
 
@@ -107,14 +108,15 @@ none_open [] due idle = (refl, none_of (highest due) idle)
     none_of (Some k) e = cc
 none_open (k ∷ outer) due idle = cc
 
-due_by_regs : (b : Bank) (k : Kind) → due_now false b k ≡ is_due b k
-due_by_regs b kind.Main = refl
-due_by_regs b kind.Uart = refl
-due_by_regs b kind.Tick = refl
-due_by_regs b kind.Cap = refl
-due_by_regs b kind.Cmp = refl
-due_by_regs b kind.Pwm = refl
-due_by_regs b kind.Comm = refl
+-- time makes a kind due by the registers alone
+due_by_regs : (w : Bool) (b : Bank) (u : ℕ) (k : Kind) → due_now w b k ≡ false → (is_due b k ≡ false → is_due (advanced b u) k ≡ false) → due_now w (advanced b u) k ≡ false
+due_by_regs w b u kind.Main e f = e
+due_by_regs w b u kind.Uart e f = f e
+due_by_regs w b u kind.Tick e f = f e
+due_by_regs w b u kind.Cap e f = f e
+due_by_regs w b u kind.Cmp e f = f e
+due_by_regs w b u kind.Pwm e f = f e
+due_by_regs w b u kind.Comm e f = f e
 
 stays_shut : (x y : Bool) → x ≡ false → (not x && y) ≡ false → y ≡ false
 stays_shut true y e f = cc
@@ -126,13 +128,13 @@ none_before (Some d) b k t u is le from below = is.none_before k u from (let m =
 
 -- while nothing is due nothing is seen due
 none_seen : (loaded : Loaded) (nest : Nest) (trace : List Event) (c : Brain) (b : Bank) (log : List Turned) (due : Option ℕ) (t u : ℕ) (k : Kind) → Keeps c b [] → Marks loaded nest trace c b [] log → Ties loaded trace c b log
-    → highest (due_now false b) ≡ None → IsNextDue b due → ((d : ℕ) → due ≡ Some d → t ≤ d) → b.time ≤ u → u < t → t < 2147483648 → sees trace (journal loaded log) u k ≡ false
+    → highest (due_now c.orders.save b) ≡ None → IsNextDue b due → ((d : ℕ) → due ≡ Some d → t ≤ d) → b.time ≤ u → u < t → t < 2147483648 → sees trace (journal loaded log) u k ≡ false
 none_seen loaded nest trace c b log due t u k keeps m ties none is le from below small = by_seen (sees trace (journal loaded log) u k) refl
   where
-    shut_now : due_now false (advanced b u) k ≡ false
+    shut_now : due_now c.orders.save (advanced b u) k ≡ false
     shut_now = elim (same_or_later (nat_lt b.time u) refl) [
-      | inl same ↦ rw (sym same) (highest_none (due_now false b) k none)
-      | inr later ↦ due_by_regs (advanced b u) k ∙ stays_shut (is_due b k) (is_due (advanced b u) k) (sym (due_by_regs b k) ∙ highest_none (due_now false b) k none) (none_before due b k t u is le later below)
+      | inl same ↦ rw (sym same) (highest_none (due_now c.orders.save b) k none)
+      | inr later ↦ due_by_regs c.orders.save b u k (highest_none (due_now c.orders.save b) k none) (λ e. stays_shut (is_due b k) (is_due (advanced b u) k) e (none_before due b k t u is le later below))
     ]
       where
         same_or_later : (v : Bool) → nat_lt b.time u ≡ v → (b.time ≡ u) ⊎ (b.time < u)
@@ -153,10 +155,10 @@ none_seen loaded nest trace c b log due t u k keeps m ties none is le from below
 
 -- nothing is due, and nothing becomes due before t
 pub jump_logged : (loaded : Loaded) (nest : Nest) (cost : ℕ) (trace : List Event) (c : Brain) (b : Bank) (stack : List Kind) (log : List Turned) (due : Option ℕ) (t : ℕ)
-    → is_idle stack (due_now false b) ≡ true → IsNextDue b due → b.time ≤ t → t < 2147483648 → ((d : ℕ) → due ≡ Some d → t ≤ d)
+    → is_idle stack (due_now c.orders.save b) ≡ true → IsNextDue b due → b.time ≤ t → t < 2147483648 → ((d : ℕ) → due ≡ Some d → t ≤ d)
     → Logged loaded nest cost trace b.time c b stack log → Logged loaded nest cost trace t c (advanced b t) stack log
 jump_logged loaded nest cost trace c b stack log due t idle is later small le l =
-    let rest = none_open stack (due_now false b) idle in
+    let rest = none_open stack (due_now c.orders.save b) idle in
     let open_none : open_in loaded log ≡ [] = sym l.marks.stack_is ∙ rest.0 in
     let keeps : Keeps c b [] = subst (λ (st : List Kind). Keeps c b st) rest.0 l.keeps in
     let marks : Marks loaded nest trace c b [] log = subst (λ (st : List Kind). Marks loaded nest trace c b st log) rest.0 l.marks in

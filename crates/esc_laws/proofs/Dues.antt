@@ -40,14 +40,14 @@ rested_by f r t e = let l : max (f + 1200) r ≤ t = le_from (max (f + 1200) r) 
     le_from m n e = grind (arith, nat_tests)
 
 -- a CAP that the notes call for is due
-pub cap_called : (s : Signal) (trace : List Event) (c : Brain) (b : Bank) (p : Place) → SignalTied s cap.Shut (cap_view trace c b p) → calls_cap trace s b.time ≡ true → due_now false b kind.Cap ≡ true
-cap_called Silent trace c b p i e = absurd i
-cap_called (Listens w m) trace c b p i e =
-    cap_due_window b
+pub cap_called : (due : Bool) (s : Signal) (trace : List Event) (c : Brain) (b : Bank) (p : Place) → SignalTied s cap.Shut (cap_view trace c b p) → calls_cap trace s b.time ≡ true → due_now due b kind.Cap ≡ true
+cap_called due Silent trace c b p i e = absurd i
+cap_called due (Listens w m) trace c b p i e =
+    cap_due_window due b
     (heard_closed (cap_view trace c b p) w m i.hears (sym (reached_closed (mode_of m) (burst (line trace).edges w (mode_of m)) b.time) ∙ e))
     i.untaken
-cap_called (Judged f opens_next) trace c b p i e = absurd i
-cap_called (Rests f r) trace c b p i e = cap_due_timer b (f + 600) i.timer (rested_by f r b.time e)
+cap_called due (Judged f opens_next) trace c b p i e = absurd i
+cap_called due (Rests f r) trace c b p i e = cap_due_timer due b (f + 600) i.timer (rested_by f r b.time e)
 
 -- ---- CAP is entered
 
@@ -73,11 +73,11 @@ closed_by m heard t e =
 abbrev pub cap_place : Place → ℕ → Place
 cap_place p t = next p (note.Enter (tick_at t) 3)
 
-pub cap_entered : (s : Signal) (trace : List Event) (c : Brain) (b : Bank) (p : Place) → p.signal ≡ s → SignalTied s cap.Shut (cap_view trace c b p) → due_now false b kind.Cap ≡ true
+pub cap_entered : (due : Bool) (s : Signal) (trace : List Event) (c : Brain) (b : Bank) (p : Place) → p.signal ≡ s → SignalTied s cap.Shut (cap_view trace c b p) → due_now due b kind.Cap ≡ true
     → SignalTied (cap_place p b.time).signal cap.Start (cap_view trace (entered_core c kind.Cap) (after_entry b kind.Cap) (cap_place p b.time))
-cap_entered Silent trace c b p e i d = absurd i
-cap_entered (Listens w m) trace c b p e i d =
-    let readable : is_readable b ≡ true = due_window b i.hears.no_timer d in
+cap_entered due Silent trace c b p e i d = absurd i
+cap_entered due (Listens w m) trace c b p e i d =
+    let readable : is_readable b ≡ true = due_window due b i.hears.no_timer d in
     let by = closed_by (mode_of m) (burst (line trace).edges w (mode_of m)) b.time (closed_heard (cap_view trace c b p) w m i.hears readable) in
     rw e (record {
       hears = record { armed = i.hears.armed; mode = i.hears.mode; opened = i.hears.opened; edges = i.hears.edges; core_mode = i.hears.core_mode; running = i.hears.running; no_timer = refl };
@@ -89,13 +89,13 @@ cap_entered (Listens w m) trace c b p e i d =
       no_window = refl;
       no_verdict = refl;
     })
-cap_entered (Judged f opens_next) trace c b p e i d = absurd i
-cap_entered (Rests f r) trace c b p e i d =
+cap_entered due (Judged f opens_next) trace c b p e i d = absurd i
+cap_entered due (Rests f r) trace c b p e i d =
     rw e (record {
       taken = or_left b.taken (is_readable b) i.taken;
       paused = i.paused;
       no_timer = refl;
-      reached = due_timer b (f + 600) i.timer i.taken d;
+      reached = due_timer due b (f + 600) i.timer i.taken d;
       no_window = refl;
       no_verdict = refl;
     })

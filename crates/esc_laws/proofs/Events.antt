@@ -42,6 +42,8 @@ ties_later loaded trace c b log u le small t = record {
       (time_follows (cap_view trace c b (place (journal loaded log))) u le) t.signal;
   window = record { past = All-later (λ e. e.t.0) b.window.edges b.time u le t.window.past; order = t.window.order; few = t.window.few };
   tick = tick_later c.tick_at b.number_read b.time u (place (journal loaded log)).ticks le t.tick;
+  main = t.main;
+  orders = t.orders;
   number = t.number;
   read = (let r = t.read in omega arith);
   level = t.level;

@@ -21,8 +21,10 @@ use Rattle.esc_core.specs.declared.state.CapAt.{CapAt}
 use Rattle.esc_core.specs.declared.state.CapAt.TheVariants as cap
 use Rattle.esc_core.specs.declared.state.TickAt.{TickAt}
 use Rattle.esc_core.specs.declared.state.TickAt.TheVariants as tick
+use Rattle.esc_core.specs.declared.state.MainAt.{MainAt}
+use Rattle.esc_core.specs.declared.state.MainAt.TheVariants as main
 use Rattle.esc_core.specs.Cap.{edge_of, tick_at}
-use Rattle.esc_core.specs.Firmware.{cap_left, tick_left}
+use Rattle.esc_core.specs.Firmware.{cap_left, tick_left, main_left}
 use Rattle.esc_laws.specs.Tied.{IsBuilt}
 
 pub by_bool : (v : Bool) → (v ≡ true) ⊎ (v ≡ false)
@@ -75,23 +77,23 @@ plain_notes b b' k did s =
 
 -- ---- which kinds are due
 
-pub due_built : (b : Bank) (k : Kind) → due_now false b k ≡ true → IsBuilt k
-due_built b kind.Tick d = tt
-due_built b kind.Cap d = tt
-due_built b kind.Main d = cc
-due_built b kind.Uart d = cc
-due_built b kind.Cmp d = cc
-due_built b kind.Pwm d = cc
-due_built b kind.Comm d = cc
+pub due_built : (w : Bool) (b : Bank) (k : Kind) → due_now w b k ≡ true → IsBuilt k
+due_built w b kind.Tick d = tt
+due_built w b kind.Cap d = tt
+due_built w b kind.Main d = tt
+due_built w b kind.Uart d = cc
+due_built w b kind.Cmp d = cc
+due_built w b kind.Pwm d = cc
+due_built w b kind.Comm d = cc
 
-pub tick_due : (b : Bank) → b.number_read < b.time / 2400 → due_now false b kind.Tick ≡ true
-tick_due b l = other (b.time / 2400) b.number_read l
+pub tick_due : (w : Bool) (b : Bank) → b.number_read < b.time / 2400 → due_now w b kind.Tick ≡ true
+tick_due w b l = other (b.time / 2400) b.number_read l
   where
     other : (n m : ℕ) → m < n → not (n == m) ≡ true
     other n m l = grind (arith, nat_tests)
 
-pub due_tick : (b : Bank) → b.number_read ≤ b.time / 2400 → due_now false b kind.Tick ≡ true → b.number_read < b.time / 2400
-due_tick b le d = less (b.time / 2400) b.number_read le d
+pub due_tick : (w : Bool) (b : Bank) → b.number_read ≤ b.time / 2400 → due_now w b kind.Tick ≡ true → b.number_read < b.time / 2400
+due_tick w b le d = less (b.time / 2400) b.number_read le d
   where
     less : (n m : ℕ) → m ≤ n → not (n == m) ≡ true → m < n
     less n m le e = grind (arith, nat_tests)
@@ -113,8 +115,8 @@ both true b e = (refl, e)
 both false b e = cc
 
 -- a closed window that wasn't taken, or a timer that was reached
-pub cap_due_window : (b : Bank) → is_readable b ≡ true → b.taken ≡ false → due_now false b kind.Cap ≡ true
-cap_due_window b r n = or_left (is_readable b && not b.taken) (is_reached b.timer b.time) (rw (r, n) refl)
+pub cap_due_window : (w : Bool) (b : Bank) → is_readable b ≡ true → b.taken ≡ false → due_now w b kind.Cap ≡ true
+cap_due_window w b r n = or_left (is_readable b && not b.taken) (is_reached b.timer b.time) (rw (r, n) refl)
 
 reached_by : (at t : ℕ) → at ≤ t → nat_le at t ≡ true
 reached_by at t le = grind (arith, nat_tests)
@@ -125,18 +127,18 @@ reached_some o at t e le = rw e (reached_by at t le)
 pub reached_from : (at t : ℕ) → nat_le at t ≡ true → at ≤ t
 reached_from at t e = grind (arith, nat_tests)
 
-pub cap_due_timer : (b : Bank) (at : ℕ) → b.timer ≡ Some at → at ≤ b.time → due_now false b kind.Cap ≡ true
-cap_due_timer b at e le = or_right (is_readable b && not b.taken) (is_reached b.timer b.time) (reached_some b.timer at b.time e le)
+pub cap_due_timer : (w : Bool) (b : Bank) (at : ℕ) → b.timer ≡ Some at → at ≤ b.time → due_now w b kind.Cap ≡ true
+cap_due_timer w b at e le = or_right (is_readable b && not b.taken) (is_reached b.timer b.time) (reached_some b.timer at b.time e le)
 
-pub due_window : (b : Bank) → b.timer ≡ None → due_now false b kind.Cap ≡ true → is_readable b ≡ true
-due_window b e d = window_at (is_readable b) b.taken (is_reached b.timer b.time) (rw e refl) d
+pub due_window : (w : Bool) (b : Bank) → b.timer ≡ None → due_now w b kind.Cap ≡ true → is_readable b ≡ true
+due_window w b e d = window_at (is_readable b) b.taken (is_reached b.timer b.time) (rw e refl) d
   where
     window_at : (r n t : Bool) → t ≡ false → ((r && not n) || t) ≡ true → r ≡ true
     window_at true n t e d = refl
     window_at false n t e d = (let z = sym e ∙ d in cc)
 
-pub due_timer : (b : Bank) (at : ℕ) → b.timer ≡ Some at → b.taken ≡ true → due_now false b kind.Cap ≡ true → at ≤ b.time
-due_timer b at e n d = reached_from at b.time (subst (λ (o : Option ℕ). is_reached o b.time ≡ true) e (timer_at (is_readable b) b.taken (is_reached b.timer b.time) n d))
+pub due_timer : (w : Bool) (b : Bank) (at : ℕ) → b.timer ≡ Some at → b.taken ≡ true → due_now w b kind.Cap ≡ true → at ≤ b.time
+due_timer w b at e n d = reached_from at b.time (subst (λ (o : Option ℕ). is_reached o b.time ≡ true) e (timer_at (is_readable b) b.taken (is_reached b.timer b.time) n d))
   where
     timer_at : (r n t : Bool) → n ≡ true → ((r && not n) || t) ≡ true → t ≡ true
     timer_at true true t e d = d
@@ -160,6 +162,11 @@ tick_shut tick.Raise e = absurd (omega arith)
 tick_shut tick.Read e = absurd (omega arith)
 tick_shut tick.Lower e = absurd (omega arith)
 tick_shut tick.Back e = absurd (omega arith)
+
+pub main_shut : (at : MainAt) → main_left at ≡ 0 → at ≡ main.Shut
+main_shut main.Shut e = refl
+main_shut main.Work e = absurd (omega arith)
+main_shut main.Back e = absurd (omega arith)
 
 -- ---- modes and edges by their numbers
 

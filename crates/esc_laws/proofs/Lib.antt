@@ -1,8 +1,10 @@
 pub mod Pushes
 pub mod Growth
 pub mod StepGrowth
+pub mod MainSteps
 pub mod Notes
 pub mod Facts
+pub mod Saves
 pub mod CapTies
 pub mod OwnSteps
 pub mod TickSteps

@@ -53,6 +53,8 @@ plain_ties loaded trace e c b log same le t = record {
       (plain_follows trace e c b (place (journal loaded log)) same le) t.signal;
   window = t.window;
   tick = t.tick;
+  main = t.main;
+  orders = t.orders;
   number = t.number;
   read = t.read;
   level = rw same t.level;
@@ -232,6 +234,8 @@ edge_ties loaded true trace c b log level d t =
           (edge_follows trace c b (place (journal loaded log)) level (ap (λ (l : Line). l.edges) new)) t.signal;
       window = edge_sound b.window x t.window;
       tick = t.tick;
+      main = t.main;
+      orders = t.orders;
       number = t.number;
       read = t.read;
       level = ap (λ (l : Line). l.level) (sym new);

@@ -18,20 +18,23 @@ use Rattle.arming.specs.Decide.{decide}
 use Rattle.arming.specs.Kept.{after_tick, view_of}
 use Rattle.esc_core.specs.declared.state.CapAt.{CapAt}
 use Rattle.esc_core.specs.declared.state.TickAt.{TickAt}
+use Rattle.esc_core.specs.declared.state.MainAt.{MainAt}
 use Rattle.esc_core.specs.declared.state.TickAt.TheVariants as tick
 use Rattle.esc_core.specs.Brain.{Brain}
 use Rattle.esc_core.specs.Stepped.{Stepped, goes_on}
 use Rattle.esc_core.specs.Cap.{cap_step}
 use Rattle.esc_core.specs.Tick.{tick_notes, ticked, tick_step}
-use Rattle.esc_core.specs.Firmware.{cap_left, tick_left, left_of, need_of, tick_need, kind_step, counted_down}
-use Rattle.esc_core.proofs.Bounds.{CapMoves, cap_moves, Bounds}
+use Rattle.esc_core.specs.Background.{main_step}
+use Rattle.esc_core.specs.Firmware.{cap_left, tick_left, main_left, left_of, need_of, tick_need, kind_step, counted_down}
+use Rattle.esc_core.proofs.Bounds.{CapMoves, cap_moves, MainMoves, main_moves, Bounds}
 use Rattle.esc_laws.specs.Place.{place}
 use Rattle.esc_laws.specs.Steps.{opening}
-use Rattle.esc_laws.specs.Tied.{Keeps, SignalTied, cap_view, TickTied, IsBuilt}
+use Rattle.esc_laws.specs.Tied.{Keeps, SignalTied, cap_view, TickTied, MainTied, IsBuilt}
 use Rattle.esc_laws.proofs.Facts.{or_right}
 use Rattle.esc_laws.proofs.OwnSteps.{OwnIn, OwnOut, StepOut, cap_out}
 use Rattle.esc_laws.proofs.TickSteps.{tick_out}
-use Rattle.esc_laws.proofs.OwnTurns.{step_notes, open_left, cap_goes, tick_goes, goes_out, cap_back, tick_back}
+use Rattle.esc_laws.proofs.MainSteps.{main_out}
+use Rattle.esc_laws.proofs.OwnTurns.{step_notes, open_left, cap_goes, tick_goes, main_goes, goes_out, cap_back, tick_back, main_back}
 
 -- ---- the mask
 
@@ -97,6 +100,12 @@ cap_shut at c b l e = elim (cap_goes at c b l) [
   | inr on ↦ (let z : false ≡ true = sym on.2 ∙ e in cc)
 ]
 
+main_shut : (at : MainAt) (saved : Bool) (c : Brain) (b : Bank) → 0 < main_left at → (main_step saved at c b).over ≡ true → main_left (main_step saved at c b).core.main_at ≡ 0
+main_shut at saved c b l e = elim (main_goes at saved c b l) [
+  | inl back ↦ rw back refl
+  | inr on ↦ (let z : false ≡ true = sym on.2 ∙ e in cc)
+]
+
 -- ---- what holds between any two steps
 
 -- what a step of a handler does to the places and the mask
@@ -106,8 +115,9 @@ pub record Moves (k : Kind) (c : Brain) (b : Bank) (outer : List Kind) (s : Step
   pub stands : tick_need s.core.tick_at ≤ 8 → ((accessed b s.access).masked ≡ true) × (innermost (open_left k outer s) ≡ Some kind.Tick)
   pub left : s.over ≡ true → left_of s.core k ≡ 0
 
-cap_down : (c : Brain) (b : Bank) (outer : List Kind) → Keeps c b (kind.Cap ∷ outer) → b.masked ≡ false
-cap_down c b outer keeps = by_mask b.masked c.hold keeps.hold (λ m. keeps.enough m kind.Cap refl)
+-- a kind that never stands under the mask finds it down
+down_at : (k : Kind) (c : Brain) (b : Bank) (outer : List Kind) → need_of c k ≡ 9 → Keeps c b (k ∷ outer) → b.masked ≡ false
+down_at k c b outer nine keeps = by_mask b.masked c.hold keeps.hold (λ m. subst (λ (n : ℕ). n ≤ c.hold) nine (keeps.enough m k refl))
   where
     by_mask : (m : Bool) (h : ℕ) → h ≤ 8 → (m ≡ true → 9 ≤ h) → m ≡ false
     by_mask true h le f = absurd (let n = f refl in omega arith)
@@ -117,8 +127,8 @@ still_tick : (v : Bool) (outer : List Kind) → v ≡ false → innermost (if v 
 still_tick true outer e = cc
 still_tick false outer e = refl
 
-moves : (k : Kind) → IsBuilt k → (c : Brain) (b : Bank) (outer : List Kind) → Keeps c b (k ∷ outer) → 0 < left_of c k → Moves k c b outer (kind_step k (counted_down c b) b)
-moves kind.Tick t c b outer keeps l =
+moves : (k : Kind) → IsBuilt k → (saved : Bool) (c : Brain) (b : Bank) (outer : List Kind) → Keeps c b (k ∷ outer) → 0 < left_of c k → Moves k c b outer (kind_step k saved (counted_down c b) b)
+moves kind.Tick t saved c b outer keeps l =
     let m = tick_mask c.tick_at c b l keeps.hold (λ up. keeps.enough up kind.Tick refl) (λ n. (keeps.tick_masked n).0) in
     record {
       hold = tick_hold c.tick_at (counted_down c b) b (counted_most b.masked c.hold keeps.hold);
@@ -126,8 +136,8 @@ moves kind.Tick t c b outer keeps l =
       stands = λ n. ((m.stands n).0, still_tick (tick_step c.tick_at (counted_down c b) b).over outer (m.stands n).1);
       left = tick_shut c.tick_at (counted_down c b) b l;
     }
-moves kind.Cap t c b outer keeps l =
-    let down = cap_down c b outer keeps in
+moves kind.Cap t saved c b outer keeps l =
+    let down = down_at kind.Cap c b outer refl keeps in
     let s : CapMoves (cap_left c.cap_at) (counted_down c b) b (cap_step c.cap_at (counted_down c b) b) = cap_moves c.cap_at (counted_down c b) b l in
     record {
       hold = rw s.hold (counted_most b.masked c.hold keeps.hold);
@@ -135,11 +145,19 @@ moves kind.Cap t c b outer keeps l =
       stands = λ n. (let inner = (keeps.tick_masked (rw s.tick at n)).1 in let z : Some kind.Cap ≡ Some kind.Tick = inner in cc);
       left = cap_shut c.cap_at (counted_down c b) b l;
     }
-moves kind.Main t c b outer keeps l = absurd t
-moves kind.Uart t c b outer keeps l = absurd t
-moves kind.Cmp t c b outer keeps l = absurd t
-moves kind.Pwm t c b outer keeps l = absurd t
-moves kind.Comm t c b outer keeps l = absurd t
+moves kind.Main t saved c b outer keeps l =
+    let down = down_at kind.Main c b outer refl keeps in
+    let s : MainMoves (main_left c.main_at) (counted_down c b) b (main_step saved c.main_at (counted_down c b) b) = main_moves c.main_at saved (counted_down c b) b l in
+    record {
+      hold = rw s.hold (counted_most b.masked c.hold keeps.hold);
+      enough = λ m. (let z : false ≡ true = sym down ∙ sym s.masked ∙ m in cc);
+      stands = λ n. (let inner = (keeps.tick_masked (rw s.tick at n)).1 in let z : Some kind.Main ≡ Some kind.Tick = inner in cc);
+      left = main_shut c.main_at saved (counted_down c b) b l;
+    }
+moves kind.Uart t saved c b outer keeps l = absurd t
+moves kind.Cmp t saved c b outer keeps l = absurd t
+moves kind.Pwm t saved c b outer keeps l = absurd t
+moves kind.Comm t saved c b outer keeps l = absurd t
 
 inner_is : (v : Bool) (k j : Kind) (outer : List Kind) → v ≡ false → innermost (if v then outer else k ∷ outer) ≡ Some j → k ≡ j
 inner_is true k j outer e i = cc
@@ -171,11 +189,11 @@ built_left : (v : Bool) (k : Kind) (outer : List Kind) → ((j : Kind) → is_op
 built_left true k outer built j o = built j (or_right (kind_number k == kind_number j) (is_open outer j) o)
 built_left false k outer built j o = built j o
 
-pub keeps_own : (k : Kind) (c : Brain) (b : Bank) (outer : List Kind) → IsBuilt k → IsStack (k ∷ outer) → Keeps c b (k ∷ outer) → 0 < left_of c k → Bounds k c b (kind_step k (counted_down c b) b)
-    → Keeps (kind_step k (counted_down c b) b).core (accessed b (kind_step k (counted_down c b) b).access) (open_left k outer (kind_step k (counted_down c b) b))
-keeps_own k c b outer t sorted keeps l bounds =
-    let s : Stepped = kind_step k (counted_down c b) b in
-    let m = moves k t c b outer keeps l in
+pub keeps_own : (k : Kind) (saved : Bool) (c : Brain) (b : Bank) (outer : List Kind) → IsBuilt k → IsStack (k ∷ outer) → Keeps c b (k ∷ outer) → 0 < left_of c k → Bounds k c b (kind_step k saved (counted_down c b) b)
+    → Keeps (kind_step k saved (counted_down c b) b).core (accessed b (kind_step k saved (counted_down c b) b).access) (open_left k outer (kind_step k saved (counted_down c b) b))
+keeps_own k saved c b outer t sorted keeps l bounds =
+    let s : Stepped = kind_step k saved (counted_down c b) b in
+    let m = moves k t saved c b outer keeps l in
     record {
       hold = m.hold;
       enough = λ up j i. (let e = m.enough up in subst (λ (x : Kind). need_of s.core x ≤ s.core.hold) (inner_is s.over k j outer e.1 i) e.0);
@@ -194,6 +212,8 @@ counted_in loaded nest trace c b rest i = record {
   signal = i.signal;
   window = i.window;
   tick = i.tick;
+  main = i.main;
+  orders = i.orders;
   number = i.number;
   read = i.read;
   edges = i.edges;
@@ -222,12 +242,23 @@ tick_turn loaded nest trace c b rest outer i same l = elim (tick_goes c.tick_at 
     inside : (stack : List Kind) (k : Kind) (outer : List Kind) → stack ≡ k ∷ outer → innermost stack ≡ Some k
     inside stack k outer e = rw e refl
 
-pub own_out : (loaded : Loaded) (k : Kind) → IsBuilt k → (nest : Nest) (trace : List Event) (c : Brain) (b : Bank) (rest : List Note) (outer : List Kind) → OwnIn loaded nest trace c b rest → (place (opening loaded ++ rest)).stack ≡ k ∷ outer → 0 < left_of c k
-    → OwnOut loaded nest trace (kind_step k (counted_down c b) b).core b (accessed b (kind_step k (counted_down c b) b).access) (rest ++ step_notes b.time k (kind_step k (counted_down c b) b)) (open_left k outer (kind_step k (counted_down c b) b))
-own_out loaded kind.Tick t nest trace c b rest outer i same l = tick_turn loaded nest trace (counted_down c b) b rest outer (counted_in loaded nest trace c b rest i) same l
-own_out loaded kind.Cap t nest trace c b rest outer i same l = cap_turn loaded nest trace (counted_down c b) b rest outer (counted_in loaded nest trace c b rest i) same l
-own_out loaded kind.Main t nest trace c b rest outer i same l = absurd t
-own_out loaded kind.Uart t nest trace c b rest outer i same l = absurd t
-own_out loaded kind.Cmp t nest trace c b rest outer i same l = absurd t
-own_out loaded kind.Pwm t nest trace c b rest outer i same l = absurd t
-own_out loaded kind.Comm t nest trace c b rest outer i same l = absurd t
+main_turn : (loaded : Loaded) (nest : Nest) (trace : List Event) (saved : Bool) (c : Brain) (b : Bank) (rest : List Note) (outer : List Kind) → OwnIn loaded nest trace c b rest → (place (opening loaded ++ rest)).stack ≡ kind.Main ∷ outer → 0 < main_left c.main_at
+    → OwnOut loaded nest trace (main_step saved c.main_at c b).core b (accessed b (main_step saved c.main_at c b).access) (rest ++ step_notes b.time kind.Main (main_step saved c.main_at c b)) (open_left kind.Main outer (main_step saved c.main_at c b))
+main_turn loaded nest trace saved c b rest outer i same l = elim (main_goes c.main_at saved c b l) [
+  | inl back ↦ rw back (main_back loaded nest trace c b rest outer i same (subst (λ (at : MainAt). MainTied at c.orders.save (place (opening loaded ++ rest)).saves) back i.main))
+  | inr on ↦ goes_out loaded nest trace b rest (main_step saved c.main_at c b) kind.Main outer on.2
+      (subst (λ (st : List Kind). StepOut loaded nest trace b rest (main_step saved c.main_at c b) st) same (main_out loaded nest trace c b rest saved on.0 on.1 i (inside (place (opening loaded ++ rest)).stack kind.Main outer same)))
+]
+  where
+    inside : (stack : List Kind) (k : Kind) (outer : List Kind) → stack ≡ k ∷ outer → innermost stack ≡ Some k
+    inside stack k outer e = rw e refl
+
+pub own_out : (loaded : Loaded) (k : Kind) → IsBuilt k → (saved : Bool) (nest : Nest) (trace : List Event) (c : Brain) (b : Bank) (rest : List Note) (outer : List Kind) → OwnIn loaded nest trace c b rest → (place (opening loaded ++ rest)).stack ≡ k ∷ outer → 0 < left_of c k
+    → OwnOut loaded nest trace (kind_step k saved (counted_down c b) b).core b (accessed b (kind_step k saved (counted_down c b) b).access) (rest ++ step_notes b.time k (kind_step k saved (counted_down c b) b)) (open_left k outer (kind_step k saved (counted_down c b) b))
+own_out loaded kind.Tick t saved nest trace c b rest outer i same l = tick_turn loaded nest trace (counted_down c b) b rest outer (counted_in loaded nest trace c b rest i) same l
+own_out loaded kind.Cap t saved nest trace c b rest outer i same l = cap_turn loaded nest trace (counted_down c b) b rest outer (counted_in loaded nest trace c b rest i) same l
+own_out loaded kind.Main t saved nest trace c b rest outer i same l = main_turn loaded nest trace saved (counted_down c b) b rest outer (counted_in loaded nest trace c b rest i) same l
+own_out loaded kind.Uart t saved nest trace c b rest outer i same l = absurd t
+own_out loaded kind.Cmp t saved nest trace c b rest outer i same l = absurd t
+own_out loaded kind.Pwm t saved nest trace c b rest outer i same l = absurd t
+own_out loaded kind.Comm t saved nest trace c b rest outer i same l = absurd t

@@ -20,7 +20,8 @@ use Rattle.timer_regs.specs.declared.regs.Reg.TheVariants as reg
 use Rattle.interrupt_machine.specs.declared.nest.Nest.{Nest}
 use Rattle.interrupt_machine.specs.Did.{Access, NoAccess, Reads, Writes, accessed}
 use Rattle.dshot_commands.specs.declared.act.Act.{Act}
-use Rattle.dshot_commands.specs.Act.{acting, number_of}
+use Rattle.dshot_commands.specs.declared.act.Act.TheVariants.{Beacon, Direction, ThreeD, Save, Extended, Spin}
+use Rattle.dshot_commands.specs.Act.{act_of, number_of}
 use Rattle.arming.specs.Kept.{after_found, after_frame}
 use Rattle.arming.specs.Stands.{Stands, with_frame}
 use Rattle.arming.proofs.InOrder.{reverse-push}
@@ -30,16 +31,21 @@ use Rattle.esc_core.specs.declared.state.CapAt.TheVariants as cap
 use Rattle.esc_core.specs.declared.judge.Judgement.{Judgement}
 use Rattle.esc_core.specs.declared.judge.Judgement.TheVariants.{Good, Bad, Found, Nothing}
 use Rattle.esc_core.specs.Brain.{Brain}
-use Rattle.esc_core.specs.Judge.{judged}
+use Rattle.esc_core.specs.declared.state.MainAt.{MainAt}
+use Rattle.esc_core.specs.declared.state.MainAt.TheVariants as main
+use Rattle.esc_core.specs.declared.orders.Orders.{Orders}
+use Rattle.esc_core.specs.Judge.{Inputs, inputs_of, judged}
+use Rattle.esc_core.specs.Orders.{obeyed, obeyed_if}
 use Rattle.esc_core.specs.Stepped.{Stepped, goes_on}
-use Rattle.esc_core.specs.Cap.{tick_at, bit_of, after_edges, after_copy, command_note, judge_step, next_edge, opens, takes, cap_step}
+use Rattle.esc_core.specs.Cap.{tick_at, bit_of, act_in, after_edges, after_copy, command_note, judge_step, next_edge, opens, takes, cap_step}
 use Rattle.esc_laws.specs.Place.{Signal, Silent, Listens, Judged, Rests, Place, next, place}
 use Rattle.esc_laws.specs.Windowed.{verdict_note, Answers, AnswersAt, OpensAt, WindowRule}
 use Rattle.esc_laws.specs.Nested.{NestRule, IsIn}
 use Rattle.esc_laws.specs.Steps.{opening}
-use Rattle.esc_laws.specs.Tied.{cap_view, IsClosing, IsCopying, IsJudged, SignalTied, WindowSound, TickTied}
+use Rattle.esc_laws.specs.Tied.{cap_view, IsClosing, IsCopying, IsJudged, SignalTied, WindowSound, TickTied, MainTied, OrdersTied}
 use Rattle.esc_laws.proofs.Pushes.{place-push}
 use Rattle.esc_laws.proofs.Notes.{Said, said_push, place-append}
+use Rattle.esc_laws.proofs.Saves.{inputs_kept, acting_named, obeyed_tied, orders_other}
 use Rattle.esc_laws.proofs.CapTies.{start_tied, copy_tied, judged_tied, opens_tied, pause_tied}
 
 -- before a step: what the journal so far and the ties say
@@ -49,6 +55,8 @@ pub record OwnIn (loaded : Loaded) (nest : Nest) (trace : List Event) (c : Brain
   pub signal : SignalTied (place (opening loaded ++ rest)).signal c.cap_at (cap_view trace c b (place (opening loaded ++ rest)))
   pub window : WindowSound b.window b.time
   pub tick : TickTied c.tick_at b.number_read b.time (place (opening loaded ++ rest)).ticks
+  pub main : MainTied c.main_at c.orders.save (place (opening loaded ++ rest)).saves
+  pub orders : OrdersTied loaded c.orders (reverse (opening loaded ++ rest))
   pub number : b.number_read ≡ c.control.number
   pub read : b.number_read ≤ b.time / 2400
   pub edges : All (λ e. e.t.0 ≤ b.time) (line trace).edges
@@ -61,6 +69,8 @@ pub record OwnOut (loaded : Loaded) (nest : Nest) (trace : List Event) (c' : Bra
   pub signal : SignalTied (place (opening loaded ++ rest)).signal c'.cap_at (cap_view trace c' b' (place (opening loaded ++ rest)))
   pub window : WindowSound b'.window b.time
   pub tick : TickTied c'.tick_at b'.number_read b.time (place (opening loaded ++ rest)).ticks
+  pub main : MainTied c'.main_at c'.orders.save (place (opening loaded ++ rest)).saves
+  pub orders : OrdersTied loaded c'.orders (reverse (opening loaded ++ rest))
   pub number : b'.number_read ≡ c'.control.number
   pub read : b'.number_read ≤ b.time / 2400
   pub stack_is : (place (opening loaded ++ rest)).stack ≡ stack
@@ -97,38 +107,37 @@ start_out loaded nest trace c b rest w m i e k =
       signal = start_tied trace c b (place (opening loaded ++ rest)) w m e (few b i.window) k;
       window = i.window;
       tick = i.tick;
+      main = i.main;
+      orders = i.orders;
       number = i.number;
       read = i.read;
       stack_is = refl;
     })
 
+-- a fact of both cores that an edge may leave
+either_core : (P : Brain → Type 0) (v : Bool) (x y : Brain) → P x → P y → P (if v then x else y)
+either_core P true x y p q = p
+either_core P false x y p q = q
+
 copy_out : (loaded : Loaded) (nest : Nest) (trace : List Event) (c : Brain) (b : Bank) (rest : List Note) (w m left : ℕ) → OwnIn loaded nest trace c b rest → (place (opening loaded ++ rest)).signal ≡ Listens w m
     → IsCopying (cap_view trace c b (place (opening loaded ++ rest))) w m left
     → StepOut loaded nest trace b rest (cap_step (cap.Copy left) c b) (place (opening loaded ++ rest)).stack
 copy_out loaded nest trace c b rest w m left i e k =
+    let took : Bool = takes c.burst (next_edge c b) in
+    let longer : Brain = record c { burst = c.burst ++ next_edge c b ∷ []; cap_at = after_copy left } in
+    let same : Brain = record c { cap_at = cap.Back } in
     quiet loaded nest trace b rest (cap_step (cap.Copy left) c b).core (cap_step (cap.Copy left) c b).access false (record {
       said = i.said;
-      control = copied_control (takes c.burst (next_edge c b)) i.control;
+      control = either_core (λ (x : Brain). Stands x.control (reverse (opening loaded ++ rest))) took longer same i.control i.control;
       signal = copy_tied trace c b (place (opening loaded ++ rest)) w m left e (few b i.window) i.window i.small k;
       window = i.window;
-      tick = copied_tick (takes c.burst (next_edge c b)) i.tick;
-      number = i.number ∙ copied_number (takes c.burst (next_edge c b));
+      tick = either_core (λ (x : Brain). TickTied x.tick_at b.number_read b.time (place (opening loaded ++ rest)).ticks) took longer same i.tick i.tick;
+      main = either_core (λ (x : Brain). MainTied x.main_at x.orders.save (place (opening loaded ++ rest)).saves) took longer same i.main i.main;
+      orders = either_core (λ (x : Brain). OrdersTied loaded x.orders (reverse (opening loaded ++ rest))) took longer same i.orders i.orders;
+      number = either_core (λ (x : Brain). b.number_read ≡ x.control.number) took longer same i.number i.number;
       read = i.read;
       stack_is = refl;
     })
-  where
-    copied_control : (v : Bool) → Stands c.control (reverse (opening loaded ++ rest)) → Stands (if v then record c { burst = c.burst ++ next_edge c b ∷ []; cap_at = after_copy left } else record c { cap_at = cap.Back }).control (reverse (opening loaded ++ rest))
-    copied_control true s = s
-    copied_control false s = s
-
-    copied_tick : (v : Bool) → TickTied c.tick_at b.number_read b.time (place (opening loaded ++ rest)).ticks
-        → TickTied (if v then record c { burst = c.burst ++ next_edge c b ∷ []; cap_at = after_copy left } else record c { cap_at = cap.Back }).tick_at b.number_read b.time (place (opening loaded ++ rest)).ticks
-    copied_tick true s = s
-    copied_tick false s = s
-
-    copied_number : (v : Bool) → c.control.number ≡ (if v then record c { burst = c.burst ++ next_edge c b ∷ []; cap_at = after_copy left } else record c { cap_at = cap.Back }).control.number
-    copied_number true = refl
-    copied_number false = refl
 
 pause_out : (loaded : Loaded) (nest : Nest) (trace : List Event) (c : Brain) (b : Bank) (rest : List Note) (f at : ℕ) (opens_next : Bool) → OwnIn loaded nest trace c b rest → (place (opening loaded ++ rest)).signal ≡ Judged f opens_next
     → IsJudged (cap_view trace c b (place (opening loaded ++ rest))) → opens_next ≡ false → at ≡ f + 600
@@ -140,6 +149,8 @@ pause_out loaded nest trace c b rest f at opens_next i e k shuts is =
       signal = pause_tied trace c b (place (opening loaded ++ rest)) f at opens_next e k shuts is;
       window = i.window;
       tick = i.tick;
+      main = i.main;
+      orders = i.orders;
       number = i.number;
       read = i.read;
       stack_is = refl;
@@ -162,10 +173,12 @@ opens_out loaded nest trace c b rest s i e o inside none done =
     let w : Note = note.Window (tick_at b.time) (mode_number c.control.mode) in
     record {
       said = said_push loaded nest trace b.time rest w i.said refl (window_opens loaded trace c b.time rest s e o i.control) inside;
-      control = rw (reverse-push (opening loaded ++ rest) w) (other_stands w c.control (reverse (opening loaded ++ rest)) refl refl i.control);
+      control = rw (reverse-push (opening loaded ++ rest) w) (other_stands w c.control (reverse (opening loaded ++ rest)) refl refl tt i.control);
       signal = one_tied loaded trace (opens c b).core (accessed b (opens c b).access) rest w (opens_tied trace c b (place (opening loaded ++ rest)) i.edges none done);
       window = record { past = λ k d l. absurd (omega arith); order = λ x y le l. absurd (omega arith); few = omega arith };
       tick = subst (λ (p : Place). TickTied c.tick_at b.number_read b.time p.ticks) (sym (place-push (opening loaded ++ rest) w)) i.tick;
+      main = subst (λ (p : Place). MainTied c.main_at c.orders.save p.saves) (sym (place-push (opening loaded ++ rest) w)) i.main;
+      orders = rw (reverse-push (opening loaded ++ rest) w) (orders_other loaded c.orders w (reverse (opening loaded ++ rest)) refl i.orders);
       number = i.number;
       read = i.read;
       stack_is = ap (λ (p : Place). p.stack) (place-push (opening loaded ++ rest) w);
@@ -184,38 +197,44 @@ verdict_rule loaded (Bad why) trace rest w m t e a = answered loaded trace rest 
 verdict_rule loaded (Found mode) trace rest w m t e a = answered loaded trace rest w m t _ e a
 verdict_rule loaded Nothing trace rest w m t e a = answered loaded trace rest w m t _ e a
 
-answers_is : (loaded : Loaded) (trace : List Event) (c : Brain) (b : Bank) (p : Place) (w m : ℕ) → IsClosing (cap_view trace c b p) w m → c.burst ≡ b.window.edges
-    → Answers loaded trace w m p.cap_entered b.time (verdict_note b.time (judged c.window c.burst))
-answers_is loaded trace c b p w m i e = record {
-  closed_at = i.closed_at;
-  closes = i.closes;
-  waits = i.waits;
-  entered_before = i.entered;
-  verdict_is = rw (i.hears.core_mode, e, i.hears.edges) refl;
-}
+answers_is : (loaded : Loaded) (trace : List Event) (c : Brain) (b : Bank) (p : Place) (w m : ℕ) (back : List Note) → IsClosing (cap_view trace c b p) w m → c.burst ≡ b.window.edges → OrdersTied loaded c.orders back
+    → Answers loaded trace w m p.cap_entered b.time (verdict_note b.time (judged (inputs_of c.orders.settings) c.window c.burst))
+answers_is loaded trace c b p w m back i e o =
+    let inputs : inputs_of c.orders.settings ≡ inputs_of loaded.settings = ap inputs_of o.settings_are ∙ inputs_kept loaded.settings back in
+    record {
+      closed_at = i.closed_at;
+      closes = i.closes;
+      waits = i.waits;
+      entered_before = i.entered;
+      verdict_is = ap (λ (x : Inputs). verdict_note b.time (judged x c.window c.burst)) inputs ∙ rw (i.hears.core_mode, e, i.hears.edges) refl;
+    }
 
 -- the notes and control of each judgement
 pub record JudgeOut (loaded : Loaded) (nest : Nest) (trace : List Event) (t : ℕ) (rest : List Note) (s : Stepped) (stack : List Kind) : Type 0 where
   pub said : Said loaded nest trace t (rest ++ s.notes)
   pub control : Stands s.core.control (reverse (opening loaded ++ (rest ++ s.notes)))
+  pub orders : OrdersTied loaded s.core.orders (reverse (opening loaded ++ (rest ++ s.notes)))
   pub stack_is : (place (opening loaded ++ (rest ++ s.notes))).stack ≡ stack
 
 one_judged : (loaded : Loaded) (nest : Nest) (trace : List Event) (t : ℕ) (rest : List Note) (core : Brain) (n : Note) → Said loaded nest trace t rest → time_of n ≡ t → WindowRule loaded trace (opening loaded ++ rest) n → NestRule nest (opening loaded ++ rest) n
-    → Stands core.control (n ∷ reverse (opening loaded ++ rest)) → (next (place (opening loaded ++ rest)) n).stack ≡ (place (opening loaded ++ rest)).stack
+    → Stands core.control (n ∷ reverse (opening loaded ++ rest)) → OrdersTied loaded core.orders (n ∷ reverse (opening loaded ++ rest)) → (next (place (opening loaded ++ rest)) n).stack ≡ (place (opening loaded ++ rest)).stack
     → JudgeOut loaded nest trace t rest (record { core = core; access = NoAccess; notes = n ∷ []; over = false }) (place (opening loaded ++ rest)).stack
-one_judged loaded nest trace t rest core n said at w r st same = record {
+one_judged loaded nest trace t rest core n said at w r st o same = record {
   said = said_push loaded nest trace t rest n said at w r;
   control = rw (reverse-push (opening loaded ++ rest) n) st;
+  orders = rw (reverse-push (opening loaded ++ rest) n) o;
   stack_is = ap (λ (p : Place). p.stack) (place-push (opening loaded ++ rest) n) ∙ same;
 }
 
 good_judged : (loaded : Loaded) (o : Option Act) (nest : Nest) (trace : List Event) (c : Brain) (b : Bank) (rest : List Note) (frame : Frame) → Said loaded nest trace b.time rest
     → WindowRule loaded trace (opening loaded ++ rest) (verdict_note b.time (Good frame)) → IsIn kind.Cap (place (opening loaded ++ rest))
+    → OrdersTied loaded c.orders (reverse (opening loaded ++ rest)) → ((act : Act) → o ≡ Some act → act_of (number_of act) ≡ Some act)
     → Stands (after_frame c.control frame.value) (with_frame (tick_at b.time) frame.value (bit_of frame.telemetry) o (reverse (opening loaded ++ rest)))
-    → JudgeOut loaded nest trace b.time rest (record { core = record c { cap_at = cap.Open; control = after_frame c.control frame.value }; access = NoAccess; notes = note.Good (tick_at b.time) frame.value (bit_of frame.telemetry) ∷ command_note b.time o; over = false }) (place (opening loaded ++ rest)).stack
-good_judged loaded None nest trace c b rest frame said w inside st =
-    one_judged loaded nest trace b.time rest (record c { cap_at = cap.Open; control = after_frame c.control frame.value }) (note.Good (tick_at b.time) frame.value (bit_of frame.telemetry)) said refl w inside st refl
-good_judged loaded (Some act) nest trace c b rest frame said w inside st =
+    → JudgeOut loaded nest trace b.time rest (record { core = record c { cap_at = cap.Open; control = after_frame c.control frame.value; orders = obeyed_if c.orders o }; access = NoAccess; notes = note.Good (tick_at b.time) frame.value (bit_of frame.telemetry) ∷ command_note b.time o; over = false }) (place (opening loaded ++ rest)).stack
+good_judged loaded None nest trace c b rest frame said w inside orders named st =
+    one_judged loaded nest trace b.time rest (record c { cap_at = cap.Open; control = after_frame c.control frame.value }) (note.Good (tick_at b.time) frame.value (bit_of frame.telemetry)) said refl w inside st
+    (orders_other loaded c.orders (note.Good (tick_at b.time) frame.value (bit_of frame.telemetry)) (reverse (opening loaded ++ rest)) refl orders) refl
+good_judged loaded (Some act) nest trace c b rest frame said w inside orders named st =
     let good : Note = note.Good (tick_at b.time) frame.value (bit_of frame.telemetry) in
     let command : Note = note.Command (tick_at b.time) (number_of act) in
     let both : rest ++ good ∷ command ∷ [] ≡ (rest ++ good ∷ []) ++ command ∷ [] = sym (append_assoc rest (good ∷ []) (command ∷ [])) in
@@ -225,39 +244,64 @@ good_judged loaded (Some act) nest trace c b rest frame said w inside st =
       said = subst (λ (r : List Note). Said loaded nest trace b.time r) (sym both) (said_push loaded nest trace b.time (rest ++ good ∷ []) command first refl tt still);
       control = subst (λ (r : List Note). Stands (after_frame c.control frame.value) (reverse (opening loaded ++ r))) (sym both)
           (rw (reverse-push (opening loaded ++ (rest ++ good ∷ [])) command, reverse-push (opening loaded ++ rest) good) st);
+      orders = subst (λ (r : List Note). OrdersTied loaded (obeyed c.orders act) (reverse (opening loaded ++ r))) (sym both)
+          (rw (reverse-push (opening loaded ++ (rest ++ good ∷ [])) command, reverse-push (opening loaded ++ rest) good)
+          (obeyed_tied loaded c.orders act (tick_at b.time) (good ∷ reverse (opening loaded ++ rest)) (named act refl) (orders_other loaded c.orders good (reverse (opening loaded ++ rest)) refl orders)));
       stack_is = subst (λ (r : List Note). (place (opening loaded ++ r)).stack ≡ (place (opening loaded ++ rest)).stack) (sym both)
           (ap (λ (p : Place). p.stack) (place-push (opening loaded ++ (rest ++ good ∷ [])) command) ∙ ap (λ (p : Place). p.stack) (place-push (opening loaded ++ rest) good));
     }
 
-judge_judged : (loaded : Loaded) (j : Judgement) (nest : Nest) (trace : List Event) (c : Brain) (b : Bank) (rest : List Note) → Said loaded nest trace b.time rest → Stands c.control (reverse (opening loaded ++ rest))
+judge_judged : (loaded : Loaded) (j : Judgement) (nest : Nest) (trace : List Event) (c : Brain) (b : Bank) (rest : List Note) → Said loaded nest trace b.time rest → Stands c.control (reverse (opening loaded ++ rest)) → OrdersTied loaded c.orders (reverse (opening loaded ++ rest))
     → WindowRule loaded trace (opening loaded ++ rest) (verdict_note b.time j) → IsIn kind.Cap (place (opening loaded ++ rest))
     → JudgeOut loaded nest trace b.time rest (judge_step j c b) (place (opening loaded ++ rest)).stack
-judge_judged loaded (Good frame) nest trace c b rest said st w inside =
-    good_judged loaded (acting (after_frame c.control frame.value).run.frames frame.value) nest trace c b rest frame said w inside
+judge_judged loaded (Good frame) nest trace c b rest said st orders w inside =
+    good_judged loaded (act_in c frame) nest trace c b rest frame said w inside orders (λ act e. acting_named (after_frame c.control frame.value).run.frames frame.value act e)
     (frame_stands c.control (reverse (opening loaded ++ rest)) (tick_at b.time) frame.value (bit_of frame.telemetry) st)
-judge_judged loaded (Bad why) nest trace c b rest said st w inside =
+judge_judged loaded (Bad why) nest trace c b rest said st orders w inside =
     one_judged loaded nest trace b.time rest (record c { cap_at = cap.Pause (b.time + 600) }) (note.Bad (tick_at b.time) (why_number why)) said refl w inside
-    (other_stands (note.Bad (tick_at b.time) (why_number why)) c.control (reverse (opening loaded ++ rest)) refl refl st) refl
-judge_judged loaded (Found mode) nest trace c b rest said st w inside =
+    (other_stands (note.Bad (tick_at b.time) (why_number why)) c.control (reverse (opening loaded ++ rest)) refl refl tt st)
+    (orders_other loaded c.orders (note.Bad (tick_at b.time) (why_number why)) (reverse (opening loaded ++ rest)) refl orders) refl
+judge_judged loaded (Found mode) nest trace c b rest said st orders w inside =
     one_judged loaded nest trace b.time rest (record c { cap_at = cap.Open; control = after_found c.control mode }) (note.Detected (tick_at b.time) (mode_number mode)) said refl w inside
-    (found_stands c.control (reverse (opening loaded ++ rest)) (tick_at b.time) mode st) refl
-judge_judged loaded Nothing nest trace c b rest said st w inside =
+    (found_stands c.control (reverse (opening loaded ++ rest)) (tick_at b.time) mode st)
+    (orders_other loaded c.orders (note.Detected (tick_at b.time) (mode_number mode)) (reverse (opening loaded ++ rest)) refl orders) refl
+judge_judged loaded Nothing nest trace c b rest said st orders w inside =
     one_judged loaded nest trace b.time rest (record c { cap_at = cap.Pause (b.time + 600) }) (note.Nothing (tick_at b.time)) said refl w inside
-    (other_stands (note.Nothing (tick_at b.time)) c.control (reverse (opening loaded ++ rest)) refl refl st) refl
+    (other_stands (note.Nothing (tick_at b.time)) c.control (reverse (opening loaded ++ rest)) refl refl tt st)
+    (orders_other loaded c.orders (note.Nothing (tick_at b.time)) (reverse (opening loaded ++ rest)) refl orders) refl
 
--- no judgement touches TICK, and its notes are no K
-abbrev SameTick : Brain → Place → Stepped → Type 0
-SameTick c p s = (s.core.tick_at ≡ c.tick_at) × ((fold next p s.notes).ticks ≡ p.ticks) × (s.core.control.number ≡ c.control.number)
-
-judge_tick : (j : Judgement) (c : Brain) (b : Bank) (p : Place) → SameTick c p (judge_step j c b)
-judge_tick (Good frame) c b p = (refl, with_command (acting (after_frame c.control frame.value).run.frames frame.value) c b p frame, refl)
+-- an act keeps a save asked for
+still_asked : (at : MainAt) (o : Orders) (a : Option Act) (saves : ℕ) → MainTied at o.save saves → MainTied at (obeyed_if o a).save saves
+still_asked main.Shut o a saves m = tt
+still_asked main.Back o a saves m = m
+still_asked main.Work o a saves m = (obeyed_save o a m.0, m.1)
   where
-    with_command : (o : Option Act) (c : Brain) (b : Bank) (p : Place) (frame : Frame) → (fold next p (note.Good (tick_at b.time) frame.value (bit_of frame.telemetry) ∷ command_note b.time o)).ticks ≡ p.ticks
-    with_command None c b p frame = refl
-    with_command (Some act) c b p frame = refl
-judge_tick (Bad why) c b p = (refl, refl, refl)
-judge_tick (Found mode) c b p = (refl, refl, refl)
-judge_tick Nothing c b p = (refl, refl, refl)
+    obeyed_save : (o : Orders) (a : Option Act) → o.save ≡ true → (obeyed_if o a).save ≡ true
+    obeyed_save o None e = e
+    obeyed_save o (Some (Beacon beacon)) e = e
+    obeyed_save o (Some (Direction side)) e = e
+    obeyed_save o (Some (ThreeD is_on)) e = e
+    obeyed_save o (Some Save) e = refl
+    obeyed_save o (Some (Extended is_on)) e = e
+    obeyed_save o (Some (Spin side)) e = e
+
+-- no judgement touches TICK or MAIN, and its notes are no K and no P
+record SameOthers (c : Brain) (p : Place) (s : Stepped) : Type 0 where
+  tick : s.core.tick_at ≡ c.tick_at
+  ticks : (fold next p s.notes).ticks ≡ p.ticks
+  number : s.core.control.number ≡ c.control.number
+  main : MainTied c.main_at c.orders.save p.saves → MainTied s.core.main_at s.core.orders.save (fold next p s.notes).saves
+
+judge_others : (j : Judgement) (c : Brain) (b : Bank) (p : Place) → SameOthers c p (judge_step j c b)
+judge_others (Good frame) c b p = with_command (act_in c frame) c b p frame
+  where
+    with_command : (o : Option Act) (c : Brain) (b : Bank) (p : Place) (frame : Frame)
+        → SameOthers c p (record { core = record c { cap_at = cap.Open; control = after_frame c.control frame.value; orders = obeyed_if c.orders o }; access = NoAccess; notes = note.Good (tick_at b.time) frame.value (bit_of frame.telemetry) ∷ command_note b.time o; over = false })
+    with_command None c b p frame = record { tick = refl; ticks = refl; number = refl; main = λ m. m }
+    with_command (Some act) c b p frame = record { tick = refl; ticks = refl; number = refl; main = λ m. still_asked c.main_at c.orders (Some act) p.saves m }
+judge_others (Bad why) c b p = record { tick = refl; ticks = refl; number = refl; main = λ m. m }
+judge_others (Found mode) c b p = record { tick = refl; ticks = refl; number = refl; main = λ m. m }
+judge_others Nothing c b p = record { tick = refl; ticks = refl; number = refl; main = λ m. m }
 
 judge_access : (j : Judgement) (c : Brain) (b : Bank) → (judge_step j c b).access ≡ NoAccess
 judge_access (Good frame) c b = refl
@@ -267,14 +311,14 @@ judge_access Nothing c b = refl
 
 judge_out : (loaded : Loaded) (nest : Nest) (trace : List Event) (c : Brain) (b : Bank) (rest : List Note) (w m : ℕ) → OwnIn loaded nest trace c b rest → (place (opening loaded ++ rest)).signal ≡ Listens w m
     → IsClosing (cap_view trace c b (place (opening loaded ++ rest))) w m → c.burst ≡ b.window.edges → IsIn kind.Cap (place (opening loaded ++ rest))
-    → StepOut loaded nest trace b rest (judge_step (judged c.window c.burst) c b) (place (opening loaded ++ rest)).stack
+    → StepOut loaded nest trace b rest (judge_step (judged (inputs_of c.orders.settings) c.window c.burst) c b) (place (opening loaded ++ rest)).stack
 judge_out loaded nest trace c b rest w m i e k copied inside =
     let p : Place = place (opening loaded ++ rest) in
-    let j : Judgement = judged c.window c.burst in
+    let j : Judgement = judged (inputs_of c.orders.settings) c.window c.burst in
     let s : Stepped = judge_step j c b in
-    let rule = verdict_rule loaded j trace rest w m b.time e (answers_is loaded trace c b p w m k copied) in
-    let o = judge_judged loaded j nest trace c b rest i.said i.control rule inside in
-    let t = judge_tick j c b p in
+    let rule = verdict_rule loaded j trace rest w m b.time e (answers_is loaded trace c b p w m (reverse (opening loaded ++ rest)) k copied i.orders) in
+    let o = judge_judged loaded j nest trace c b rest i.said i.control i.orders rule inside in
+    let t = judge_others j c b p in
     let at : place (opening loaded ++ (rest ++ s.notes)) ≡ fold next p s.notes = place-append (opening loaded ++ rest) s.notes in
     let bank : accessed b s.access ≡ b = ap (λ (a : Access). accessed b a) (judge_access j c b) in
     record {
@@ -282,8 +326,10 @@ judge_out loaded nest trace c b rest w m i e k copied inside =
       control = o.control;
       signal = subst (λ (q : Place). SignalTied q.signal s.core.cap_at (cap_view trace s.core (accessed b s.access) q)) (sym at) (judged_tied j trace c b p w m k);
       window = rw bank i.window;
-      tick = rw (at, bank, t.0, t.1) i.tick;
-      number = rw (bank, t.2) i.number;
+      tick = rw (at, bank, t.tick, t.ticks) i.tick;
+      main = subst (λ (q : Place). MainTied s.core.main_at s.core.orders.save q.saves) (sym at) (t.main i.main);
+      orders = o.orders;
+      number = rw (bank, t.number) i.number;
       read = rw bank i.read;
       stack_is = o.stack_is;
     }

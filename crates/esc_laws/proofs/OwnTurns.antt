@@ -17,11 +17,10 @@ use Rattle.timer_regs.specs.declared.regs.Reg.TheVariants as reg
 use Rattle.interrupt_machine.specs.declared.nest.Nest.{Nest}
 use Rattle.interrupt_machine.specs.declared.firmware.Did.{Did}
 use Rattle.interrupt_machine.specs.declared.firmware.Did.TheVariants.{More, Return}
-use Rattle.interrupt_machine.specs.Did.{Reads, accessed}
+use Rattle.interrupt_machine.specs.Did.{NoAccess, Reads, accessed}
 use Rattle.interrupt_machine.specs.Open.{innermost, outer_ones}
 use Rattle.interrupt_machine.specs.Turn.{leave_note, own_notes}
 use Rattle.dshot_commands.specs.declared.act.Act.{Act}
-use Rattle.dshot_commands.specs.Act.{acting}
 use Rattle.arming.specs.Decide.{decide}
 use Rattle.arming.specs.Kept.{after_frame, after_tick, view_of}
 use Rattle.arming.proofs.InOrder.{reverse-push}
@@ -30,21 +29,25 @@ use Rattle.esc_core.specs.declared.state.CapAt.{CapAt}
 use Rattle.esc_core.specs.declared.state.CapAt.TheVariants as cap
 use Rattle.esc_core.specs.declared.state.TickAt.{TickAt}
 use Rattle.esc_core.specs.declared.state.TickAt.TheVariants as tick
+use Rattle.esc_core.specs.declared.state.MainAt.{MainAt}
+use Rattle.esc_core.specs.declared.state.MainAt.TheVariants as main
 use Rattle.esc_core.specs.declared.judge.Judgement.{Judgement}
 use Rattle.esc_core.specs.declared.judge.Judgement.TheVariants.{Good, Bad, Found, Nothing}
 use Rattle.esc_core.specs.Brain.{Brain}
-use Rattle.esc_core.specs.Judge.{judged}
+use Rattle.esc_core.specs.Judge.{inputs_of, judged}
 use Rattle.esc_core.specs.Stepped.{Stepped, IsStepped, is_return, goes_on}
-use Rattle.esc_core.specs.Cap.{tick_at, after_edges, bit_of, command_note, judge_step, opens, cap_step}
+use Rattle.esc_core.specs.Cap.{tick_at, after_edges, act_in, bit_of, command_note, judge_step, opens, cap_step}
 use Rattle.esc_core.specs.Tick.{outcome_note, tick_notes, ticked, tick_step}
-use Rattle.esc_core.specs.Firmware.{cap_left, tick_left, need_of, kind_step, is_stray}
+use Rattle.esc_core.specs.Background.{result_of, saving_step, main_step}
+use Rattle.esc_core.specs.Firmware.{cap_left, tick_left, main_left, need_of, kind_step, is_stray}
 use Rattle.esc_laws.specs.Place.{Place, next, place}
 use Rattle.esc_laws.specs.Steps.{opening, is_entry}
-use Rattle.esc_laws.specs.Tied.{Keeps, SignalTied, cap_view, TickTied, IsBuilt}
+use Rattle.esc_laws.specs.Tied.{Keeps, SignalTied, cap_view, TickTied, MainTied, IsBuilt}
 use Rattle.esc_laws.proofs.Pushes.{place-push}
 use Rattle.esc_laws.proofs.Notes.{said_push}
 use Rattle.esc_laws.proofs.Facts.{SameGates, same_gates, plain_notes}
 use Rattle.esc_laws.proofs.CapTies.{back_tied, back_done, back_may}
+use Rattle.esc_laws.proofs.Saves.{orders_other}
 use Rattle.esc_laws.proofs.OwnSteps.{OwnIn, OwnOut, StepOut}
 
 -- ---- no step of a run is a stray one
@@ -88,7 +91,7 @@ good_own None t v q = one_own t (note.Good (tick_at t) v q) (refl, refl)
 good_own (Some act) t v q = All-cons (IsOwn t) (note.Good (tick_at t) v q) (command_note t (Some act)) (refl, refl) (one_own t _ (refl, refl))
 
 judge_own : (j : Judgement) (c : Brain) (b : Bank) → All (IsOwn b.time) (judge_step j c b).notes
-judge_own (Good frame) c b = good_own (acting (after_frame c.control frame.value).run.frames frame.value) b.time frame.value (bit_of frame.telemetry)
+judge_own (Good frame) c b = good_own (act_in c frame) b.time frame.value (bit_of frame.telemetry)
 judge_own (Bad why) c b = one_own b.time (note.Bad (tick_at b.time) (why_number why)) (refl, refl)
 judge_own (Found mode) c b = one_own b.time (note.Detected (tick_at b.time) (mode_number mode)) (refl, refl)
 judge_own Nothing c b = one_own b.time (note.Nothing (tick_at b.time)) (refl, refl)
@@ -104,7 +107,7 @@ cap_own : (at : CapAt) (c : Brain) (b : Bank) → All (IsOwn b.time) (cap_step a
 cap_own cap.Shut c b = All-nil (IsOwn b.time)
 cap_own cap.Start c b = begin_own c.paused (record c { burst = []; cap_at = after_edges (read_value b reg.CapState) }) c b
 cap_own (cap.Copy rest) c b = All-nil (IsOwn b.time)
-cap_own cap.Judge c b = judge_own (judged c.window c.burst) c b
+cap_own cap.Judge c b = judge_own (judged (inputs_of c.orders.settings) c.window c.burst) c b
 cap_own cap.Open c b = opens_own c b
 cap_own (cap.Pause at) c b = All-nil (IsOwn b.time)
 cap_own cap.Back c b = All-nil (IsOwn b.time)
@@ -132,21 +135,30 @@ tick_own tick.Read c b = read_own (nat_lt c.control.number (read_value b reg.Tic
 tick_own tick.Lower c b = All-nil (IsOwn b.time)
 tick_own tick.Back c b = All-nil (IsOwn b.time)
 
-kind_own : (k : Kind) → IsBuilt k → (c : Brain) (b : Bank) → All (IsOwn b.time) (kind_step k c b).notes
-kind_own kind.Tick t c b = tick_own c.tick_at c b
-kind_own kind.Cap t c b = cap_own c.cap_at c b
-kind_own kind.Main t c b = absurd t
-kind_own kind.Uart t c b = absurd t
-kind_own kind.Cmp t c b = absurd t
-kind_own kind.Pwm t c b = absurd t
-kind_own kind.Comm t c b = absurd t
+work_own : (v saved : Bool) (c : Brain) (b : Bank) → All (IsOwn b.time) (if v then saving_step saved c b else goes_on c NoAccess).notes
+work_own true saved c b = one_own b.time (note.Saved (tick_at b.time) (result_of saved)) (refl, refl)
+work_own false saved c b = All-nil (IsOwn b.time)
+
+main_own : (at : MainAt) (saved : Bool) (c : Brain) (b : Bank) → All (IsOwn b.time) (main_step saved at c b).notes
+main_own main.Shut saved c b = All-nil (IsOwn b.time)
+main_own main.Work saved c b = work_own c.orders.save saved (record c { main_at = main.Back }) b
+main_own main.Back saved c b = All-nil (IsOwn b.time)
+
+kind_own : (k : Kind) → IsBuilt k → (saved : Bool) (c : Brain) (b : Bank) → All (IsOwn b.time) (kind_step k saved c b).notes
+kind_own kind.Tick t saved c b = tick_own c.tick_at c b
+kind_own kind.Cap t saved c b = cap_own c.cap_at c b
+kind_own kind.Main t saved c b = main_own c.main_at saved c b
+kind_own kind.Uart t saved c b = absurd t
+kind_own kind.Cmp t saved c b = absurd t
+kind_own kind.Pwm t saved c b = absurd t
+kind_own kind.Comm t saved c b = absurd t
 
 leave_own : (v : Bool) (t : ℕ) (k : Kind) → All (IsOwn t) (if v then note.Leave (tick_at t) (kind_number k) ∷ [] else [])
 leave_own true t k = one_own t (note.Leave (tick_at t) (kind_number k)) (refl, refl)
 leave_own false t k = All-nil (IsOwn t)
 
-pub step_own : (k : Kind) → IsBuilt k → (c : Brain) (b : Bank) → All (IsOwn b.time) (step_notes b.time k (kind_step k c b))
-step_own k t c b = All-append (IsOwn b.time) (kind_step k c b).notes _ (kind_own k t c b) (leave_own (kind_step k c b).over b.time k)
+pub step_own : (k : Kind) → IsBuilt k → (saved : Bool) (c : Brain) (b : Bank) → All (IsOwn b.time) (step_notes b.time k (kind_step k saved c b))
+step_own k t saved c b = All-append (IsOwn b.time) (kind_step k saved c b).notes _ (kind_own k t saved c b) (leave_own (kind_step k saved c b).over b.time k)
 
 -- ---- whether it returns
 
@@ -174,7 +186,7 @@ pub cap_goes : (at : CapAt) (c : Brain) (b : Bank) → 0 < cap_left at → (at �
 cap_goes cap.Shut c b l = absurd (omega arith)
 cap_goes cap.Start c b l = inr ((λ e. cc), (λ e. cc), begin_goes c.paused (record c { burst = []; cap_at = after_edges (read_value b reg.CapState) }) c b)
 cap_goes (cap.Copy rest) c b l = inr ((λ e. cc), (λ e. cc), refl)
-cap_goes cap.Judge c b l = inr ((λ e. cc), (λ e. cc), judge_goes (judged c.window c.burst) c b)
+cap_goes cap.Judge c b l = inr ((λ e. cc), (λ e. cc), judge_goes (judged (inputs_of c.orders.settings) c.window c.burst) c b)
 cap_goes cap.Open c b l = inr ((λ e. cc), (λ e. cc), refl)
 cap_goes (cap.Pause at) c b l = inr ((λ e. cc), (λ e. cc), refl)
 cap_goes cap.Back c b l = inl refl
@@ -185,6 +197,15 @@ tick_goes tick.Raise c b l = inr ((λ e. cc), (λ e. cc), refl)
 tick_goes tick.Read c b l = inr ((λ e. cc), (λ e. cc), read_goes (nat_lt c.control.number (read_value b reg.TickState)) (read_value b reg.TickState) c b)
 tick_goes tick.Lower c b l = inr ((λ e. cc), (λ e. cc), refl)
 tick_goes tick.Back c b l = inl refl
+
+work_goes : (v saved : Bool) (c : Brain) (b : Bank) → (if v then saving_step saved c b else goes_on c NoAccess).over ≡ false
+work_goes true saved c b = refl
+work_goes false saved c b = refl
+
+pub main_goes : (at : MainAt) (saved : Bool) (c : Brain) (b : Bank) → 0 < main_left at → (at ≡ main.Back) ⊎ ((at ≢ main.Back) × (at ≢ main.Shut) × ((main_step saved at c b).over ≡ false))
+main_goes main.Shut saved c b l = absurd (omega arith)
+main_goes main.Work saved c b l = inr ((λ e. cc), (λ e. cc), work_goes c.orders.save saved (record c { main_at = main.Back }) b)
+main_goes main.Back saved c b l = inl refl
 
 -- ---- the ties after it
 
@@ -213,10 +234,12 @@ cap_back loaded nest trace c b rest outer i same tied =
     let at : place (opening loaded ++ (rest ++ n ∷ [])) ≡ next p n = place-push (opening loaded ++ rest) n in
     record {
       said = said_push loaded nest trace b.time rest n i.said refl (λ e. back_may trace c b p p.signal tied) (in_stack kind.Cap outer p.stack same, back_done trace c b p p.signal tied);
-      control = rw (reverse-push (opening loaded ++ rest) n) (other_stands n c.control (reverse (opening loaded ++ rest)) refl refl i.control);
+      control = rw (reverse-push (opening loaded ++ rest) n) (other_stands n c.control (reverse (opening loaded ++ rest)) refl refl tt i.control);
       signal = subst (λ (q : Place). SignalTied q.signal cap.Shut (cap_view trace (record c { cap_at = cap.Shut }) b q)) (sym at) (back_tied trace c b p p.signal b.time refl tied);
       window = i.window;
       tick = subst (λ (q : Place). TickTied c.tick_at b.number_read b.time q.ticks) (sym at) i.tick;
+      main = subst (λ (q : Place). MainTied c.main_at c.orders.save q.saves) (sym at) i.main;
+      orders = rw (reverse-push (opening loaded ++ rest) n) (orders_other loaded c.orders n (reverse (opening loaded ++ rest)) refl i.orders);
       number = i.number;
       read = i.read;
       stack_is = ap (λ (q : Place). q.stack) at ∙ popped p.stack kind.Cap outer same;
@@ -231,11 +254,33 @@ tick_back loaded nest trace c b rest outer i same one =
     let at : place (opening loaded ++ (rest ++ n ∷ [])) ≡ next p n = place-push (opening loaded ++ rest) n in
     record {
       said = said_push loaded nest trace b.time rest n i.said refl (λ e. cc) (in_stack kind.Tick outer p.stack same, one);
-      control = rw (reverse-push (opening loaded ++ rest) n) (other_stands n c.control (reverse (opening loaded ++ rest)) refl refl i.control);
+      control = rw (reverse-push (opening loaded ++ rest) n) (other_stands n c.control (reverse (opening loaded ++ rest)) refl refl tt i.control);
       signal = subst (λ (q : Place). SignalTied q.signal c.cap_at (cap_view trace (record c { tick_at = tick.Shut }) b q)) (sym at) i.signal;
       window = i.window;
       tick = tt;
+      main = subst (λ (q : Place). MainTied c.main_at c.orders.save q.saves) (sym at) i.main;
+      orders = rw (reverse-push (opening loaded ++ rest) n) (orders_other loaded c.orders n (reverse (opening loaded ++ rest)) refl i.orders);
       number = i.number;
       read = i.read;
       stack_is = ap (λ (q : Place). q.stack) at ∙ popped p.stack kind.Tick outer same;
+    }
+
+pub main_back : (loaded : Loaded) (nest : Nest) (trace : List Event) (c : Brain) (b : Bank) (rest : List Note) (outer : List Kind) → OwnIn loaded nest trace c b rest → (place (opening loaded ++ rest)).stack ≡ kind.Main ∷ outer
+    → (place (opening loaded ++ rest)).saves ≡ 1
+    → OwnOut loaded nest trace (record c { main_at = main.Shut }) b b (rest ++ note.Leave (tick_at b.time) 0 ∷ []) outer
+main_back loaded nest trace c b rest outer i same one =
+    let p : Place = place (opening loaded ++ rest) in
+    let n : Note = note.Leave (tick_at b.time) 0 in
+    let at : place (opening loaded ++ (rest ++ n ∷ [])) ≡ next p n = place-push (opening loaded ++ rest) n in
+    record {
+      said = said_push loaded nest trace b.time rest n i.said refl (λ e. cc) (in_stack kind.Main outer p.stack same, one);
+      control = rw (reverse-push (opening loaded ++ rest) n) (other_stands n c.control (reverse (opening loaded ++ rest)) refl refl tt i.control);
+      signal = subst (λ (q : Place). SignalTied q.signal c.cap_at (cap_view trace (record c { main_at = main.Shut }) b q)) (sym at) i.signal;
+      window = i.window;
+      tick = subst (λ (q : Place). TickTied c.tick_at b.number_read b.time q.ticks) (sym at) i.tick;
+      main = tt;
+      orders = rw (reverse-push (opening loaded ++ rest) n) (orders_other loaded c.orders n (reverse (opening loaded ++ rest)) refl i.orders);
+      number = i.number;
+      read = i.read;
+      stack_is = ap (λ (q : Place). q.stack) at ∙ popped p.stack kind.Main outer same;
     }

@@ -62,11 +62,11 @@ called_from-push loaded nest trace k before n (x ∷ log) e =
     (called_from-push loaded nest trace k (before ++ x ∷ []) (called_next loaded nest trace k before n x) log e)
 
 pub called-push : (loaded : Loaded) (nest : Nest) (trace : List Event) (log : List Turned) (e : Turned) (k : Kind) → called loaded nest trace (log ++ e ∷ []) k ≡ called_next loaded nest trace k log (called loaded nest trace log k) e
-unfolding called loaded
+unfolding called
 called-push loaded nest trace log e k = called_from-push loaded nest trace k [] 0 log e
 
 pub called-none : (loaded : Loaded) (nest : Nest) (trace : List Event) (k : Kind) → called loaded nest trace [] k ≡ 0
-unfolding called loaded
+unfolding called
 called-none loaded nest trace k = refl
 
 pub step-push : (P : List Turned → Turned → Type 0) (before log : List Turned) (e : Turned) → EachStep P before log → P (before ++ log) e → EachStep P before (log ++ e ∷ [])

@@ -19,7 +19,7 @@ use Rattle.esc_core.specs.Cap.{tick_at}
 use Rattle.esc_core.specs.Firmware.{left_of, new_core}
 use Rattle.esc_laws.specs.Place.{Listens, Place, place, nowhere}
 use Rattle.esc_laws.specs.Seen.{sees}
-use Rattle.esc_laws.specs.Steps.{opening, journal, after, called}
+use Rattle.esc_laws.specs.Steps.{load_number, opening, journal, after, called}
 use Rattle.esc_laws.specs.Windowed.{Windowed}
 use Rattle.esc_laws.specs.Tied.{Keeps}
 use Rattle.esc_laws.specs.Logged.{Marks, Ties, EndsBy, Logged, first_bank}
@@ -27,11 +27,11 @@ use Rattle.esc_laws.proofs.Pushes.{after-none, free-none, called-none}
 
 place-opening : (loaded : Loaded) → place (opening loaded) ≡ record nowhere { signal = Listens 0 0; windows = 1; last = 0 }
 unfolding place
-place-(opening loaded) = refl
+place-opening loaded = refl
 
-place-up : place (note.Up (tick_at 0) 1 ∷ []) ≡ nowhere
+place-up : (r : ℕ) → place (note.Up (tick_at 0) r ∷ []) ≡ nowhere
 unfolding place
-place-up = refl
+place-up r = refl
 
 line-none : line [] ≡ record { level = false; edges = [] }
 unfolding line
@@ -39,17 +39,17 @@ line-none = refl
 
 opening_in_time : (loaded : Loaded) → Journal (opening loaded)
 opening_in_time loaded =
-    (All-nil (λ b. time_of b ≤ 0), (All-cons (λ b. time_of b ≤ 0) (note.Up (tick_at 0) 1) [] (omega arith) (All-nil (λ b. time_of b ≤ 0)), tt))
+    (All-nil (λ b. time_of b ≤ 0), (All-cons (λ b. time_of b ≤ 0) (note.Up (tick_at 0) (load_number loaded.fault)) [] (omega arith) (All-nil (λ b. time_of b ≤ 0)), tt))
 
 opening_windowed : (loaded : Loaded) → Windowed loaded [] (opening loaded)
-opening_windowed loaded = (tt, (rw place-up (refl, refl), tt))
+opening_windowed loaded = (tt, (rw (place-up (load_number loaded.fault)) (refl, refl), tt))
 
 opening_stands : (loaded : Loaded) → Stands start (reverse (opening loaded))
 opening_stands loaded =
-    other_stands (note.Window (tick_at 0) 0) start (note.Up (tick_at 0) 1 ∷ []) refl refl (other_stands (note.Up (tick_at 0) 1) start [] refl refl start_stands)
+    other_stands (note.Window (tick_at 0) 0) start (note.Up (tick_at 0) (load_number loaded.fault) ∷ []) refl refl tt (other_stands (note.Up (tick_at 0) (load_number loaded.fault)) start [] refl refl tt start_stands)
 
-start_keeps : Keeps new_core first_bank []
-start_keeps = record {
+start_keeps : (loaded : Loaded) → Keeps (new_core loaded.settings) first_bank []
+start_keeps loaded = record {
   hold = omega arith;
   enough = λ m. cc;
   tick_masked = λ n. absurd (omega arith);
@@ -58,7 +58,7 @@ start_keeps = record {
   built = λ k o. cc;
 }
   where
-    shut_at : (k : Kind) → left_of new_core k ≡ 0
+    shut_at : (k : Kind) → left_of (new_core loaded.settings) k ≡ 0
     shut_at kind.Main = refl
     shut_at kind.Uart = refl
     shut_at kind.Tick = refl
@@ -67,28 +67,30 @@ start_keeps = record {
     shut_at kind.Pwm = refl
     shut_at kind.Comm = refl
 
-start_marks : (loaded : Loaded) (nest : Nest) → Marks loaded nest [] new_core first_bank [] []
+start_marks : (loaded : Loaded) (nest : Nest) → Marks loaded nest [] (new_core loaded.settings) first_bank [] []
 start_marks loaded nest = record {
   in_time = opening_in_time loaded;
   windowed = opening_windowed loaded;
   nested = tt;
   control = opening_stands loaded;
-  stack_is = ap (λ (p : Place). p.stack) (sym place-(opening loaded));
-  past = All-cons (λ n. time_of n ≤ 0) (note.Up (tick_at 0) 1) (note.Window (tick_at 0) 0 ∷ []) (omega arith)
+  stack_is = ap (λ (p : Place). p.stack) (sym (place-opening loaded));
+  past = All-cons (λ n. time_of n ≤ 0) (note.Up (tick_at 0) (load_number loaded.fault)) (note.Window (tick_at 0) 0 ∷ []) (omega arith)
       (All-cons (λ n. time_of n ≤ 0) (note.Window (tick_at 0) 0) [] (omega arith) (All-nil (λ n. time_of n ≤ 0)));
 }
 
 no_burst : [] ≡ burst (line []).edges 0 (mode_of 0)
 no_burst = sym (ap (λ (l : Line). burst l.edges 0 (mode_of 0)) line-none ∙ burst-nil 0 (mode_of 0))
 
-start_ties : (loaded : Loaded) → Ties loaded [] new_core first_bank []
+start_ties : (loaded : Loaded) → Ties loaded [] (new_core loaded.settings) first_bank []
 start_ties loaded = record {
-  signal = rw place-(opening loaded) (record {
+  signal = rw (place-opening loaded) (record {
     hears = record { armed = refl; mode = refl; opened = refl; edges = no_burst; core_mode = refl; running = refl; no_timer = refl };
     untaken = refl;
   });
   window = record { past = λ k d l. absurd (omega arith); order = λ x y le l. absurd (omega arith); few = omega arith };
   tick = tt;
+  main = tt;
+  orders = record { settings_are = refl; save_is = refl };
   number = refl;
   read = omega arith;
   level = ap (λ (l : Line). l.level) (sym line-none);
@@ -106,11 +108,11 @@ start_patient loaded nest = record {
 after_start : (cost : ℕ) → after cost [] [] ≡ 0
 after_start cost = after-none cost [] ∙ free-none 0
 
-pub logged_start : (loaded : Loaded) (nest : Nest) (cost : ℕ) → Logged loaded nest cost [] 0 new_core first_bank [] []
+pub logged_start : (loaded : Loaded) (nest : Nest) (cost : ℕ) → Logged loaded nest cost [] 0 (new_core loaded.settings) first_bank [] []
 logged_start loaded nest cost =
     let zero_after = after_start cost in
     record {
-      keeps = start_keeps;
+      keeps = start_keeps loaded;
       sorted = tt;
       marks = start_marks loaded nest;
       ties = start_ties loaded;

@@ -65,7 +65,7 @@ count_from loaded nest trace e k before n (x ∷ log) b =
     ∙ count_from loaded nest trace e k (before ++ x ∷ []) (called_next loaded nest trace k before n x) log (All-tail (λ (y : Turned). y.tick < tick_of e) x log b)
 
 pub count_before : (loaded : Loaded) (nest : Nest) (trace : List Event) (e : Event) (log : List Turned) (k : Kind) → Below (tick_of e) log → called loaded nest (trace ++ e ∷ []) log k ≡ called loaded nest trace log k
-unfolding called loaded
+unfolding called
 count_before loaded nest trace e log k b = count_from loaded nest trace e k [] 0 log b
 
 -- ---- steps

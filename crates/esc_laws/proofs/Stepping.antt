@@ -51,20 +51,20 @@ less_from : (m n : ℕ) → nat_lt m n ≡ true → m < n
 less_from m n e = grind (arith, nat_tests)
 
 waits_due : (loaded : Loaded) (nest : Nest) (trace : List Event) (c : Brain) (b : Bank) (stack : List Kind) (log : List Turned) → Keeps c b stack → Marks loaded nest trace c b stack log → Ties loaded trace c b log
-    → (k : Kind) → sees trace (journal loaded log) b.time k ≡ true → is_open stack k ≡ false → due_now false b k ≡ true
+    → (k : Kind) → sees trace (journal loaded log) b.time k ≡ true → is_open stack k ≡ false → due_now c.orders.save b k ≡ true
 waits_due loaded nest trace c b stack log keeps m t kind.Tick s f =
-    tick_due b (rw (t.number, m.control.ties.number_is) (less_from (number_at (reverse (journal loaded log))) (b.time / 2400) s))
+    tick_due c.orders.save b (rw (t.number, m.control.ties.number_is) (less_from (number_at (reverse (journal loaded log))) (b.time / 2400) s))
 waits_due loaded nest trace c b stack log keeps m t kind.Cap s f =
-    cap_called (place (journal loaded log)).signal trace c b (place (journal loaded log))
+    cap_called c.orders.save (place (journal loaded log)).signal trace c b (place (journal loaded log))
     (subst (λ (at : CapAt). SignalTied (place (journal loaded log)).signal at (cap_view trace c b (place (journal loaded log)))) (cap_shut c.cap_at (keeps.shut kind.Cap f)) t.signal) s
-waits_due loaded nest trace c b stack log keeps m t kind.Main s f = cc
+waits_due loaded nest trace c b stack log keeps m t kind.Main s f = t.orders.save_is ∙ s
 waits_due loaded nest trace c b stack log keeps m t kind.Uart s f = cc
 waits_due loaded nest trace c b stack log keeps m t kind.Cmp s f = cc
 waits_due loaded nest trace c b stack log keeps m t kind.Pwm s f = cc
 waits_due loaded nest trace c b stack log keeps m t kind.Comm s f = cc
 
 pub sees_due : (loaded : Loaded) (nest : Nest) (trace : List Event) (c : Brain) (b : Bank) (stack : List Kind) (log : List Turned) → Keeps c b stack → Marks loaded nest trace c b stack log → Ties loaded trace c b log
-    → (k : Kind) → is_waiting (sees trace (journal loaded log) b.time) stack k ≡ true → due_now false b k ≡ true
+    → (k : Kind) → is_waiting (sees trace (journal loaded log) b.time) stack k ≡ true → due_now c.orders.save b k ≡ true
 sees_due loaded nest trace c b stack log keeps m t k e =
     let parts = both (sees trace (journal loaded log) b.time k) (not (is_open stack k)) e in
     waits_due loaded nest trace c b stack log keeps m t k parts.0 (not_false (is_open stack k) parts.1)
@@ -78,7 +78,7 @@ empty_open : (stack : List Kind) (k : Kind) → stack ≡ [] → is_open stack k
 empty_open stack k e = rw e refl
 
 entry_fits : (loaded : Loaded) (nest : Nest) (cost : ℕ) (trace : List Event) (c : Brain) (b : Bank) (stack : List Kind) (log : List Turned) (k : Kind) → Logged loaded nest cost trace b.time c b stack log
-    → next_entry nest stack (due_now false b) ≡ Some k → ((j : Kind) → called loaded nest trace (log ++ entry_of b.time k ∷ []) j ≤ 8) → StepFits loaded nest cost trace log (entry_of b.time k)
+    → next_entry nest stack (due_now c.orders.save b) ≡ Some k → ((j : Kind) → called loaded nest trace (log ++ entry_of b.time k ∷ []) j ≤ 8) → StepFits loaded nest cost trace log (entry_of b.time k)
 entry_fits loaded nest cost trace c b stack log k l chosen calls = record {
   later = l.past;
   free_at = free_ended trace b.time b.time l.stalls (omega arith);
@@ -86,8 +86,8 @@ entry_fits loaded nest cost trace c b stack log k l chosen calls = record {
   idle = λ o. l.awaits.idle o;
   first = λ o. (
     refl,
-    λ j s. highest_most (due_now false b) k j
-        (waits_due loaded nest trace c b stack log l.keeps l.marks l.ties j s (empty_open stack j (l.marks.stack_is ∙ o))) (entry_highest nest stack (due_now false b) k chosen),
+    λ j s. highest_most (due_now c.orders.save b) k j
+        (waits_due loaded nest trace c b stack log l.keeps l.marks l.ties j s (empty_open stack j (l.marks.stack_is ∙ o))) (entry_highest nest stack (due_now c.orders.save b) k chosen),
   );
   entry = λ e. refl;
   own = λ e. cc;
@@ -117,7 +117,7 @@ entry_owes c b stack log k owes t j o = elim (same_kind j k) [
     entered_owes : (k : Kind) → IsBuilt k → own_steps k (log ++ entry_of b.time k ∷ []) + left_of (entered_core c k) k ≤ most k
     entered_owes kind.Tick t = rw (own-push kind.Tick log (entry_of b.time kind.Tick)) (omega arith)
     entered_owes kind.Cap t = rw (own-push kind.Cap log (entry_of b.time kind.Cap)) (omega arith)
-    entered_owes kind.Main t = absurd t
+    entered_owes kind.Main t = rw (own-push kind.Main log (entry_of b.time kind.Main)) (omega arith)
     entered_owes kind.Uart t = absurd t
     entered_owes kind.Cmp t = absurd t
     entered_owes kind.Pwm t = absurd t
@@ -145,19 +145,19 @@ entry_by cost trace b stack log k at reached j o t below = elim (same_kind j k) 
 ]
 
 pub entry_turn : (loaded : Loaded) (nest : Nest) (cost : ℕ) (trace : List Event) (c : Brain) (b : Bank) (stack : List Kind) (log : List Turned) (k : Kind) → 1 ≤ cost → Logged loaded nest cost trace b.time c b stack log
-    → b.masked ≡ false → next_entry nest stack (due_now false b) ≡ Some k
+    → b.masked ≡ false → next_entry nest stack (due_now c.orders.save b) ≡ Some k
     → Logged loaded nest cost trace (b.time + cost) (entered_core c k) (after_entry b k) (k ∷ stack) (log ++ entry_of b.time k ∷ [])
 entry_turn loaded nest cost trace c b stack log k some l down chosen =
-    let due = highest_is_due (due_now false b) k (entry_highest nest stack (due_now false b) k chosen) in
-    let built : IsBuilt k = due_built b k due in
+    let due = highest_is_due (due_now c.orders.save b) k (entry_highest nest stack (due_now c.orders.save b) k chosen) in
+    let built : IsBuilt k = due_built c.orders.save b k due in
     let s = entry_same k built c b in
     let still : (after_entry b k).masked ≡ false = entry_masked b k ∙ down in
     logged_after loaded nest cost trace c (entered_core c k) b (after_entry b k) stack (k ∷ stack) log (entry_of b.time k) some refl l (record {
       keeps = keeps_entry nest c b stack k l.keeps l.sorted down chosen;
-      sorted = (entry_above nest stack (due_now false b) k chosen, l.sorted);
+      sorted = (entry_above nest stack (due_now c.orders.save b) k chosen, l.sorted);
       same = record { time = s.time; level = s.level };
       out = entry_out loaded nest trace c b (notes_in log) stack k (own_in loaded nest trace c b stack log l.marks l.ties) l.keeps l.sorted l.marks.stack_is chosen;
-      patient = rw still (entry_patient nest stack (due_now false b) (sees trace (journal loaded log) b.time) (sees trace (journal loaded (log ++ entry_of b.time k ∷ [])) b.time) k c.hold (entered_core c k).hold (called loaded nest trace log)
+      patient = rw still (entry_patient nest stack (due_now c.orders.save b) (sees trace (journal loaded log) b.time) (sees trace (journal loaded (log ++ entry_of b.time k ∷ [])) b.time) k c.hold (entered_core c k).hold (called loaded nest trace log)
           (sees_due loaded nest trace c b stack log l.keeps l.marks l.ties) chosen (rw down at l.patient));
       owes = entry_owes c b stack log k l.owes built;
       reached = entry_reached cost trace b stack log k l.at_next l.reached;
@@ -232,33 +232,33 @@ own_fits loaded nest cost trace c b outer log k notes l own calls =
       patient = calls;
     }
 
-abbrev pub stepped_by : Kind → Brain → Bank → Stepped
-stepped_by k c b = kind_step k (counted_down c b) b
+abbrev pub stepped_by : Kind → Bool → Brain → Bank → Stepped
+stepped_by k saved c b = kind_step k saved (counted_down c b) b
 
-pub own_turn : (loaded : Loaded) (nest : Nest) (cost : ℕ) (trace : List Event) (c : Brain) (b : Bank) (outer : List Kind) (log : List Turned) (k : Kind) → 1 ≤ cost → Logged loaded nest cost trace b.time c b (k ∷ outer) log
-    → (b.masked ≡ false → next_entry nest (k ∷ outer) (due_now false b) ≡ None)
-    → Logged loaded nest cost trace (b.time + cost) (stepped_by k c b).core (accessed b (stepped_by k c b).access) (open_left k outer (stepped_by k c b)) (log ++ own_of b.time k (step_notes b.time k (stepped_by k c b)) ∷ [])
-own_turn loaded nest cost trace c b outer log k some l none =
-    let s : Stepped = stepped_by k c b in
+pub own_turn : (loaded : Loaded) (nest : Nest) (cost : ℕ) (trace : List Event) (c : Brain) (b : Bank) (outer : List Kind) (log : List Turned) (k : Kind) (saved : Bool) → 1 ≤ cost → Logged loaded nest cost trace b.time c b (k ∷ outer) log
+    → (b.masked ≡ false → next_entry nest (k ∷ outer) (due_now c.orders.save b) ≡ None)
+    → Logged loaded nest cost trace (b.time + cost) (stepped_by k saved c b).core (accessed b (stepped_by k saved c b).access) (open_left k outer (stepped_by k saved c b)) (log ++ own_of b.time k (step_notes b.time k (stepped_by k saved c b)) ∷ [])
+own_turn loaded nest cost trace c b outer log k saved some l none =
+    let s : Stepped = stepped_by k saved c b in
     let b' : Bank = accessed b s.access in
     let notes : List Note = step_notes b.time k s in
     let inside : is_open (k ∷ outer) k ≡ true = self_open k outer in
     let built : IsBuilt k = l.keeps.built k inside in
     let left : 0 < left_of c k = l.keeps.live k inside in
     let held : b.masked ≡ true → 0 < c.hold = (λ m. (let a = l.keeps.enough m k refl in let n = need_some k c in omega arith)) in
-    let bound : Bounds k c b s = subst (λ (x : Stepped). Bounds k c b x) (core_step-goes k c b (steady k c b (k ∷ outer) l.keeps refl)) (bounds k c b left l.keeps.hold held) in
+    let bound : Bounds k c b s = subst (λ (x : Stepped). Bounds k c b x) (core_step-goes k saved c b (steady k c b (k ∷ outer) l.keeps refl)) (bounds k saved c b left l.keeps.hold held) in
     let gates = same_gates b s.access in
     logged_after loaded nest cost trace c s.core b b' (k ∷ outer) (open_left k outer s) log (own_of b.time k notes) some refl l (record {
-      keeps = keeps_own k c b outer built l.sorted l.keeps left bound;
+      keeps = keeps_own k saved c b outer built l.sorted l.keeps left bound;
       sorted = left_stack s.over k outer l.sorted;
       same = record { time = gates.time; level = gates.level };
-      out = own_out loaded k built nest trace c b (notes_in log) outer (own_in loaded nest trace c b (k ∷ outer) log l.marks l.ties) (sym l.marks.stack_is) left;
-      patient = own_patient nest k outer (open_left k outer s) (due_now false b) (sees trace (journal loaded log) b.time) (sees trace (journal loaded (log ++ own_of b.time k notes ∷ [])) b.time) b.masked b'.masked c.hold s.core.hold (called loaded nest trace log)
+      out = own_out loaded k built saved nest trace c b (notes_in log) outer (own_in loaded nest trace c b (k ∷ outer) log l.marks l.ties) (sym l.marks.stack_is) left;
+      patient = own_patient nest k outer (open_left k outer s) (due_now c.orders.save b) (sees trace (journal loaded log) b.time) (sees trace (journal loaded (log ++ own_of b.time k notes ∷ [])) b.time) b.masked b'.masked c.hold s.core.hold (called loaded nest trace log)
           (sees_due loaded nest trace c b (k ∷ outer) log l.keeps l.marks l.ties) none (left_goes s.over b'.masked k outer bound.back) held bound.mask.most bound.mask.less l.patient;
       owes = own_owes c s.core outer log k b.time notes s.over l.owes bound.less bound.others;
       reached = λ j o. reached_on cost trace log (own_of b.time k notes) j refl (l.at_next (λ e. cc)) (l.reached j (left_open s.over k j outer o));
       reached_by = λ j o t below. by_on cost trace log (own_of b.time k notes) j t refl (l.at_next (λ e. cc)) (l.reached j (left_open s.over k j outer o)) below;
-      fits = own_fits loaded nest cost trace c b outer log k notes l (step_own k built (counted_down c b) b);
+      fits = own_fits loaded nest cost trace c b outer log k notes l (step_own k built saved (counted_down c b) b);
     })
 
 -- the open kinds after it, by what the handler did
