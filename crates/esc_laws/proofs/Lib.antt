@@ -1,13 +1,13 @@
 pub mod Pushes
 pub mod Growth
 pub mod StepGrowth
-pub mod MainSteps
 pub mod Notes
 pub mod Facts
 pub mod Saves
 pub mod CapTies
 pub mod OwnSteps
 pub mod TickSteps
+pub mod MainSteps
 pub mod Dues
 pub mod Entries
 pub mod OwnTurns
@@ -18,3 +18,4 @@ pub mod Lines
 pub mod Events
 pub mod Start
 pub mod Carried
+pub mod FlashSteps

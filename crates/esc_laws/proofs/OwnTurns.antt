@@ -47,7 +47,7 @@ use Rattle.esc_laws.proofs.Pushes.{place-push}
 use Rattle.esc_laws.proofs.Notes.{said_push}
 use Rattle.esc_laws.proofs.Facts.{SameGates, same_gates, plain_notes}
 use Rattle.esc_laws.proofs.CapTies.{back_tied, back_done, back_may}
-use Rattle.esc_laws.proofs.Saves.{orders_other}
+use Rattle.esc_laws.proofs.Saves.{is_save, orders_other}
 use Rattle.esc_laws.proofs.OwnSteps.{OwnIn, OwnOut, StepOut}
 
 -- ---- no step of a run is a stray one
@@ -79,72 +79,72 @@ own_are k b b' s did c' i =
     ∙ ap (λ (ns : List Note). ns ++ leave_note b' k did) i.notes_are
     ∙ ap (λ (ns : List Note). s.notes ++ ns) (leave_is did b' k s.over i.over_is ∙ ap (λ (t : ℕ). if s.over then note.Leave (tick_at t) (kind_number k) ∷ [] else []) same.time)
 
--- a note of an own step stands at its tick, and is no I
-abbrev pub IsOwn : ℕ → Note → Type 0
-IsOwn t n = (time_of n ≡ t) × (is_entry n ≡ false)
+-- a note of an own step of a kind stands at its tick, is no I, and a P is MAIN's
+abbrev pub IsOwn : Kind → ℕ → Note → Type 0
+IsOwn k t n = (time_of n ≡ t) × (is_entry n ≡ false) × (is_save n ≡ true → k ≡ kind.Main)
 
-one_own : (t : ℕ) (n : Note) → IsOwn t n → All (IsOwn t) (n ∷ [])
-one_own t n h = All-cons (IsOwn t) n [] h (All-nil (IsOwn t))
+one_own : (k : Kind) (t : ℕ) (n : Note) → IsOwn k t n → All (IsOwn k t) (n ∷ [])
+one_own k t n h = All-cons (IsOwn k t) n [] h (All-nil (IsOwn k t))
 
-good_own : (o : Option Act) (t v q : ℕ) → All (IsOwn t) (note.Good (tick_at t) v q ∷ command_note t o)
-good_own None t v q = one_own t (note.Good (tick_at t) v q) (refl, refl)
-good_own (Some act) t v q = All-cons (IsOwn t) (note.Good (tick_at t) v q) (command_note t (Some act)) (refl, refl) (one_own t _ (refl, refl))
+good_own : (o : Option Act) (t v q : ℕ) → All (IsOwn kind.Cap t) (note.Good (tick_at t) v q ∷ command_note t o)
+good_own None t v q = one_own kind.Cap t (note.Good (tick_at t) v q) (refl, refl, λ e. cc)
+good_own (Some act) t v q = All-cons (IsOwn kind.Cap t) (note.Good (tick_at t) v q) (command_note t (Some act)) (refl, refl, λ e. cc) (one_own kind.Cap t _ (refl, refl, λ e. cc))
 
-judge_own : (j : Judgement) (c : Brain) (b : Bank) → All (IsOwn b.time) (judge_step j c b).notes
+judge_own : (j : Judgement) (c : Brain) (b : Bank) → All (IsOwn kind.Cap b.time) (judge_step j c b).notes
 judge_own (Good frame) c b = good_own (act_in c frame) b.time frame.value (bit_of frame.telemetry)
-judge_own (Bad why) c b = one_own b.time (note.Bad (tick_at b.time) (why_number why)) (refl, refl)
-judge_own (Found mode) c b = one_own b.time (note.Detected (tick_at b.time) (mode_number mode)) (refl, refl)
-judge_own Nothing c b = one_own b.time (note.Nothing (tick_at b.time)) (refl, refl)
+judge_own (Bad why) c b = one_own kind.Cap b.time (note.Bad (tick_at b.time) (why_number why)) (refl, refl, λ e. cc)
+judge_own (Found mode) c b = one_own kind.Cap b.time (note.Detected (tick_at b.time) (mode_number mode)) (refl, refl, λ e. cc)
+judge_own Nothing c b = one_own kind.Cap b.time (note.Nothing (tick_at b.time)) (refl, refl, λ e. cc)
 
-opens_own : (c : Brain) (b : Bank) → All (IsOwn b.time) (opens c b).notes
-opens_own c b = one_own b.time (note.Window (tick_at b.time) (mode_number c.control.mode)) (refl, refl)
+opens_own : (c : Brain) (b : Bank) → All (IsOwn kind.Cap b.time) (opens c b).notes
+opens_own c b = one_own kind.Cap b.time (note.Window (tick_at b.time) (mode_number c.control.mode)) (refl, refl, λ e. cc)
 
-begin_own : (v : Bool) (core : Brain) (c : Brain) (b : Bank) → All (IsOwn b.time) (if v then opens c b else goes_on core (Reads reg.CapState)).notes
+begin_own : (v : Bool) (core : Brain) (c : Brain) (b : Bank) → All (IsOwn kind.Cap b.time) (if v then opens c b else goes_on core (Reads reg.CapState)).notes
 begin_own true core c b = opens_own c b
-begin_own false core c b = All-nil (IsOwn b.time)
+begin_own false core c b = All-nil (IsOwn kind.Cap b.time)
 
-cap_own : (at : CapAt) (c : Brain) (b : Bank) → All (IsOwn b.time) (cap_step at c b).notes
-cap_own cap.Shut c b = All-nil (IsOwn b.time)
+cap_own : (at : CapAt) (c : Brain) (b : Bank) → All (IsOwn kind.Cap b.time) (cap_step at c b).notes
+cap_own cap.Shut c b = All-nil (IsOwn kind.Cap b.time)
 cap_own cap.Start c b = begin_own c.paused (record c { burst = []; cap_at = after_edges (read_value b reg.CapState) }) c b
-cap_own (cap.Copy rest) c b = All-nil (IsOwn b.time)
+cap_own (cap.Copy rest) c b = All-nil (IsOwn kind.Cap b.time)
 cap_own cap.Judge c b = judge_own (judged (inputs_of c.orders.settings) c.window c.burst) c b
 cap_own cap.Open c b = opens_own c b
-cap_own (cap.Pause at) c b = All-nil (IsOwn b.time)
-cap_own cap.Back c b = All-nil (IsOwn b.time)
+cap_own (cap.Pause at) c b = All-nil (IsOwn kind.Cap b.time)
+cap_own cap.Back c b = All-nil (IsOwn kind.Cap b.time)
 
-outcome_own : (lost : Option Cause) (armed_now : Bool) (t : ℕ) → All (IsOwn t) (outcome_note t lost armed_now)
-outcome_own (Some cause) armed_now t = one_own t _ (refl, refl)
-outcome_own None true t = one_own t _ (refl, refl)
-outcome_own None false t = All-nil (IsOwn t)
+outcome_own : (lost : Option Cause) (armed_now : Bool) (t : ℕ) → All (IsOwn kind.Tick t) (outcome_note t lost armed_now)
+outcome_own (Some cause) armed_now t = one_own kind.Tick t _ (refl, refl, λ e. cc)
+outcome_own None true t = one_own kind.Tick t _ (refl, refl, λ e. cc)
+outcome_own None false t = All-nil (IsOwn kind.Tick t)
 
-read_own : (v : Bool) (n : ℕ) (c : Brain) (b : Bank) → All (IsOwn b.time) (if v then record {
+read_own : (v : Bool) (n : ℕ) (c : Brain) (b : Bank) → All (IsOwn kind.Tick b.time) (if v then record {
   core = record c { tick_at = tick.Lower; control = after_tick c.control n (decide (view_of c.control) n 0) };
   access = Reads reg.TickState;
   notes = tick_notes b.time n 0 (ticked c n 0);
   over = false;
 } else goes_on (record c { tick_at = tick.Lower }) (Reads reg.TickState)).notes
 read_own true n c b =
-    All-cons (IsOwn b.time) (note.Control (tick_at b.time) n 0 (ticked c n 0).demand) (outcome_note b.time (ticked c n 0).lost (ticked c n 0).armed_now) (refl, refl)
+    All-cons (IsOwn kind.Tick b.time) (note.Control (tick_at b.time) n 0 (ticked c n 0).demand) (outcome_note b.time (ticked c n 0).lost (ticked c n 0).armed_now) (refl, refl, λ e. cc)
     (outcome_own (ticked c n 0).lost (ticked c n 0).armed_now b.time)
-read_own false n c b = All-nil (IsOwn b.time)
+read_own false n c b = All-nil (IsOwn kind.Tick b.time)
 
-tick_own : (at : TickAt) (c : Brain) (b : Bank) → All (IsOwn b.time) (tick_step at c b).notes
-tick_own tick.Shut c b = All-nil (IsOwn b.time)
-tick_own tick.Raise c b = All-nil (IsOwn b.time)
+tick_own : (at : TickAt) (c : Brain) (b : Bank) → All (IsOwn kind.Tick b.time) (tick_step at c b).notes
+tick_own tick.Shut c b = All-nil (IsOwn kind.Tick b.time)
+tick_own tick.Raise c b = All-nil (IsOwn kind.Tick b.time)
 tick_own tick.Read c b = read_own (nat_lt c.control.number (read_value b reg.TickState)) (read_value b reg.TickState) c b
-tick_own tick.Lower c b = All-nil (IsOwn b.time)
-tick_own tick.Back c b = All-nil (IsOwn b.time)
+tick_own tick.Lower c b = All-nil (IsOwn kind.Tick b.time)
+tick_own tick.Back c b = All-nil (IsOwn kind.Tick b.time)
 
-work_own : (v saved : Bool) (c : Brain) (b : Bank) → All (IsOwn b.time) (if v then saving_step saved c b else goes_on c NoAccess).notes
-work_own true saved c b = one_own b.time (note.Saved (tick_at b.time) (result_of saved)) (refl, refl)
-work_own false saved c b = All-nil (IsOwn b.time)
+work_own : (v saved : Bool) (c : Brain) (b : Bank) → All (IsOwn kind.Main b.time) (if v then saving_step saved c b else goes_on c NoAccess).notes
+work_own true saved c b = one_own kind.Main b.time (note.Saved (tick_at b.time) (result_of saved)) (refl, refl, λ e. refl)
+work_own false saved c b = All-nil (IsOwn kind.Main b.time)
 
-main_own : (at : MainAt) (saved : Bool) (c : Brain) (b : Bank) → All (IsOwn b.time) (main_step saved at c b).notes
-main_own main.Shut saved c b = All-nil (IsOwn b.time)
+main_own : (at : MainAt) (saved : Bool) (c : Brain) (b : Bank) → All (IsOwn kind.Main b.time) (main_step saved at c b).notes
+main_own main.Shut saved c b = All-nil (IsOwn kind.Main b.time)
 main_own main.Work saved c b = work_own c.orders.save saved (record c { main_at = main.Back }) b
-main_own main.Back saved c b = All-nil (IsOwn b.time)
+main_own main.Back saved c b = All-nil (IsOwn kind.Main b.time)
 
-kind_own : (k : Kind) → IsBuilt k → (saved : Bool) (c : Brain) (b : Bank) → All (IsOwn b.time) (kind_step k saved c b).notes
+kind_own : (k : Kind) → IsBuilt k → (saved : Bool) (c : Brain) (b : Bank) → All (IsOwn k b.time) (kind_step k saved c b).notes
 kind_own kind.Tick t saved c b = tick_own c.tick_at c b
 kind_own kind.Cap t saved c b = cap_own c.cap_at c b
 kind_own kind.Main t saved c b = main_own c.main_at saved c b
@@ -153,12 +153,12 @@ kind_own kind.Cmp t saved c b = absurd t
 kind_own kind.Pwm t saved c b = absurd t
 kind_own kind.Comm t saved c b = absurd t
 
-leave_own : (v : Bool) (t : ℕ) (k : Kind) → All (IsOwn t) (if v then note.Leave (tick_at t) (kind_number k) ∷ [] else [])
-leave_own true t k = one_own t (note.Leave (tick_at t) (kind_number k)) (refl, refl)
-leave_own false t k = All-nil (IsOwn t)
+leave_own : (v : Bool) (t : ℕ) (k : Kind) → All (IsOwn k t) (if v then note.Leave (tick_at t) (kind_number k) ∷ [] else [])
+leave_own true t k = one_own k t (note.Leave (tick_at t) (kind_number k)) (refl, refl, λ e. cc)
+leave_own false t k = All-nil (IsOwn k t)
 
-pub step_own : (k : Kind) → IsBuilt k → (saved : Bool) (c : Brain) (b : Bank) → All (IsOwn b.time) (step_notes b.time k (kind_step k saved c b))
-step_own k t saved c b = All-append (IsOwn b.time) (kind_step k saved c b).notes _ (kind_own k t saved c b) (leave_own (kind_step k saved c b).over b.time k)
+pub step_own : (k : Kind) → IsBuilt k → (saved : Bool) (c : Brain) (b : Bank) → All (IsOwn k b.time) (step_notes b.time k (kind_step k saved c b))
+step_own k t saved c b = All-append (IsOwn k b.time) (kind_step k saved c b).notes _ (kind_own k t saved c b) (leave_own (kind_step k saved c b).over b.time k)
 
 -- ---- whether it returns
 

@@ -190,7 +190,7 @@ left_open : (v : Bool) (k j : Kind) (outer : List Kind) → is_open (if v then o
 left_open true k j outer o = or_right (kind_number k == kind_number j) (is_open outer j) o
 left_open false k j outer o = o
 
-self_open : (k : Kind) (outer : List Kind) → is_open (k ∷ outer) k ≡ true
+pub self_open : (k : Kind) (outer : List Kind) → is_open (k ∷ outer) k ≡ true
 self_open k outer = rw (of_self k) refl
 
 left_stack : (v : Bool) (k : Kind) (outer : List Kind) → IsStack (k ∷ outer) → IsStack (if v then outer else k ∷ outer)
@@ -212,7 +212,7 @@ own_owes c c' outer log k t notes v owes less others j o = elim (same_kind j k) 
 ]
 
 own_fits : (loaded : Loaded) (nest : Nest) (cost : ℕ) (trace : List Event) (c : Brain) (b : Bank) (outer : List Kind) (log : List Turned) (k : Kind) (notes : List Note) → Logged loaded nest cost trace b.time c b (k ∷ outer) log
-    → All (IsOwn b.time) notes → ((j : Kind) → called loaded nest trace (log ++ own_of b.time k notes ∷ []) j ≤ 8) → StepFits loaded nest cost trace log (own_of b.time k notes)
+    → All (IsOwn k b.time) notes → ((j : Kind) → called loaded nest trace (log ++ own_of b.time k notes ∷ []) j ≤ 8) → StepFits loaded nest cost trace log (own_of b.time k notes)
 own_fits loaded nest cost trace c b outer log k notes l own calls =
     let inside : is_open (k ∷ outer) k ≡ true = self_open k outer in
     let at : b.time ≡ after cost trace log = l.at_next (λ e. cc) in
@@ -227,8 +227,8 @@ own_fits loaded nest cost trace c b outer log k notes l own calls =
       reached = λ e. rw (since-push k log (own_of b.time k notes)) (at ∙ l.reached k inside);
       some = λ e. rw (own-push k log (own_of b.time k notes), of_self k) (omega arith);
       few = λ e. rw (own-push k log (own_of b.time k notes), of_self k) (let a = l.owes k inside in let left = l.keeps.live k inside in omega arith);
-      at_tick = All-weaker (IsOwn b.time) (λ n. time_of n ≡ b.time) (λ n p. p.0) notes own;
-      no_entry = λ e. All-weaker (IsOwn b.time) (λ n. is_entry n ≡ false) (λ n p. p.1) notes own;
+      at_tick = All-weaker (IsOwn k b.time) (λ n. time_of n ≡ b.time) (λ n p. p.0) notes own;
+      no_entry = λ e. All-weaker (IsOwn k b.time) (λ n. is_entry n ≡ false) (λ n p. p.1) notes own;
       patient = calls;
     }
 

@@ -1,0 +1,143 @@
+-- What a step of the machine does to the flash is what its notes say.
+use Rattle.std.proofs.Common.{◌≡◌, ◌≢◌, ℕ, Bool, true, false, if◌then◌else◌, List, [], ◌∷◌, ◌++◌, reverse, Option, Some, None, refl, sym, ◌∙◌, ap, subst, All, ◌⊎◌, inl, inr, append_assoc}
+use Rattle.std.proofs.lemmas.List.Elements.{All-nil, All-cons, All-head, All-tail, All-weaker}
+use Rattle.esc_base.specs.declared.kind.Kind.{Kind}
+use Rattle.esc_base.specs.declared.kind.Kind.TheVariants as kind
+use Rattle.esc_base.specs.declared.event.Event.{Event}
+use Rattle.esc_base.specs.declared.note.Note.{Note}
+use Rattle.esc_base.specs.declared.note.Note.TheVariants as note
+use Rattle.esc_base.specs.Flash.{Told, IsWhole}
+use Rattle.settings_block.specs.declared.stored.Loaded.{Loaded}
+use Rattle.settings_block.specs.Block.{block_of}
+use Rattle.timer_regs.specs.Bank.{Bank}
+use Rattle.interrupt_machine.specs.declared.nest.Nest.{Nest}
+use Rattle.interrupt_machine.specs.declared.firmware.Did.{Did}
+use Rattle.interrupt_machine.specs.Turn.{own_notes}
+use Rattle.esc_core.specs.declared.state.MainAt.{MainAt}
+use Rattle.esc_core.specs.declared.state.MainAt.TheVariants as main
+use Rattle.esc_core.specs.declared.orders.Orders.{Orders}
+use Rattle.esc_core.specs.Brain.{Brain}
+use Rattle.esc_core.specs.Cap.{tick_at}
+use Rattle.esc_core.specs.Background.{result_of, main_step, main_saves}
+use Rattle.esc_core.specs.Saving.{FlashDid, IsMade}
+use Rattle.esc_core.specs.Stepped.{IsStepped}
+use Rattle.esc_core.specs.Firmware.{core_step, core_saves, kind_step, kind_saves, counted_down}
+use Rattle.esc_core.proofs.Bounds.{core_step-goes, core_saves-goes}
+use Rattle.esc_laws.specs.Saves.{FlashFits, settings_at}
+use Rattle.esc_laws.specs.Place.{place}
+use Rattle.esc_laws.specs.Steps.{Turned, journal}
+use Rattle.esc_laws.specs.Tied.{MainTied, IsBuilt}
+use Rattle.esc_laws.specs.Logged.{Logged, CoreTurn, turned}
+use Rattle.esc_laws.proofs.Pushes.{journal-push}
+use Rattle.esc_laws.proofs.Facts.{by_bool}
+use Rattle.esc_laws.proofs.Saves.{is_save, fits_pushes, fits_saved, fits_spoilt}
+use Rattle.esc_laws.proofs.OwnTurns.{IsOwn, steady, own_are, step_notes, step_own}
+use Rattle.esc_laws.proofs.Stepping.{self_open, stepped_by}
+
+-- A step either leaves the flash, and has no P; or its one note is a P, and the flash is as that P says.
+abbrev pub Flashes : Loaded → Told → Told → Told → ℕ → List Note → List Note → Type 0
+Flashes loaded first flash flash' t before notes =
+    (All (λ n. is_save n ≡ false) notes × (flash' ≡ flash))
+    ⊎ ((r : ℕ) × (notes ≡ note.Saved (tick_at t) r ∷ []) × (FlashFits loaded first flash before → FlashFits loaded first flash' (before ++ note.Saved (tick_at t) r ∷ [])))
+
+-- ---- a kind but MAIN saves nothing
+
+no_save : (v : Bool) (k : Kind) → (v ≡ true → k ≡ kind.Main) → k ≢ kind.Main → v ≡ false
+no_save true k f ne = absurd (ne (f refl))
+no_save false k f ne = refl
+
+plain_kind : (k : Kind) → IsBuilt k → k ≢ kind.Main → (saved : Bool) (c : Brain) (b : Bank) → All (λ n. is_save n ≡ false) (step_notes b.time k (kind_step k saved c b))
+plain_kind k t ne saved c b =
+    All-weaker (IsOwn k b.time) (λ n. is_save n ≡ false) (λ n p. no_save (is_save n) k p.2 ne) (step_notes b.time k (kind_step k saved c b)) (step_own k t saved c b)
+
+-- ---- MAIN
+
+-- a save was made
+saved_flash : (saved : Bool) (loaded : Loaded) (first flash flash' : Told) (t : ℕ) (before : List Note) (block : List ℕ) → block ≡ block_of (settings_at loaded.settings (reverse before)) → IsWhole flash.bytes → IsWhole flash'.bytes
+    → FlashDid (Some block) saved flash flash' → FlashFits loaded first flash before → FlashFits loaded first flash' (before ++ note.Saved (tick_at t) (result_of saved) ∷ [])
+saved_flash true loaded first flash flash' t before block is whole whole' did fits = fits_saved loaded first flash flash' before (tick_at t) block is did fits
+saved_flash false loaded first flash flash' t before block is whole whole' did fits = fits_spoilt loaded first flash flash' before (tick_at t) did whole whole' fits
+
+work_flash : (v : Bool) (saved : Bool) (loaded : Loaded) (first flash flash' : Told) (c : Brain) (b : Bank) (before : List Note) → c.orders.save ≡ v → v ≡ true → c.orders.settings ≡ settings_at loaded.settings (reverse before)
+    → IsWhole flash.bytes → IsWhole flash'.bytes → FlashDid (main_saves main.Work c.orders) saved flash flash'
+    → Flashes loaded first flash flash' b.time before (step_notes b.time kind.Main (main_step saved main.Work c b))
+work_flash true saved loaded first flash flash' c b before e up is whole whole' did =
+    inr (result_of saved, rw e refl, λ fits. saved_flash saved loaded first flash flash' b.time before (block_of c.orders.settings) (ap block_of is) whole whole' (rw e at did) fits)
+work_flash false saved loaded first flash flash' c b before e up is whole whole' did = cc
+
+-- another step of MAIN
+back_flash : (loaded : Loaded) (first flash flash' : Told) (t : ℕ) (before : List Note) → flash' ≡ flash → Flashes loaded first flash flash' t before (note.Leave (tick_at t) 0 ∷ [])
+back_flash loaded first flash flash' t before same = inl (All-cons (λ n. is_save n ≡ false) (note.Leave (tick_at t) 0) [] refl (All-nil (λ n. is_save n ≡ false)), same)
+
+main_flash : (at : MainAt) (saved : Bool) (loaded : Loaded) (first flash flash' : Told) (c : Brain) (b : Bank) (before : List Note) → MainTied at c.orders.save (place before).saves → c.orders.settings ≡ settings_at loaded.settings (reverse before)
+    → IsWhole flash.bytes → IsWhole flash'.bytes → FlashDid (main_saves at c.orders) saved flash flash'
+    → Flashes loaded first flash flash' b.time before (step_notes b.time kind.Main (main_step saved at c b))
+main_flash main.Shut saved loaded first flash flash' c b before m is whole whole' did = back_flash loaded first flash flash' b.time before did
+main_flash main.Work saved loaded first flash flash' c b before m is whole whole' did = work_flash c.orders.save saved loaded first flash flash' c b before refl m.0 is whole whole' did
+main_flash main.Back saved loaded first flash flash' c b before m is whole whole' did = back_flash loaded first flash flash' b.time before did
+
+-- ---- any step
+
+kind_flash : (k : Kind) → IsBuilt k → (saved : Bool) (loaded : Loaded) (first flash flash' : Told) (c : Brain) (b : Bank) (before : List Note) → MainTied c.main_at c.orders.save (place before).saves → c.orders.settings ≡ settings_at loaded.settings (reverse before)
+    → IsWhole flash.bytes → IsWhole flash'.bytes → FlashDid (kind_saves k c) saved flash flash'
+    → Flashes loaded first flash flash' b.time before (step_notes b.time k (kind_step k saved (counted_down c b) b))
+kind_flash kind.Main t saved loaded first flash flash' c b before m is whole whole' did = main_flash c.main_at saved loaded first flash flash' (counted_down c b) b before m is whole whole' did
+kind_flash kind.Tick t saved loaded first flash flash' c b before m is whole whole' did = inl (plain_kind kind.Tick t (λ e. cc) saved (counted_down c b) b, did)
+kind_flash kind.Cap t saved loaded first flash flash' c b before m is whole whole' did = inl (plain_kind kind.Cap t (λ e. cc) saved (counted_down c b) b, did)
+kind_flash kind.Uart t saved loaded first flash flash' c b before m is whole whole' did = absurd t
+kind_flash kind.Cmp t saved loaded first flash flash' c b before m is whole whole' did = absurd t
+kind_flash kind.Pwm t saved loaded first flash flash' c b before m is whole whole' did = absurd t
+kind_flash kind.Comm t saved loaded first flash flash' c b before m is whole whole' did = absurd t
+
+flashes : (loaded : Loaded) (nest : Nest) (cost : ℕ) (trace : List Event) (c c' : Brain) (b b' : Bank) (first flash flash' : Told) (stack stack' : List Kind) (log : List Turned) (notes : List Note)
+    → Logged loaded nest cost trace b.time c b stack log → IsWhole flash.bytes → IsWhole flash'.bytes → CoreTurn nest c stack b flash notes c' stack' b' flash'
+    → Flashes loaded first flash flash' b.time (journal loaded log) notes
+flashes loaded nest cost trace c c' b b' first flash flash' stack stack' log notes l whole whole' (inl e) =
+    inl (rw e.1.notes_are (All-cons (λ n. is_save n ≡ false) (note.Enter (tick_at b.time) _) [] refl (All-nil (λ n. is_save n ≡ false))), e.2)
+flashes loaded nest cost trace c c' b b' first flash flash' stack stack' log notes l whole whole' (inr e) =
+    own_flash e.0 e.1 e.2 e.3.innermost_is e.3.stepped e.3.notes_are
+  where
+    own_flash : (k : Kind) (outer : List Kind) (did : Did) → stack ≡ k ∷ outer → IsMade (λ saved. core_step k saved c b) (core_saves k c b) b flash did c' b' flash' → notes ≡ own_notes b.hi b.lo b' k did
+        → Flashes loaded first flash flash' b.time (journal loaded log) notes
+    own_flash k outer did same made are =
+        let l' : Logged loaded nest cost trace b.time c b (k ∷ outer) log = subst (λ (st : List Kind). Logged loaded nest cost trace b.time c b st log) same l in
+        let goes = steady k c b (k ∷ outer) l'.keeps refl in
+        let i : IsStepped b (stepped_by k made.saved c b) did c' b' = rw (core_step-goes k made.saved c b goes) at made.stepped in
+        let did' : FlashDid (kind_saves k c) made.saved flash flash' = rw (core_saves-goes k c b goes) at made.flash_is in
+        rw (are ∙ own_are k b b' (stepped_by k made.saved c b) did c' i)
+        (kind_flash k (l'.keeps.built k (self_open k outer)) made.saved loaded first flash flash' c b (journal loaded log) l.ties.main l.ties.orders.settings_are whole whole' did')
+
+-- ---- what is left of the flash
+
+-- after the whole step
+pub turn_flash : (loaded : Loaded) (nest : Nest) (cost : ℕ) (trace : List Event) (c c' : Brain) (b b' : Bank) (first flash flash' : Told) (stack stack' : List Kind) (log : List Turned) (notes : List Note)
+    → Logged loaded nest cost trace b.time c b stack log → IsWhole flash.bytes → IsWhole flash'.bytes → CoreTurn nest c stack b flash notes c' stack' b' flash'
+    → FlashFits loaded first flash (journal loaded log) → FlashFits loaded first flash' (journal loaded log ++ notes)
+turn_flash loaded nest cost trace c c' b b' first flash flash' stack stack' log notes l whole whole' turn fits =
+    by_flash (flashes loaded nest cost trace c c' b b' first flash flash' stack stack' log notes l whole whole' turn)
+  where
+    by_flash : Flashes loaded first flash flash' b.time (journal loaded log) notes → FlashFits loaded first flash' (journal loaded log ++ notes)
+    by_flash (inl f) = rw f.1 (fits_pushes loaded first flash (journal loaded log) notes f.0 fits)
+    by_flash (inr s) = rw s.1 (s.2 fits)
+
+-- the only note is a P: so it is the last one of each front
+alone : (n last : Note) (front left_out : List Note) → (front ++ last ∷ []) ++ left_out ≡ n ∷ [] → front ++ last ∷ [] ≡ n ∷ []
+alone n last [] left_out e = cc
+alone n last (x ∷ []) left_out e = cc
+alone n last (x ∷ y ∷ front) left_out e = cc
+
+all_front : (P : Note → Type 0) (front left_out : List Note) → All P (front ++ left_out) → All P front
+all_front P [] left_out a = All-nil P
+all_front P (n ∷ front) left_out a = All-cons P n front (All-head P n (front ++ left_out) a) (all_front P front left_out (All-tail P n (front ++ left_out) a))
+
+-- after a step whose notes were written up to one of them
+pub front_flash : (loaded : Loaded) (nest : Nest) (cost : ℕ) (trace : List Event) (c c' : Brain) (b b' : Bank) (first flash flash' : Told) (stack stack' : List Kind) (log : List Turned) (notes front left_out : List Note) (last : Note)
+    → (front ++ last ∷ []) ++ left_out ≡ notes
+    → Logged loaded nest cost trace b.time c b stack log → IsWhole flash.bytes → IsWhole flash'.bytes → CoreTurn nest c stack b flash notes c' stack' b' flash'
+    → FlashFits loaded first flash (journal loaded log) → FlashFits loaded first flash' (journal loaded log ++ (front ++ last ∷ []))
+front_flash loaded nest cost trace c c' b b' first flash flash' stack stack' log notes front left_out last split l whole whole' turn fits =
+    by_flash (flashes loaded nest cost trace c c' b b' first flash flash' stack stack' log notes l whole whole' turn)
+  where
+    by_flash : Flashes loaded first flash flash' b.time (journal loaded log) notes → FlashFits loaded first flash' (journal loaded log ++ (front ++ last ∷ []))
+    by_flash (inl f) = rw f.1 (fits_pushes loaded first flash (journal loaded log) (front ++ last ∷ []) (all_front (λ n. is_save n ≡ false) (front ++ last ∷ []) left_out (rw split f.0)) fits)
+    by_flash (inr s) = rw (alone (note.Saved (tick_at b.time) s.0) last front left_out (split ∙ s.1)) (s.2 fits)
