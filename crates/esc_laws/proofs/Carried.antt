@@ -339,7 +339,7 @@ legal_logged loaded nest cost trace next c b stack log until le below l = record
       let a = l.owes k inside in let left = l.keeps.live k inside in omega arith);
 }
 
-last_step : (P : List Turned → Turned → Type 0) (before log : List Turned) (e : Turned) → EachStep P before (log ++ e ∷ []) → P (before ++ log) e
+pub last_step : (P : List Turned → Turned → Type 0) (before log : List Turned) (e : Turned) → EachStep P before (log ++ e ∷ []) → P (before ++ log) e
 last_step P before [] e each = rw (append-nil before) each.0
 last_step P before (x ∷ log) e each = rw (← append_assoc before (x ∷ []) log) (last_step P (before ++ x ∷ []) log e each.1)
 

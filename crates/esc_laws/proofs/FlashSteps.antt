@@ -126,7 +126,7 @@ alone n last [] left_out e = cc
 alone n last (x ∷ []) left_out e = cc
 alone n last (x ∷ y ∷ front) left_out e = cc
 
-all_front : (P : Note → Type 0) (front left_out : List Note) → All P (front ++ left_out) → All P front
+pub all_front : (P : Note → Type 0) (front left_out : List Note) → All P (front ++ left_out) → All P front
 all_front P [] left_out a = All-nil P
 all_front P (n ∷ front) left_out a = All-cons P n front (All-head P n (front ++ left_out) a) (all_front P front left_out (All-tail P n (front ++ left_out) a))
 

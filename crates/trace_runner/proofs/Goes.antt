@@ -3,11 +3,13 @@ use Rattle.std.proofs.Common.{◌≡◌, ℕ, List, [], ◌∷◌, ◌++◌, ref
 use Rattle.std.specs.Io.KnownBytes.{append_known}
 use Rattle.esc_base.specs.declared.event.Event.{Event}
 use Rattle.esc_base.specs.declared.note.Note.{Note}
+use Rattle.esc_base.specs.Flash.{Told}
+use Rattle.settings_block.specs.declared.stored.Loaded.{Loaded}
 use Rattle.trace_text.specs.Text.{note_bytes, Text}
 use Rattle.interrupt_machine.specs.declared.nest.Nest.{Nest}
 use Rattle.esc_laws.specs.Steps.{Turned, opening, notes_in, journal}
 use Rattle.trace_runner.specs.Lines.{TookLines, BrokeLines}
-use Rattle.trace_runner.specs.Run.{GoesOn, BreaksOff, LeftBelow}
+use Rattle.trace_runner.specs.Run.{Outset, GoesOn, BreaksOff, LeftBelow}
 use Rattle.trace_runner.proofs.Written.{append_known-twice}
 
 pub append_known-nil : (o : Option (List ℕ)) → append_known o [] ≡ o
@@ -37,8 +39,8 @@ regroup steps log notes last =
     ∙ ap (λ (ns : List Note). notes_in steps ++ ns) (sym (append_assoc (notes_in log) notes (last ∷ [])))
 
 -- steps, and then notes of a step that broke off
-further : (steps log : List Turned) (notes : List Note) (last : Note) → journal (steps ++ log) ++ (notes ++ last ∷ []) ≡ journal steps ++ ((notes_in log ++ notes) ++ last ∷ [])
-further steps log notes last = ap (λ (ns : List Note). opening ++ ns) (regroup steps log notes last)
+further : (loaded : Loaded) (steps log : List Turned) (notes : List Note) (last : Note) → journal loaded (steps ++ log) ++ (notes ++ last ∷ []) ≡ journal loaded steps ++ ((notes_in log ++ notes) ++ last ∷ [])
+further loaded steps log notes last = ap (λ (ns : List Note). opening loaded ++ ns) (regroup steps log notes last)
 
 module _ {K : Type 0} (given : K → Option (List ℕ)) (took : K → List ℕ → K → Type 0) where
   -- no step
@@ -73,15 +75,15 @@ module _ {K : Type 0} (given : K → Option (List ℕ)) (took : K → List ℕ �
     lines = rw (notes_in-append r.log s.log) (lines-append took (notes_in r.log) (notes_in s.log) a b c r.lines s.lines);
   }
 
-module _ {K : Type 0} (given : K → Option (List ℕ)) (took broke : K → List ℕ → K → Type 0) where
+module _ {K : Type 0} (given : K → Option (List ℕ)) (took broke : K → List ℕ → K → Type 0) (loaded : Loaded) where
   -- a step's notes break off
   pub breaks_in : (old : List Event → List Turned → Type 0) (leaves : List Event → List Note → Type 0) (own : List Note) (a b : K)
-      → ((trace : List Event) (steps : List Turned) (front rest : List Note) → old trace steps → own ≡ front ++ rest → leaves trace (journal steps ++ front))
-      → BrokeLines given took broke a own b → BreaksOff given took broke old leaves a b
+      → ((trace : List Event) (steps : List Turned) (front rest : List Note) (last : Note) → old trace steps → own ≡ (front ++ last ∷ []) ++ rest → leaves trace (journal loaded steps ++ (front ++ last ∷ [])))
+      → BrokeLines given took broke a own b → BreaksOff given took broke loaded old leaves a b
   breaks_in old leaves own a b f r = record {
     notes = r.done;
     last = r.last;
-    left_as = λ trace steps st. f trace steps (r.done ++ r.last ∷ []) r.rest st (r.parts ∙ sym (append_assoc r.done (r.last ∷ []) r.rest));
+    left_as = λ trace steps st. f trace steps r.done r.rest r.last st (r.parts ∙ sym (append_assoc r.done (r.last ∷ []) r.rest));
     mid = r.mid;
     lines = r.lines;
     given_is = r.given_is;
@@ -89,16 +91,16 @@ module _ {K : Type 0} (given : K → Option (List ℕ)) (took broke : K → List
     appended = r.appended;
   }
 
-  pub breaks_from : (first old : List Event → List Turned → Type 0) (leaves : List Event → List Note → Type 0) (a b : K) → ((trace : List Event) (steps : List Turned) → first trace steps → old trace steps) → BreaksOff given took broke old leaves a b → BreaksOff given took broke first leaves a b
+  pub breaks_from : (first old : List Event → List Turned → Type 0) (leaves : List Event → List Note → Type 0) (a b : K) → ((trace : List Event) (steps : List Turned) → first trace steps → old trace steps) → BreaksOff given took broke loaded old leaves a b → BreaksOff given took broke loaded first leaves a b
   breaks_from first old leaves a b f r = record { notes = r.notes; last = r.last; left_as = λ trace steps st. r.left_as trace steps (f trace steps st); mid = r.mid; lines = r.lines; given_is = r.given_is; refused = r.refused; appended = r.appended }
 
-  pub breaks_later : (old mid : List Event → List Turned → Type 0) (leaves : List Event → List Note → Type 0) (a b c : K) → GoesOn given took old mid [] a b → BreaksOff given took broke mid leaves b c → BreaksOff given took broke old leaves a c
+  pub breaks_later : (old mid : List Event → List Turned → Type 0) (leaves : List Event → List Note → Type 0) (a b c : K) → GoesOn given took old mid [] a b → BreaksOff given took broke loaded mid leaves b c → BreaksOff given took broke loaded old leaves a c
   breaks_later old mid leaves a b c r s = record {
     notes = notes_in r.log ++ s.notes;
     last = s.last;
     left_as = λ trace steps st.
-        let l : leaves (trace ++ []) (journal (steps ++ r.log) ++ (s.notes ++ s.last ∷ [])) = s.left_as (trace ++ []) (steps ++ r.log) (r.stands trace steps st) in
-        subst (λ (ns : List Note). leaves trace ns) (further steps r.log s.notes s.last) (subst (λ (es : List Event). leaves es (journal (steps ++ r.log) ++ (s.notes ++ s.last ∷ []))) (append-nil trace) l);
+        let l : leaves (trace ++ []) (journal loaded (steps ++ r.log) ++ (s.notes ++ s.last ∷ [])) = s.left_as (trace ++ []) (steps ++ r.log) (r.stands trace steps st) in
+        subst (λ (ns : List Note). leaves trace ns) (further loaded steps r.log s.notes s.last) (subst (λ (es : List Event). leaves es (journal loaded (steps ++ r.log) ++ (s.notes ++ s.last ∷ []))) (append-nil trace) l);
     mid = s.mid;
     lines = lines-append took (notes_in r.log) s.notes a b s.mid r.lines s.lines;
     given_is = rw (Text-append (notes_in r.log) s.notes, append_known-twice (given a) (Text (notes_in r.log)) (Text s.notes), ← r.given_is) s.given_is;
@@ -106,6 +108,6 @@ module _ {K : Type 0} (given : K → Option (List ℕ)) (took broke : K → List
     appended = s.appended;
   }
 
-  pub breaks_as : (old : List Event → List Turned → Type 0) (nest nest' : Nest) (cost cost' until : ℕ) (a b : K) → nest ≡ nest' → cost ≡ cost'
-      → BreaksOff given took broke old (LeftBelow nest cost until) a b → BreaksOff given took broke old (LeftBelow nest' cost' until) a b
-  breaks_as old nest nest' cost cost' until a b e f r = rw (← e, ← f) r
+  pub breaks_as : (old : List Event → List Turned → Type 0) (o : Outset) (now : Told) (nest nest' : Nest) (cost cost' until : ℕ) (a b : K) → nest ≡ nest' → cost ≡ cost'
+      → BreaksOff given took broke loaded old (LeftBelow o now nest cost until) a b → BreaksOff given took broke loaded old (LeftBelow o now nest' cost' until) a b
+  breaks_as old o now nest nest' cost cost' until a b e f r = rw (← e, ← f) r

@@ -4,10 +4,12 @@ use Rattle.std.proofs.lemmas.List.Elements.{All-push, All-weaker, All-append, Al
 use Rattle.esc_base.specs.declared.event.Event.{Event}
 use Rattle.esc_base.specs.declared.event.Event.TheVariants as event
 use Rattle.esc_base.specs.declared.tick.Tick.{Tick}
+use Rattle.esc_base.specs.Flash.{Told, IsWhole}
 use Rattle.esc_base.specs.Journal.{time_of}
 use Rattle.esc_base.specs.Trace.{tick_of as tick_of_event}
 use Rattle.esc_base.specs.declared.kind.Kind.{Kind}
 use Rattle.esc_base.specs.declared.note.Note.{Note}
+use Rattle.settings_block.specs.declared.stored.Loaded.{Loaded}
 use Rattle.timer_regs.specs.Bank.{Bank}
 use Rattle.timer_regs.specs.Effects.{advanced, after_line}
 use Rattle.timer_regs.specs.NextDue.{tick_of, IsNext, IsNextDue}
@@ -18,10 +20,12 @@ use Rattle.esc_core.specs.Brain.{Brain}
 use Rattle.esc_laws.specs.Steps.{Turned, journal, Below, EachStep, StepFits}
 use Rattle.esc_laws.specs.Legal.{Legal}
 use Rattle.esc_laws.specs.Logged.{Logged, CoreTurn, turned}
-use Rattle.esc_laws.proofs.Pushes.{step-push}
-use Rattle.trace_runner.specs.Run.{IsApart, StepBound, LeftBelow, StandsFor, nest_of, cost_of, newest}
+use Rattle.esc_laws.proofs.Pushes.{journal-push, step-push}
+use Rattle.trace_runner.specs.Run.{IsApart, StepBound, Outset, LeftBelow, StandsFor, nest_of, cost_of, newest}
 use Rattle.trace_runner.specs.declared.state.Runner.{Runner}
-use Rattle.esc_laws.proofs.Carried.{turn_logged, time_logged, edge_logged, comp_logged, serial_logged, stall_logged, legal_logged, front_logged}
+use Rattle.esc_laws.specs.Saves.{FlashFits}
+use Rattle.esc_laws.proofs.FlashSteps.{all_front, turn_flash, front_flash}
+use Rattle.esc_laws.proofs.Carried.{turn_logged, time_logged, edge_logged, comp_logged, serial_logged, stall_logged, legal_logged, front_logged, last_step}
 
 pub bound_push : (cost until : ℕ) (steps : List Turned) (e : Turned) → StepBound cost until steps → All (λ d. d.tick + cost ≤ e.tick) steps → e.tick < until → length e.notes ≤ 6 → StepBound cost until (steps ++ e ∷ [])
 bound_push cost until steps e b s lt few = record {
@@ -52,54 +56,58 @@ below_next cost next steps some s = All-weaker (λ d. d.tick + cost ≤ next) (�
 
 -- ---- one step
 
-pub turned-tick : {nest : Nest} {c c' : Brain} {stack stack' : List Kind} {b b' : Bank} (t : ℕ) (notes : List Note) (e : CoreTurn nest c stack b notes c' stack' b') → (turned t notes e).tick ≡ t
+pub turned-tick : {nest : Nest} {c c' : Brain} {stack stack' : List Kind} {b b' : Bank} {flash flash' : Told} (t : ℕ) (notes : List Note) (e : CoreTurn nest c stack b flash notes c' stack' b' flash') → (turned t notes e).tick ≡ t
 turned-tick t notes (inl e) = refl
 turned-tick t notes (inr e) = refl
 
-pub turned-notes : {nest : Nest} {c c' : Brain} {stack stack' : List Kind} {b b' : Bank} (t : ℕ) (notes : List Note) (e : CoreTurn nest c stack b notes c' stack' b') → (turned t notes e).notes ≡ notes
+pub turned-notes : {nest : Nest} {c c' : Brain} {stack stack' : List Kind} {b b' : Bank} {flash flash' : Told} (t : ℕ) (notes : List Note) (e : CoreTurn nest c stack b flash notes c' stack' b' flash') → (turned t notes e).notes ≡ notes
 turned-notes t notes (inl e) = refl
 turned-notes t notes (inr e) = refl
 
 -- ---- what `Logged` becomes, with the numbers that the runner has at hand
 
-pub step_logged : (nest nest' : Nest) (cost next : ℕ) (trace : List Event) (c c' : Brain) (b b' : Bank) (stack stack' : List Kind) (steps : List Turned) (notes : List Note)
-    → nest' ≡ nest → b.time ≡ next → 1 ≤ cost → next + cost < 2147483648 → Logged nest cost trace next c b stack steps → is_idle stack (due_now false b) ≡ false
-    → (t : CoreTurn nest c stack b notes c' stack' b')
-    → Logged nest' cost trace (next + cost) c' b' stack' (steps ++ turned b.time notes t ∷ [])
-step_logged nest nest' cost next trace c c' b b' stack stack' steps notes same at some small l busy t =
-    rw same (subst (λ (n : ℕ). Logged nest cost trace (n + cost) c' b' stack' (steps ++ turned b.time notes t ∷ [])) at
-    (turn_logged nest cost trace c c' b b' stack stack' steps notes some (omega arith) (subst (λ (n : ℕ). Logged nest cost trace n c b stack steps) (sym at) l) busy t))
-
-each_last : (P : List Turned → Turned → Type 0) (before log : List Turned) (e : Turned) → EachStep P before (log ++ e ∷ []) → P (before ++ log) e
-each_last P before [] e s = rw (append-nil before) s.0
-each_last P before (x ∷ log) e s = subst (λ (es : List Turned). P es e) (append_assoc before (x ∷ []) log) (each_last P (before ++ x ∷ []) log e s.1)
-
-all_front : (P : Note → Type 0) (xs ys : List Note) → All P (xs ++ ys) → All P xs
-all_front P [] ys a = All-nil P
-all_front P (x ∷ xs) ys a = All-cons P x xs (All-head P x (xs ++ ys) a) (all_front P xs ys (All-tail P x (xs ++ ys) a))
+pub step_logged : (loaded : Loaded) (nest nest' : Nest) (cost next : ℕ) (trace : List Event) (c c' : Brain) (b b' : Bank) (flash flash' : Told) (stack stack' : List Kind) (steps : List Turned) (notes : List Note)
+    → nest' ≡ nest → b.time ≡ next → 1 ≤ cost → next + cost < 2147483648 → Logged loaded nest cost trace next c b stack steps → is_idle stack (due_now c.orders.save b) ≡ false
+    → (t : CoreTurn nest c stack b flash notes c' stack' b' flash')
+    → Logged loaded nest' cost trace (next + cost) c' b' stack' (steps ++ turned b.time notes t ∷ [])
+step_logged loaded nest nest' cost next trace c c' b b' flash flash' stack stack' steps notes same at some small l busy t =
+    rw same (subst (λ (n : ℕ). Logged loaded nest cost trace (n + cost) c' b' stack' (steps ++ turned b.time notes t ∷ [])) at
+    (turn_logged loaded nest cost trace c c' b b' flash flash' stack stack' steps notes some (omega arith) (subst (λ (n : ℕ). Logged loaded nest cost trace n c b stack steps) (sym at) l) busy t))
 
 -- the notes of a step stand at its tick
-own_below : (nest : Nest) (cost until : ℕ) (trace : List Event) (steps : List Turned) (e : Turned) (front rest : List Note) → e.notes ≡ front ++ rest → e.tick < until
-    → EachStep (StepFits nest cost trace) [] (steps ++ e ∷ []) → All (λ n. time_of n < until) front
-own_below nest cost until trace steps e front rest split lt fits =
-    let f : StepFits nest cost trace steps e = each_last (StepFits nest cost trace) [] steps e fits in
+own_below : (loaded : Loaded) (nest : Nest) (cost until : ℕ) (trace : List Event) (steps : List Turned) (e : Turned) (front rest : List Note) → e.notes ≡ front ++ rest → e.tick < until
+    → EachStep (StepFits loaded nest cost trace) [] (steps ++ e ∷ []) → All (λ n. time_of n < until) front
+own_below loaded nest cost until trace steps e front rest split lt fits =
+    let f : StepFits loaded nest cost trace steps e = last_step (StepFits loaded nest cost trace) [] steps e fits in
     let at : All (λ n. time_of n ≡ e.tick) (front ++ rest) = subst (λ (ns : List Note). All (λ n. time_of n ≡ e.tick) ns) split f.at_tick in
     All-weaker (λ n. time_of n ≡ e.tick) (λ n. time_of n < until) (λ n is. omega arith) front (all_front (λ n. time_of n ≡ e.tick) front rest at)
 
--- what is left where only a front of a step's notes was written
-pub step_breaks : (nest : Nest) (cost next until : ℕ) (trace : List Event) (c c' : Brain) (b b' : Bank) (stack stack' : List Kind) (steps : List Turned) (notes front rest : List Note)
-    → b.time ≡ next → next < until → 1 ≤ cost → next + cost < 2147483648 → Logged nest cost trace next c b stack steps → is_idle stack (due_now false b) ≡ false
-    → CoreTurn nest c stack b notes c' stack' b' → Below next steps → notes ≡ front ++ rest → LeftBelow nest cost until trace (journal steps ++ front)
-step_breaks nest cost next until trace c c' b b' stack stack' steps notes front rest at lt some small l busy t below split =
+-- the flash after the step
+pub step_flash : (o : Outset) (nest : Nest) (cost next : ℕ) (trace : List Event) (c c' : Brain) (b b' : Bank) (flash flash' : Told) (stack stack' : List Kind) (steps : List Turned) (notes : List Note)
+    → b.time ≡ next → Logged o.loaded nest cost trace next c b stack steps → IsWhole flash.bytes → IsWhole flash'.bytes
+    → (t : CoreTurn nest c stack b flash notes c' stack' b' flash') → FlashFits o.loaded o.flash flash (journal o.loaded steps)
+    → FlashFits o.loaded o.flash flash' (journal o.loaded (steps ++ turned b.time notes t ∷ []))
+step_flash o nest cost next trace c c' b b' flash flash' stack stack' steps notes at l whole whole' t fits =
+    rw (journal-push o.loaded steps (turned b.time notes t), turned-notes b.time notes t)
+    (turn_flash o.loaded nest cost trace c c' b b' o.flash flash flash' stack stack' steps notes (subst (λ (n : ℕ). Logged o.loaded nest cost trace n c b stack steps) (sym at) l) whole whole' t fits)
+
+-- what is left where the notes of a step were written up to one of them
+pub step_breaks : (o : Outset) (nest : Nest) (cost next until : ℕ) (trace : List Event) (c c' : Brain) (b b' : Bank) (flash flash' : Told) (stack stack' : List Kind) (steps : List Turned) (notes front rest : List Note) (last : Note)
+    → b.time ≡ next → next < until → 1 ≤ cost → next + cost < 2147483648 → Logged o.loaded nest cost trace next c b stack steps → is_idle stack (due_now c.orders.save b) ≡ false
+    → CoreTurn nest c stack b flash notes c' stack' b' flash' → Below next steps → notes ≡ (front ++ last ∷ []) ++ rest → IsWhole flash.bytes → IsWhole flash'.bytes → FlashFits o.loaded o.flash flash (journal o.loaded steps)
+    → LeftBelow o flash' nest cost until trace (journal o.loaded steps ++ (front ++ last ∷ []))
+step_breaks o nest cost next until trace c c' b b' flash flash' stack stack' steps notes front rest last at lt some small l busy t below split whole whole' fits =
     let e : Turned = turned b.time notes t in
     let tick : e.tick ≡ next = turned-tick b.time notes t ∙ at in
-    let own : e.notes ≡ front ++ rest = turned-notes b.time notes t ∙ split in
-    let after : Logged nest cost trace (next + cost) c' b' stack' (steps ++ e ∷ []) = step_logged nest nest cost next trace c c' b b' stack stack' steps notes refl at some small l busy t in
+    let own : e.notes ≡ (front ++ last ∷ []) ++ rest = turned-notes b.time notes t ∙ split in
+    let after : Logged o.loaded nest cost trace (next + cost) c' b' stack' (steps ++ e ∷ []) = step_logged o.loaded nest nest cost next trace c c' b b' flash flash' stack stack' steps notes refl at some small l busy t in
     record {
-      legal = front_logged nest cost trace (next + cost) c' b' stack' steps e front rest own (subst (λ (n : ℕ). Below n steps) (sym tick) below) after;
-      below = All-append (λ n. time_of n < until) (journal steps) front
-          (All-weaker (λ n. time_of n ≤ b.time) (λ n. time_of n < until) (λ n le. omega arith) (journal steps) l.marks.past)
-          (own_below nest cost until trace steps e front rest own (omega arith) after.fits);
+      legal = front_logged o.loaded nest cost trace (next + cost) c' b' stack' steps e (front ++ last ∷ []) rest own (subst (λ (n : ℕ). Below n steps) (sym tick) below) after;
+      below = All-append (λ n. time_of n < until) (journal o.loaded steps) (front ++ last ∷ [])
+          (All-weaker (λ n. time_of n ≤ b.time) (λ n. time_of n < until) (λ n le. omega arith) (journal o.loaded steps) l.marks.past)
+          (own_below o.loaded nest cost until trace steps e (front ++ last ∷ []) rest own (omega arith) after.fits);
+      flash = front_flash o.loaded nest cost trace c c' b b' o.flash flash flash' stack stack' steps notes front rest last (sym split)
+          (subst (λ (n : ℕ). Logged o.loaded nest cost trace n c b stack steps) (sym at) l) whole whole' t fits;
     }
 
 -- ---- an idle jump
@@ -136,52 +144,52 @@ none_due o limit e d h = let f : None ≡ Some d = sym (ap (λ (x : Option Tick)
 at_limit : (t : Tick) (n : ℕ) → n ≡ t.0 → t ≡ tick_at n
 at_limit t n e = rw e refl
 
-with_event : (nest : Nest) (cost : ℕ) (trace : List Event) (e e' : Event) (next : ℕ) (c : Brain) (b b' : Bank) (stack : List Kind) (steps : List Turned) → e ≡ e' → b ≡ b'
-    → Logged nest cost (trace ++ e' ∷ []) next c b' stack steps → Logged nest cost (trace ++ e ∷ []) next c b stack steps
-with_event nest cost trace e e' next c b b' stack steps same bank l = rw (same, bank) l
+with_event : (loaded : Loaded) (nest : Nest) (cost : ℕ) (trace : List Event) (e e' : Event) (next : ℕ) (c : Brain) (b b' : Bank) (stack : List Kind) (steps : List Turned) → e ≡ e' → b ≡ b'
+    → Logged loaded nest cost (trace ++ e' ∷ []) next c b' stack steps → Logged loaded nest cost (trace ++ e ∷ []) next c b stack steps
+with_event loaded nest cost trace e e' next c b b' stack steps same bank l = rw (same, bank) l
 
 -- the runner's place before an event: all steps are below it
-pub record IsReady (nest : Nest) (cost : ℕ) (trace : List Event) (next : ℕ) (c : Brain) (b : Bank) (stack : List Kind) (steps : List Turned) (limit : ℕ) : Type 0 where
-  pub logged : Logged nest cost trace next c b stack steps
+pub record IsReady (loaded : Loaded) (nest : Nest) (cost : ℕ) (trace : List Event) (next : ℕ) (c : Brain) (b : Bank) (stack : List Kind) (steps : List Turned) (limit : ℕ) : Type 0 where
+  pub logged : Logged loaded nest cost trace next c b stack steps
   pub below : Below limit steps
   pub later : b.time ≤ limit
   pub reached : limit ≤ next
   pub small : limit < 2147483648
 
-module _ (nest : Nest) (cost : ℕ) (trace : List Event) (next : ℕ) (c : Brain) (b b' : Bank) (stack : List Kind) (steps : List Turned) (limit : ℕ) (e : Event) (t : Tick) where
-  at_event : IsReady nest cost trace next c b stack steps limit → Logged nest cost trace next c (advanced b limit) stack steps
-  at_event r = time_logged nest cost trace next c b stack steps limit r.later r.reached r.small r.logged
+module _ (loaded : Loaded) (nest : Nest) (cost : ℕ) (trace : List Event) (next : ℕ) (c : Brain) (b b' : Bank) (stack : List Kind) (steps : List Turned) (limit : ℕ) (e : Event) (t : Tick) where
+  at_event : IsReady loaded nest cost trace next c b stack steps limit → Logged loaded nest cost trace next c (advanced b limit) stack steps
+  at_event r = time_logged loaded nest cost trace next c b stack steps limit r.later r.reached r.small r.logged
 
-  pub edge_later : (level : Bool) → e ≡ event.Edge t level → limit ≡ tick_of_event e → b' ≡ after_line (advanced b limit) level → IsReady nest cost trace next c b stack steps limit
-      → Logged nest cost (trace ++ e ∷ []) next c b' stack steps
+  pub edge_later : (level : Bool) → e ≡ event.Edge t level → limit ≡ tick_of_event e → b' ≡ after_line (advanced b limit) level → IsReady loaded nest cost trace next c b stack steps limit
+      → Logged loaded nest cost (trace ++ e ∷ []) next c b' stack steps
   edge_later level is at bank r =
       let n : limit ≡ t.0 = subst (λ (x : Event). limit ≡ tick_of_event x) is at in
-      with_event nest cost trace e (event.Edge (tick_at limit) level) next c b' (after_line (advanced b limit) level) stack steps (is ∙ ap (λ (u : Tick). event.Edge u level) (at_limit t limit n)) bank
-      (edge_logged nest cost trace next c (advanced b limit) stack steps level r.below (at_event r))
+      with_event loaded nest cost trace e (event.Edge (tick_at limit) level) next c b' (after_line (advanced b limit) level) stack steps (is ∙ ap (λ (u : Tick). event.Edge u level) (at_limit t limit n)) bank
+      (edge_logged loaded nest cost trace next c (advanced b limit) stack steps level r.below (at_event r))
 
-  pub comp_later : (level : Bool) → e ≡ event.Comp t level → limit ≡ tick_of_event e → b' ≡ advanced b limit → IsReady nest cost trace next c b stack steps limit
-      → Logged nest cost (trace ++ e ∷ []) next c b' stack steps
+  pub comp_later : (level : Bool) → e ≡ event.Comp t level → limit ≡ tick_of_event e → b' ≡ advanced b limit → IsReady loaded nest cost trace next c b stack steps limit
+      → Logged loaded nest cost (trace ++ e ∷ []) next c b' stack steps
   comp_later level is at bank r =
       let n : limit ≡ t.0 = subst (λ (x : Event). limit ≡ tick_of_event x) is at in
-      with_event nest cost trace e (event.Comp (tick_at limit) level) next c b' (advanced b limit) stack steps (is ∙ ap (λ (u : Tick). event.Comp u level) (at_limit t limit n)) bank
-      (comp_logged nest cost trace next c (advanced b limit) stack steps level r.below (at_event r))
+      with_event loaded nest cost trace e (event.Comp (tick_at limit) level) next c b' (advanced b limit) stack steps (is ∙ ap (λ (u : Tick). event.Comp u level) (at_limit t limit n)) bank
+      (comp_logged loaded nest cost trace next c (advanced b limit) stack steps level r.below (at_event r))
 
-  pub serial_later : (byte : ℕ) → e ≡ event.Serial t byte → limit ≡ tick_of_event e → b' ≡ advanced b limit → IsReady nest cost trace next c b stack steps limit
-      → Logged nest cost (trace ++ e ∷ []) next c b' stack steps
+  pub serial_later : (byte : ℕ) → e ≡ event.Serial t byte → limit ≡ tick_of_event e → b' ≡ advanced b limit → IsReady loaded nest cost trace next c b stack steps limit
+      → Logged loaded nest cost (trace ++ e ∷ []) next c b' stack steps
   serial_later byte is at bank r =
       let n : limit ≡ t.0 = subst (λ (x : Event). limit ≡ tick_of_event x) is at in
-      with_event nest cost trace e (event.Serial (tick_at limit) byte) next c b' (advanced b limit) stack steps (is ∙ ap (λ (u : Tick). event.Serial u byte) (at_limit t limit n)) bank
-      (serial_logged nest cost trace next c (advanced b limit) stack steps byte r.below (at_event r))
+      with_event loaded nest cost trace e (event.Serial (tick_at limit) byte) next c b' (advanced b limit) stack steps (is ∙ ap (λ (u : Tick). event.Serial u byte) (at_limit t limit n)) bank
+      (serial_logged loaded nest cost trace next c (advanced b limit) stack steps byte r.below (at_event r))
 
-  pub stall_later : (n next' : ℕ) → e ≡ event.Stall t n → limit ≡ tick_of_event e → b' ≡ advanced b limit → next' ≡ max next (t.0 + n) → IsReady nest cost trace next c b stack steps limit
-      → Logged nest cost (trace ++ e ∷ []) next' c b' stack steps
+  pub stall_later : (n next' : ℕ) → e ≡ event.Stall t n → limit ≡ tick_of_event e → b' ≡ advanced b limit → next' ≡ max next (t.0 + n) → IsReady loaded nest cost trace next c b stack steps limit
+      → Logged loaded nest cost (trace ++ e ∷ []) next' c b' stack steps
   stall_later n next' is at bank put_off r =
       let u : limit ≡ t.0 = subst (λ (x : Event). limit ≡ tick_of_event x) is at in
-      subst (λ (k : ℕ). Logged nest cost (trace ++ e ∷ []) k c b' stack steps) (ap (λ (k : ℕ). max next (k + n)) u ∙ sym put_off)
-      (with_event nest cost trace e (event.Stall (tick_at limit) n) (max next (limit + n)) c b' (advanced b limit) stack steps (is ∙ ap (λ (x : Tick). event.Stall x n) (at_limit t limit u)) bank
-      (stall_logged nest cost trace next c (advanced b limit) stack steps n r.below (at_event r)))
+      subst (λ (k : ℕ). Logged loaded nest cost (trace ++ e ∷ []) k c b' stack steps) (ap (λ (k : ℕ). max next (k + n)) u ∙ sym put_off)
+      (with_event loaded nest cost trace e (event.Stall (tick_at limit) n) (max next (limit + n)) c b' (advanced b limit) stack steps (is ∙ ap (λ (x : Tick). event.Stall x n) (at_limit t limit u)) bank
+      (stall_logged loaded nest cost trace next c (advanced b limit) stack steps n r.below (at_event r)))
 
 -- ---- what a runner that stands says
 
-pub legal_at : (r : Runner) (trace : List Event) (steps : List Turned) → StandsFor r trace steps → Legal (nest_of r) (cost_of r) trace (newest r) (journal steps)
-legal_at r trace steps st = legal_logged r.machine.nest r.cost trace r.next.0 r.machine.firmware r.regs r.machine.open_kinds steps r.limit.0 st.reached st.runs.bound.below st.runs.logged
+pub legal_at : (r : Runner) (o : Outset) (now : Told) (trace : List Event) (steps : List Turned) → StandsFor r o now trace steps → Legal o.loaded (nest_of r) (cost_of r) trace (newest r) (journal o.loaded steps)
+legal_at r o now trace steps st = legal_logged o.loaded r.machine.nest r.cost trace r.next.0 r.machine.firmware r.regs r.machine.open_kinds steps r.limit.0 st.reached st.runs.bound.below st.runs.logged

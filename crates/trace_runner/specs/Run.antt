@@ -3,10 +3,13 @@ use Rattle.std.specs.Prelude.{◌≡◌, ◌<◌, ◌≤◌, ◌+◌, ℕ, List,
 use Rattle.std.specs.Io.KnownBytes.{append_known}
 use Rattle.esc_base.specs.declared.event.Event.{Event}
 use Rattle.esc_base.specs.declared.note.Note.{Note}
+use Rattle.esc_base.specs.Flash.{Told}
 use Rattle.esc_base.specs.Journal.{time_of}
 use Rattle.esc_base.specs.Outside.{AppendsFront}
 use Rattle.trace_text.specs.Text.{note_bytes, Text}
+use Rattle.settings_block.specs.declared.stored.Loaded.{Loaded}
 use Rattle.interrupt_machine.specs.declared.nest.Nest.{Nest}
+use Rattle.esc_laws.specs.Saves.{FlashFits}
 use Rattle.esc_laws.specs.Steps.{Turned, notes_in, journal, EachStep, Below}
 use Rattle.esc_laws.specs.Legal.{LegalFront}
 use Rattle.esc_laws.specs.Logged.{Logged}
@@ -35,22 +38,30 @@ pub record StepBound (cost until : ℕ) (steps : List Turned) : Type 0 where
   pub below : Below until steps
   pub few : All (λ e. length e.notes ≤ 6) steps
 
--- The core, the registers and the open kinds are what this trace and these steps say, all steps are below the newest
--- event, and each stands by the cost before the next one.
-pub record Runs (r : Runner) (trace : List Event) (steps : List Turned) : Type 0 where
-  pub logged : Logged r.machine.nest r.cost trace r.next.0 r.machine.firmware r.regs r.machine.open_kinds steps
+-- what a run begins with: the settings that were loaded, and what the flash told after the load
+pub record Outset : Type 0 where
+  pub loaded : Loaded
+  pub flash : Told
+
+-- The core, the registers and the open kinds are what this trace and these steps say, from this outset; all steps are below
+-- the newest event, and each stands by the cost before the next one; and what the flash tells now is what the notes say.
+pub record Runs (r : Runner) (o : Outset) (now : Told) (trace : List Event) (steps : List Turned) : Type 0 where
+  pub logged : Logged o.loaded r.machine.nest r.cost trace r.next.0 r.machine.firmware r.regs r.machine.open_kinds steps
   pub bound : StepBound r.cost r.limit.0 steps
   pub spaced : All (λ e. e.tick + r.cost ≤ r.next.0) steps
+  pub flash : FlashFits o.loaded o.flash now (journal o.loaded steps)
 
 -- The runner stands for this trace and these steps: besides, no step is due below the newest event.
-pub record StandsFor (r : Runner) (trace : List Event) (steps : List Turned) : Type 0 where
-  pub runs : Runs r trace steps
+pub record StandsFor (r : Runner) (o : Outset) (now : Told) (trace : List Event) (steps : List Turned) : Type 0 where
+  pub runs : Runs r o now trace steps
   pub reached : r.limit.0 ≤ r.next.0
 
--- What is left where a write failed: whole steps below a tick and a front of the notes of one more, which is below it too.
-pub record LeftBelow (nest : Nest) (cost until : ℕ) (trace : List Event) (notes : List Note) : Type 0 where
-  pub legal : LegalFront nest cost trace notes
+-- What is left where a write failed: whole steps below a tick and a front of the notes of one more, which is below it too;
+-- and the flash is what these notes say.
+pub record LeftBelow (o : Outset) (now : Told) (nest : Nest) (cost until : ℕ) (trace : List Event) (notes : List Note) : Type 0 where
+  pub legal : LegalFront o.loaded nest cost trace notes
   pub below : All (λ n. time_of n < until) notes
+  pub flash : FlashFits o.loaded o.flash now notes
 
 -- The call made some steps: what stood for a trace and steps stands for the trace with these events and for the steps
 -- with those at their end, and the sink took the lines of the notes, in order.
@@ -62,10 +73,10 @@ pub record GoesOn {K : Type 0} (given : K → Option (List ℕ)) (took : K → L
 
 -- The call wrote some notes, and the sink refused the line of the next one. With this one, the journal of what stood
 -- before is as it may be left.
-pub record BreaksOff {K : Type 0} (given : K → Option (List ℕ)) (took broke : K → List ℕ → K → Type 0) (old : List Event → List Turned → Type 0) (leaves : List Event → List Note → Type 0) (before after : K) : Type 0 where
+pub record BreaksOff {K : Type 0} (given : K → Option (List ℕ)) (took broke : K → List ℕ → K → Type 0) (loaded : Loaded) (old : List Event → List Turned → Type 0) (leaves : List Event → List Note → Type 0) (before after : K) : Type 0 where
   pub notes : List Note
   pub last : Note
-  pub left_as : (trace : List Event) (steps : List Turned) → old trace steps → leaves trace (journal steps ++ (notes ++ last ∷ []))
+  pub left_as : (trace : List Event) (steps : List Turned) → old trace steps → leaves trace (journal loaded steps ++ (notes ++ last ∷ []))
   pub mid : K
   pub lines : TookLines took before notes mid
   pub given_is : given mid ≡ append_known (given before) (Text notes)

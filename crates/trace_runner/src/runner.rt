@@ -1,13 +1,15 @@
 //! All steps before an event's tick, the lines of their notes, and then the event.
 ghost use Rattle.std.specs.Prelude.{◌≡◌, ◌<◌, ◌≤◌, ◌+◌, ◌++◌, ◌∷◌, [], List, OnOk, OnErr, true, false};
 ghost use Rattle.esc_base.specs.declared.event.Event.{Event as AnEvent};
+ghost use Rattle.esc_base.specs.Flash.{Told, told};
 ghost use Rattle.esc_base.specs.Outside.{Rose};
 ghost use Rattle.esc_base.specs.Trace.{tick_of as tick_of_event};
 ghost use Rattle.trace_text.specs.Ahead.{StallFits};
 ghost use Rattle.interrupt_machine.specs.Open.{due_now, is_idle};
 ghost use Rattle.esc_laws.specs.Steps.{Turned, journal};
 ghost use Rattle.esc_laws.specs.Legal.{Legal};
-ghost use Rattle.trace_runner.specs.Run.{Runs, StandsFor, StepBound, LeftBelow, GoesOn, BreaksOff, nest_of, cost_of, newest};
+ghost use Rattle.esc_laws.specs.Saves.{FlashFits};
+ghost use Rattle.trace_runner.specs.Run.{Outset, Runs, StandsFor, StepBound, LeftBelow, GoesOn, BreaksOff, nest_of, cost_of, newest};
 
 use crate::lines::put_notes;
 use crate::{Runner, WriteFault};
@@ -32,16 +34,18 @@ impl Runner {
         requires later { newest self.old ≤ tick_of_event e }
         requires stall { StallFits e }
 
-        // What stood for a trace and some steps stands for them with this event and the new steps, whose lines the sink
-        // took; or some lines were taken, and one was refused, all of notes before the event's tick.
-        ensures goes { OnOk result (GoesOn K.given K.took (StandsFor self.old) (StandsFor self.new) (e ∷ []) out.old out.new) }
-        ensures breaks { OnErr result (BreaksOff K.given K.took K.broke (StandsFor self.old) (LeftBelow (nest_of self.old) (cost_of self.old) (newest self.new)) out.old out.new) }
+        // From any outset: what stood for a trace and some steps stands for them with this event and the new steps, whose
+        // lines the sink took; or some lines were taken, and one was refused, all of notes before the event's tick.
+        ensures goes { OnOk result ((o : Outset) → GoesOn K.given K.took (StandsFor self.old o (told D.bytes D.faults dev.old)) (StandsFor self.new o (told D.bytes D.faults dev.new)) (e ∷ []) out.old out.new) }
+        ensures breaks { OnErr result ((o : Outset) → BreaksOff K.given K.took K.broke o.loaded (StandsFor self.old o (told D.bytes D.faults dev.old)) (LeftBelow o (told D.bytes D.faults dev.new) (nest_of self.old) (cost_of self.old) (newest self.new)) out.old out.new) }
         ensures failed { OnErr result (Rose (K.faults out.old) (K.faults out.new)) }
         ensures no_fewer { K.faults out.old ≤ K.faults out.new }
 
-        // What it stands for is a legal journal up to the event's tick, whose steps are by the cost apart.
-        ensures legal { OnOk result ((trace : List AnEvent) (steps : List Turned) → StandsFor self.new trace steps → Legal (nest_of self.new) (cost_of self.new) trace (newest self.new) (journal steps)) }
-        ensures apart { OnOk result ((trace : List AnEvent) (steps : List Turned) → StandsFor self.new trace steps → StepBound (cost_of self.new) (newest self.new) steps) }
+        // What it stands for is a legal journal up to the event's tick, whose steps are by the cost apart, and the flash is
+        // what its saves say.
+        ensures legal { OnOk result ((o : Outset) (trace : List AnEvent) (steps : List Turned) → StandsFor self.new o (told D.bytes D.faults dev.new) trace steps → Legal o.loaded (nest_of self.new) (cost_of self.new) trace (newest self.new) (journal o.loaded steps)) }
+        ensures flash { OnOk result ((o : Outset) (trace : List AnEvent) (steps : List Turned) → StandsFor self.new o (told D.bytes D.faults dev.new) trace steps → FlashFits o.loaded o.flash (told D.bytes D.faults dev.new) (journal o.loaded steps)) }
+        ensures apart { OnOk result ((o : Outset) (trace : List AnEvent) (steps : List Turned) → StandsFor self.new o (told D.bytes D.faults dev.new) trace steps → StepBound (cost_of self.new) (newest self.new) steps) }
 
         ensures newest { newest self.new ≡ tick_of_event e }
         ensures nest { nest_of self.new ≡ nest_of self.old }
@@ -57,13 +61,14 @@ impl Runner {
         requires small { t.0 ≤ 1073741824 }
         requires later { newest self.old ≤ t.0 }
 
-        ensures goes { OnOk result (GoesOn K.given K.took (StandsFor self.old) (StandsFor self.new) [] out.old out.new) }
-        ensures breaks { OnErr result (BreaksOff K.given K.took K.broke (StandsFor self.old) (LeftBelow (nest_of self.old) (cost_of self.old) (newest self.new)) out.old out.new) }
+        ensures goes { OnOk result ((o : Outset) → GoesOn K.given K.took (StandsFor self.old o (told D.bytes D.faults dev.old)) (StandsFor self.new o (told D.bytes D.faults dev.new)) [] out.old out.new) }
+        ensures breaks { OnErr result ((o : Outset) → BreaksOff K.given K.took K.broke o.loaded (StandsFor self.old o (told D.bytes D.faults dev.old)) (LeftBelow o (told D.bytes D.faults dev.new) (nest_of self.old) (cost_of self.old) (newest self.new)) out.old out.new) }
         ensures failed { OnErr result (Rose (K.faults out.old) (K.faults out.new)) }
         ensures no_fewer { K.faults out.old ≤ K.faults out.new }
 
-        ensures legal { OnOk result ((trace : List AnEvent) (steps : List Turned) → StandsFor self.new trace steps → Legal (nest_of self.new) (cost_of self.new) trace (newest self.new) (journal steps)) }
-        ensures apart { OnOk result ((trace : List AnEvent) (steps : List Turned) → StandsFor self.new trace steps → StepBound (cost_of self.new) (newest self.new) steps) }
+        ensures legal { OnOk result ((o : Outset) (trace : List AnEvent) (steps : List Turned) → StandsFor self.new o (told D.bytes D.faults dev.new) trace steps → Legal o.loaded (nest_of self.new) (cost_of self.new) trace (newest self.new) (journal o.loaded steps)) }
+        ensures flash { OnOk result ((o : Outset) (trace : List AnEvent) (steps : List Turned) → StandsFor self.new o (told D.bytes D.faults dev.new) trace steps → FlashFits o.loaded o.flash (told D.bytes D.faults dev.new) (journal o.loaded steps)) }
+        ensures apart { OnOk result ((o : Outset) (trace : List AnEvent) (steps : List Turned) → StandsFor self.new o (told D.bytes D.faults dev.new) trace steps → StepBound (cost_of self.new) (newest self.new) steps) }
 
         ensures newest { newest self.new ≡ t.0 }
         ensures nest { nest_of self.new ≡ nest_of self.old }
@@ -77,8 +82,8 @@ impl Runner {
         requires small { limit.0 ≤ 1073741824 }
         requires later { self.old.limit.0 ≤ limit.0 }
         ensures reached { OnOk result (self.new.limit.0 ≤ self.new.next.0) }
-        ensures goes { OnOk result (GoesOn K.given K.took (Runs self.old) (Runs self.new) [] out.old out.new) }
-        ensures breaks { OnErr result (BreaksOff K.given K.took K.broke (Runs self.old) (LeftBelow (nest_of self.old) (cost_of self.old) (newest self.new)) out.old out.new) }
+        ensures goes { OnOk result ((o : Outset) → GoesOn K.given K.took (Runs self.old o (told D.bytes D.faults dev.old)) (Runs self.new o (told D.bytes D.faults dev.new)) [] out.old out.new) }
+        ensures breaks { OnErr result ((o : Outset) → BreaksOff K.given K.took K.broke o.loaded (Runs self.old o (told D.bytes D.faults dev.old)) (LeftBelow o (told D.bytes D.faults dev.new) (nest_of self.old) (cost_of self.old) (newest self.new)) out.old out.new) }
         ensures failed { OnErr result (Rose (K.faults out.old) (K.faults out.new)) }
         ensures no_fewer { K.faults out.old ≤ K.faults out.new }
         ensures limit { self.new.limit ≡ limit }
@@ -91,8 +96,8 @@ impl Runner {
 
     fn run_on<K: Sink, D: FlashDev>(&mut self, out: &mut K, dev: &mut D) -> Result<(), WriteFault>
         ensures reached { OnOk result (self.new.limit.0 ≤ self.new.next.0) }
-        ensures goes { OnOk result (GoesOn K.given K.took (Runs self.old) (Runs self.new) [] out.old out.new) }
-        ensures breaks { OnErr result (BreaksOff K.given K.took K.broke (Runs self.old) (LeftBelow (nest_of self.old) (cost_of self.old) (newest self.new)) out.old out.new) }
+        ensures goes { OnOk result ((o : Outset) → GoesOn K.given K.took (Runs self.old o (told D.bytes D.faults dev.old)) (Runs self.new o (told D.bytes D.faults dev.new)) [] out.old out.new) }
+        ensures breaks { OnErr result ((o : Outset) → BreaksOff K.given K.took K.broke o.loaded (Runs self.old o (told D.bytes D.faults dev.old)) (LeftBelow o (told D.bytes D.faults dev.new) (nest_of self.old) (cost_of self.old) (newest self.new)) out.old out.new) }
         ensures failed { OnErr result (Rose (K.faults out.old) (K.faults out.new)) }
         ensures no_fewer { K.faults out.old ≤ K.faults out.new }
         ensures limit { self.new.limit ≡ self.old.limit }
@@ -109,8 +114,8 @@ impl Runner {
     fn go_on<K: Sink, D: FlashDev>(&mut self, out: &mut K, dev: &mut D) -> Result<(), WriteFault>
         requires { self.old.next.0 < self.old.limit.0 }
         ensures later { OnOk result (self.old.next.0 < self.new.next.0) }
-        ensures goes { OnOk result (GoesOn K.given K.took (Runs self.old) (Runs self.new) [] out.old out.new) }
-        ensures breaks { OnErr result (BreaksOff K.given K.took K.broke (Runs self.old) (LeftBelow (nest_of self.old) (cost_of self.old) (newest self.new)) out.old out.new) }
+        ensures goes { OnOk result ((o : Outset) → GoesOn K.given K.took (Runs self.old o (told D.bytes D.faults dev.old)) (Runs self.new o (told D.bytes D.faults dev.new)) [] out.old out.new) }
+        ensures breaks { OnErr result ((o : Outset) → BreaksOff K.given K.took K.broke o.loaded (Runs self.old o (told D.bytes D.faults dev.old)) (LeftBelow o (told D.bytes D.faults dev.new) (nest_of self.old) (cost_of self.old) (newest self.new)) out.old out.new) }
         ensures failed { OnErr result (Rose (K.faults out.old) (K.faults out.new)) }
         ensures no_fewer { K.faults out.old ≤ K.faults out.new }
         ensures limit { self.new.limit ≡ self.old.limit }
@@ -130,7 +135,7 @@ impl Runner {
     fn pass(&mut self)
         requires { self.old.next.0 < self.old.limit.0 }
         ensures now { self.new.regs.time ≡ self.new.next.0 }
-        ensures runs { (trace : List AnEvent) (steps : List Turned) → Runs self.old trace steps → Runs self.new trace steps }
+        ensures runs { (o : Outset) (now : Told) (trace : List AnEvent) (steps : List Turned) → Runs self.old o now trace steps → Runs self.new o now trace steps }
         ensures next { self.new.next ≡ self.old.next }
         ensures limit { self.new.limit ≡ self.old.limit }
         ensures nest { nest_of self.new ≡ nest_of self.old }
@@ -142,10 +147,10 @@ impl Runner {
     /// Time goes on to the tick at which a kind becomes due, or to the limit.
     fn jump(&mut self)
         requires now { self.old.regs.time ≡ self.old.next.0 }
-        requires idle { is_idle self.old.machine.open_kinds (due_now false self.old.regs) ≡ true }
+        requires idle { is_idle self.old.machine.open_kinds (due_now self.old.machine.firmware.orders.save self.old.regs) ≡ true }
         requires below { self.old.next.0 < self.old.limit.0 }
         ensures later { self.old.next.0 < self.new.next.0 }
-        ensures runs { (trace : List AnEvent) (steps : List Turned) → Runs self.old trace steps → Runs self.new trace steps }
+        ensures runs { (o : Outset) (now : Told) (trace : List AnEvent) (steps : List Turned) → Runs self.old o now trace steps → Runs self.new o now trace steps }
         ensures limit { self.new.limit ≡ self.old.limit }
         ensures nest { nest_of self.new ≡ nest_of self.old }
         ensures cost { cost_of self.new ≡ cost_of self.old }
@@ -161,11 +166,11 @@ impl Runner {
     /// Makes one step of the machine, at now, and writes the lines of its notes.
     fn step<K: Sink, D: FlashDev>(&mut self, out: &mut K, dev: &mut D) -> Result<(), WriteFault>
         requires now { self.old.regs.time ≡ self.old.next.0 }
-        requires busy { is_idle self.old.machine.open_kinds (due_now false self.old.regs) ≡ false }
+        requires busy { is_idle self.old.machine.open_kinds (due_now self.old.machine.firmware.orders.save self.old.regs) ≡ false }
         requires below { self.old.next.0 < self.old.limit.0 }
         ensures next { self.new.next.0 ≡ self.old.next.0 + self.old.cost }
-        ensures goes { OnOk result (GoesOn K.given K.took (Runs self.old) (Runs self.new) [] out.old out.new) }
-        ensures breaks { OnErr result (BreaksOff K.given K.took K.broke (Runs self.old) (LeftBelow (nest_of self.old) (cost_of self.old) (newest self.new)) out.old out.new) }
+        ensures goes { OnOk result ((o : Outset) → GoesOn K.given K.took (Runs self.old o (told D.bytes D.faults dev.old)) (Runs self.new o (told D.bytes D.faults dev.new)) [] out.old out.new) }
+        ensures breaks { OnErr result ((o : Outset) → BreaksOff K.given K.took K.broke o.loaded (Runs self.old o (told D.bytes D.faults dev.old)) (LeftBelow o (told D.bytes D.faults dev.new) (nest_of self.old) (cost_of self.old) (newest self.new)) out.old out.new) }
         ensures failed { OnErr result (Rose (K.faults out.old) (K.faults out.new)) }
         ensures no_fewer { K.faults out.old ≤ K.faults out.new }
         ensures limit { self.new.limit ≡ self.old.limit }
@@ -184,7 +189,7 @@ impl Runner {
         requires reached { self.old.limit.0 ≤ self.old.next.0 }
         requires stall { StallFits e }
         ensures reached { self.new.limit.0 ≤ self.new.next.0 }
-        ensures runs { (trace : List AnEvent) (steps : List Turned) → Runs self.old trace steps → Runs self.new (trace ++ e ∷ []) steps }
+        ensures runs { (o : Outset) (now : Told) (trace : List AnEvent) (steps : List Turned) → Runs self.old o now trace steps → Runs self.new o now (trace ++ e ∷ []) steps }
         ensures limit { self.new.limit ≡ self.old.limit }
         ensures nest { nest_of self.new ≡ nest_of self.old }
         ensures cost { cost_of self.new ≡ cost_of self.old }

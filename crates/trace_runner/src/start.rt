@@ -1,9 +1,11 @@
 //! The start of a run, and its two first lines.
 ghost use Rattle.std.specs.Prelude.{◌≡◌, ◌≤◌, OnOk, OnErr, []};
 ghost use Rattle.std.specs.Io.KnownBytes.{append_known};
+ghost use Rattle.esc_base.specs.Flash.{Told};
 ghost use Rattle.esc_base.specs.Outside.{Rose};
 ghost use Rattle.trace_text.specs.Text.{Text};
-ghost use Rattle.esc_laws.specs.Steps.{opening, journal};
+ghost use Rattle.esc_laws.specs.Saves.{FlashFits};
+ghost use Rattle.esc_laws.specs.Steps.{first_notes, load_number, journal};
 ghost use Rattle.esc_laws.specs.Legal.{Legal};
 ghost use Rattle.trace_runner.specs.Lines.{TookLines, BrokeLines};
 ghost use Rattle.trace_runner.specs.Run.{StandsFor, nest_of, cost_of, newest};
@@ -30,12 +32,15 @@ fn load_number(fault: Option<BlockFault>) -> u8
 }
 
 impl Runner {
-    /// A run at tick 0: no handler is open, and the first window is open in the unknown mode.
+    /// A run at tick 0 with the settings that were loaded: no handler is open, and the first window is open in the unknown
+    /// mode.
     pub fn start(cfg: RunConfig, loaded: Loaded) -> Runner
         requires some { 1 ≤ cfg.cost }
         requires most { cfg.cost ≤ 16 }
-        ensures stands { StandsFor result [] [] }
-        ensures legal { Legal (nest_of result) (cost_of result) [] 0 (journal []) }
+        ensures stands { (first : Told) → StandsFor result (record { loaded = loaded; flash = first }) first [] [] }
+        ensures legal { Legal loaded (nest_of result) (cost_of result) [] 0 (journal loaded []) }
+        ensures flash { (first : Told) → FlashFits loaded first first (journal loaded []) }
+        ensures fault { result.fault ≡ loaded.fault }
         ensures nest { nest_of result ≡ cfg.nest }
         ensures cost { cost_of result ≡ cfg.cost }
         ensures newest { newest result ≡ 0 }
@@ -53,12 +58,12 @@ impl Runner {
         }
     }
 
-    /// Writes the two first lines: the settings, and the first window. It is called once, before all other calls.
+    /// Writes the two first lines: the load of the settings, and the first window. It is called once, before all other calls.
     pub fn begin<K: Sink>(&mut self, out: &mut K) -> Result<(), WriteFault>
         ensures same { self.new ≡ self.old }
-        ensures lines { OnOk result (TookLines K.took out.old opening out.new) }
-        ensures given { OnOk result (K.given out.new ≡ append_known (K.given out.old) (Text opening)) }
-        ensures breaks { OnErr result (BrokeLines K.given K.took K.broke out.old opening out.new) }
+        ensures lines { OnOk result (TookLines K.took out.old (first_notes self.old.fault) out.new) }
+        ensures given { OnOk result (K.given out.new ≡ append_known (K.given out.old) (Text (first_notes self.old.fault))) }
+        ensures breaks { OnErr result (BrokeLines K.given K.took K.broke out.old (first_notes self.old.fault) out.new) }
         ensures no_fewer { K.faults out.old ≤ K.faults out.new }
         ensures failed { OnErr result (Rose (K.faults out.old) (K.faults out.new)) }
     {

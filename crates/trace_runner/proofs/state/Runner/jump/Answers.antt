@@ -9,7 +9,7 @@ use Rattle.trace_runner.proofs.state.Runner.jump.Goals as goal
 use Rattle.trace_runner.proofs.state.Runner.jump.Goals.{in-Some, in_default, in_default-via-in-Some+else-due-self, in_default-via-in_default}
 
 pub returns-clause-runs : goal.returns-clause-runs
-returns-clause-runs c = λ trace steps st.
+returns-clause-runs c = λ o now trace steps st.
     let r : Runner = c.args.self.now in
     let to : Tick = c.match-next_due.to in
     let due : Option Tick = c.next_due.result in
@@ -28,8 +28,9 @@ returns-clause-runs c = λ trace steps st.
     let small : to.0 < 2147483648 = omega arith in
     let past : r.next.0 ≤ to.0 = omega arith in
     record {
-      logged = rw c.advance.ensures.regs (jump_logged r.machine.nest r.cost trace r.machine.firmware r.regs r.machine.open_kinds steps (tick_of due) to.0 c.requires.idle c.next_due.ensures later small j.no_later
-          (subst (λ (n : ℕ). Logged r.machine.nest r.cost trace n r.machine.firmware r.regs r.machine.open_kinds steps) (sym now) st.logged));
+      logged = rw c.advance.ensures.regs (jump_logged o.loaded r.machine.nest r.cost trace r.machine.firmware r.regs r.machine.open_kinds steps (tick_of due) to.0 c.requires.idle c.next_due.ensures later small j.no_later
+          (subst (λ (n : ℕ). Logged o.loaded r.machine.nest r.cost trace n r.machine.firmware r.regs r.machine.open_kinds steps) (sym now) st.logged));
       bound = st.bound;
       spaced = spaced_later r.cost r.next.0 to.0 steps past st.spaced;
+      flash = st.flash;
     }

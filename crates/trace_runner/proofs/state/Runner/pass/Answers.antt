@@ -4,14 +4,15 @@ use Rattle.esc_laws.proofs.Carried.{time_logged}
 use Rattle.trace_runner.proofs.state.Runner.pass.Goals as goal
 
 pub returns-clause-runs : goal.returns-clause-runs
-returns-clause-runs c = λ trace steps st.
+returns-clause-runs c = λ o now trace steps st.
     let r : Runner = c.args.self.now in
     let le : r.next.0 ≤ r.next.0 = omega arith in
     let most : r.limit.0 ≤ 1073741824 = r.limit_small in
     let below : r.next.0 < r.limit.0 = c.requires in
     let small : r.next.0 < 2147483648 = omega arith in
     record {
-      logged = rw c.advance.ensures.regs (time_logged r.machine.nest r.cost trace r.next.0 r.machine.firmware r.regs r.machine.open_kinds steps r.next.0 r.passed le small st.logged);
+      logged = rw c.advance.ensures.regs (time_logged o.loaded r.machine.nest r.cost trace r.next.0 r.machine.firmware r.regs r.machine.open_kinds steps r.next.0 r.passed le small st.logged);
       bound = st.bound;
       spaced = st.spaced;
+      flash = st.flash;
     }

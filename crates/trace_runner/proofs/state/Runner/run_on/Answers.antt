@@ -6,7 +6,7 @@ use Rattle.trace_runner.proofs.state.Runner.run_on.Goals as goal
 
 pub loop-self-init : goal.loop-self-init
 loop-self-init g c = record {
-  goes = goes_none g.K.Sink.given g.K.Sink.took (Runs c.args.self.now) (Runs c.args.self.now) _ (λ trace steps st. st);
+  goes = λ o. goes_none g.K.Sink.given g.K.Sink.took (Runs c.args.self.now o _) (Runs c.args.self.now o _) _ (λ trace steps st. st);
   limit = refl;
   cost = refl;
   nest = refl;
@@ -15,7 +15,7 @@ loop-self-init g c = record {
 
 pub loop-self-preserved : goal.loop-self-preserved
 loop-self-preserved g c = record {
-  goes = goes_further g.K.Sink.given g.K.Sink.took _ _ _ [] [] _ _ _ c.loop-self.invariant.goes c.in_ok-go_on.ensures.goes;
+  goes = λ o. goes_further g.K.Sink.given g.K.Sink.took _ _ _ [] [] _ _ _ (c.loop-self.invariant.goes o) (c.in_ok-go_on.ensures.goes o);
   limit = c.go_on.ensures.limit ∙ c.loop-self.invariant.limit;
   cost = c.go_on.ensures.cost ∙ c.loop-self.invariant.cost;
   nest = c.go_on.ensures.nest ∙ c.loop-self.invariant.nest;
@@ -24,5 +24,5 @@ loop-self-preserved g c = record {
 
 pub returns-in_err-go_on-clause-breaks : goal.returns-in_err-go_on-clause-breaks
 returns-in_err-go_on-clause-breaks g c =
-    on_err c.from_residual.result (breaks_as g.K.Sink.given g.K.Sink.took g.K.Sink.broke (Runs c.args.self.now) _ _ _ _ _ _ _ c.loop-self.invariant.nest c.loop-self.invariant.cost
-    (breaks_later g.K.Sink.given g.K.Sink.took g.K.Sink.broke _ _ _ _ _ _ c.loop-self.invariant.goes c.in_err-go_on.ensures.breaks))
+    on_err c.from_residual.result (λ o. breaks_as g.K.Sink.given g.K.Sink.took g.K.Sink.broke o.loaded (Runs c.args.self.now o _) o _ _ _ _ _ _ _ _ c.loop-self.invariant.nest c.loop-self.invariant.cost
+    (breaks_later g.K.Sink.given g.K.Sink.took g.K.Sink.broke o.loaded _ _ _ _ _ _ (c.loop-self.invariant.goes o) (c.in_err-go_on.ensures.breaks o)))

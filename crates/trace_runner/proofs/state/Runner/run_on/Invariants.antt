@@ -1,10 +1,11 @@
 use Rattle.std.proofs.Common.{◌-◌, ◌≡◌, ◌≤◌, []}
-use Rattle.trace_runner.specs.Run.{Runs, GoesOn}
+use Rattle.esc_base.specs.Flash.{told}
+use Rattle.trace_runner.specs.Run.{Outset, Runs, GoesOn}
 use Rattle.trace_runner.proofs.state.Runner.run_on.Given as goal
 
 abbrev pub invariant-loop-self : goal.invariant-loop-self
 invariant-loop-self g l = record {
-  goes : GoesOn g.K.Sink.given g.K.Sink.took (Runs l.initial.self) (Runs l.self) [] l.initial.out l.out;
+  goes : (o : Outset) → GoesOn g.K.Sink.given g.K.Sink.took (Runs l.initial.self o (told g.D.FlashDev.bytes g.D.FlashDev.faults l.initial.dev)) (Runs l.self o (told g.D.FlashDev.bytes g.D.FlashDev.faults l.dev)) [] l.initial.out l.out;
   limit : l.self.limit ≡ l.initial.self.limit;
   cost : l.self.cost ≡ l.initial.self.cost;
   nest : l.self.machine.nest ≡ l.initial.self.machine.nest;

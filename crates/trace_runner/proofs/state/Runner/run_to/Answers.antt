@@ -1,4 +1,5 @@
 use Rattle.std.proofs.Common.{◌≡◌}
+use Rattle.esc_base.specs.Flash.{told}
 use Rattle.trace_runner.specs.declared.state.Runner.{Runner}
 use Rattle.trace_runner.specs.Run.{Runs}
 use Rattle.trace_runner.proofs.Goes.{breaks_from}
@@ -9,9 +10,10 @@ use Rattle.trace_runner.proofs.state.Runner.run_to.Goals as goal
 pub returns-clause-breaks : goal.returns-clause-breaks
 returns-clause-breaks g c =
     let r : Runner = c.args.self.now in
-    on_err_map c.run_on.result c.run_on.ensures.breaks (λ broken.
-    breaks_from g.K.Sink.given g.K.Sink.took g.K.Sink.broke (Runs r) _ _ _ _ (λ trace steps st. record {
+    on_err_map c.run_on.result c.run_on.ensures.breaks (λ broken o.
+    breaks_from g.K.Sink.given g.K.Sink.took g.K.Sink.broke o.loaded (Runs r o (told g.D.FlashDev.bytes g.D.FlashDev.faults c.args.dev.now)) _ _ _ _ (λ trace steps st. record {
       logged = st.logged;
       bound = bound_until r.cost r.limit.0 c.args.limit.0 steps c.requires.later st.bound;
       spaced = st.spaced;
-    }) broken)
+      flash = st.flash;
+    }) (broken o))

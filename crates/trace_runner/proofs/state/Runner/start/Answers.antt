@@ -1,18 +1,36 @@
-use Rattle.std.proofs.Common.{◌≡◌, ◌≤◌, ◌<◌, ◌+◌, length, [], arith}
-use Rattle.std.proofs.lemmas.List.Elements.{All-nil}
-use Rattle.esc_laws.specs.Steps.{Turned}
+use Rattle.std.proofs.Common.{◌≡◌, ◌≤◌, ◌<◌, ◌+◌, ℕ, Option, length, [], ◌∷◌, false, refl, arith}
+use Rattle.std.proofs.lemmas.List.Elements.{All-nil, All-cons}
+use Rattle.esc_base.specs.declared.note.Note.{Note}
+use Rattle.esc_base.specs.declared.note.Note.TheVariants as note
+use Rattle.esc_base.specs.Flash.{Told}
+use Rattle.settings_block.specs.declared.stored.Loaded.{Loaded}
+use Rattle.esc_core.specs.Cap.{tick_at}
+use Rattle.esc_laws.specs.Saves.{FlashFits}
+use Rattle.esc_laws.specs.Steps.{Turned, load_number, journal}
 use Rattle.esc_laws.proofs.Carried.{start_logged, legal_logged}
+use Rattle.esc_laws.proofs.Saves.{is_save, fits_start}
 use Rattle.trace_runner.proofs.state.Runner.start.Goals as goal
 
+-- the two first notes are no saves
+start_flash : (loaded : Loaded) (first : Told) → FlashFits loaded first first (journal loaded [])
+start_flash loaded first =
+    fits_start loaded first (journal loaded [])
+    (All-cons (λ n. is_save n ≡ false) (note.Up (tick_at 0) (load_number loaded.fault)) (note.Window (tick_at 0) 0 ∷ []) refl
+    (All-cons (λ n. is_save n ≡ false) (note.Window (tick_at 0) 0) [] refl (All-nil (λ n. is_save n ≡ false))))
+
 pub returns-clause-stands : goal.returns-clause-stands
-returns-clause-stands c = record {
+returns-clause-stands c = λ first. record {
   runs = record {
-    logged = rw (c.new-2.ensures.firmware, c.new-2.ensures.none_open, c.write.ensures, c.new-regs.ensures, c.new.ensures) (start_logged _ _);
+    logged = rw (c.new-2.ensures.firmware, c.new-2.ensures.none_open, c.write.ensures, c.new-regs.ensures, c.new.ensures) (start_logged c.args.loaded _ _);
     bound = record { apart = tt; below = All-nil (λ (e : Turned). e.tick < 0); few = All-nil (λ (e : Turned). length e.notes ≤ 6) };
     spaced = All-nil (λ (e : Turned). e.tick + c.args.cfg.cost ≤ 0);
+    flash = start_flash c.args.loaded first;
   };
   reached = omega arith;
 }
 
 pub returns-clause-legal : goal.returns-clause-legal
-returns-clause-legal c = rw c.new-2.ensures.nest (legal_logged _ _ [] 0 _ _ [] [] 0 (omega arith) (All-nil (λ (e : Turned). e.tick < 0)) (start_logged _ _))
+returns-clause-legal c = rw c.new-2.ensures.nest (legal_logged c.args.loaded _ _ [] 0 _ _ [] [] 0 (omega arith) (All-nil (λ (e : Turned). e.tick < 0)) (start_logged c.args.loaded _ _))
+
+pub returns-clause-flash : goal.returns-clause-flash
+returns-clause-flash c = λ first. start_flash c.args.loaded first
