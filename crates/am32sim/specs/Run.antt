@@ -1,8 +1,9 @@
 -- What `run` reads and writes, by the status with which it ends.
-use Rattle.std.specs.Prelude.{◌≡◌, ◌<◌, ◌⊎◌, ℕ, List, [], ◌∷◌, ◌++◌, All, Option, Some, None}
+use Rattle.std.specs.Prelude.{◌≡◌, ◌<◌, ◌⊎◌, ℕ, ◌≤◌, List, [], ◌∷◌, ◌++◌, All, Option, Some, None}
 use Rattle.std.specs.Io.KnownBytes.{append_known}
 use Rattle.esc_base.specs.declared.note.Note.{Note}
 use Rattle.esc_base.specs.declared.event.Event.{Event}
+use Rattle.esc_base.specs.Flash.{Told}
 use Rattle.esc_base.specs.Journal.{time_of}
 use Rattle.esc_base.specs.Outside.{AppendsFront}
 use Rattle.esc_base.specs.Trace.{tick_of}
@@ -13,8 +14,12 @@ use Rattle.trace_text.specs.Ahead.{BeginsWith}
 use Rattle.trace_text.specs.Text.{note_bytes, Text}
 use Rattle.interrupt_machine.specs.declared.nest.Nest.{Nest}
 use Rattle.interrupt_machine.specs.declared.nest.Nest.TheVariants.{One}
+use Rattle.settings_block.specs.declared.stored.Loaded.{Loaded}
+use Rattle.settings_block.specs.Stored.{IsLoaded}
+use Rattle.esc_laws.specs.Saves.{FlashFits}
 use Rattle.esc_laws.specs.Steps.{opening}
 use Rattle.esc_laws.specs.Legal.{Legal, LegalFront}
+use Rattle.trace_runner.specs.Run.{Outset}
 use Rattle.am32sim.specs.declared.status.Status.{Status}
 use Rattle.am32sim.specs.declared.status.Status.TheVariants as status
 
@@ -44,10 +49,18 @@ run_cost = 2
 abbrev pub run_nest : Nest
 run_nest = One
 
--- the text of a journal that is legal for a trace up to a tick was appended, where the sink tells its bytes
-pub record Wrote (trace : List Event) (until : ℕ) (before after : Option (List ℕ)) : Type 0 where
+-- A run sets out with the settings that were loaded from the flash as it was. The load left its bytes.
+pub record IsOutset (before : Told) (o : Outset) : Type 0 where
+  pub loaded : IsLoaded before.bytes o.loaded
+  pub bytes_same : o.flash.bytes ≡ before.bytes
+  pub no_fewer : before.faults ≤ o.flash.faults
+
+-- The text of a journal that is legal for a trace up to a tick was appended, where the sink tells its bytes; and the flash
+-- is now what that journal says.
+pub record Wrote (o : Outset) (now : Told) (trace : List Event) (until : ℕ) (before after : Option (List ℕ)) : Type 0 where
   pub notes : List Note
-  pub legal : Legal run_nest run_cost trace until notes
+  pub legal : Legal o.loaded run_nest run_cost trace until notes
+  pub flash : FlashFits o.loaded o.flash now notes
   pub appended : after ≡ append_known before (Text notes)
 
 pub record IsFrontOf (whole front : List Note) : Type 0 where
@@ -55,55 +68,73 @@ pub record IsFrontOf (whole front : List Note) : Type 0 where
   pub is : whole ≡ front ++ rest
 
 -- whole steps and a front of the notes of one more, all before the events that were read and not applied
-pub record IsLegalFront (trace later : List Event) (notes : List Note) : Type 0 where
-  pub legal : LegalFront run_nest run_cost trace notes
+pub record IsLegalFront (loaded : Loaded) (trace later : List Event) (notes : List Note) : Type 0 where
+  pub legal : LegalFront loaded run_nest run_cost trace notes
   pub before : All (λ e. All (λ n. time_of n < tick_of e) notes) later
 
 -- such a front, or one of the two first notes
-abbrev pub MayBeLeft : List Event → List Event → List Note → Type 0
-MayBeLeft trace later notes = IsFrontOf opening notes ⊎ IsLegalFront trace later notes
+abbrev pub MayBeLeft : Loaded → List Event → List Event → List Note → Type 0
+MayBeLeft loaded trace later notes = IsFrontOf (opening loaded) notes ⊎ IsLegalFront loaded trace later notes
 
--- the text of what may be left was appended without a last part of its last line, which may be empty or the whole line
-pub record WroteFront (trace later : List Event) (before after : Option (List ℕ)) : Type 0 where
+-- The text of what may be left was appended without a last part of its last line, which may be empty or the whole line; and
+-- the flash is now what these notes say.
+pub record WroteFront (o : Outset) (now : Told) (trace later : List Event) (before after : Option (List ℕ)) : Type 0 where
   pub notes : List Note
   pub last : Note
-  pub left : MayBeLeft trace later (notes ++ last ∷ [])
+  pub left : MayBeLeft o.loaded trace later (notes ++ last ∷ [])
+  pub flash : FlashFits o.loaded o.flash now (notes ++ last ∷ [])
   pub front : AppendsFront (append_known before (Text notes)) (note_bytes last) after
 
 -- The whole trace was read, and its journal written.
-pub record IsDone (left before after : Option (List ℕ)) : Type 0 where
+pub record IsDone (o : Outset) (now : Told) (left before after : Option (List ℕ)) : Type 0 where
   pub trace : List Event
   pub end : ℕ
   pub reads : Reads left (Trace trace end)
-  pub wrote : Wrote trace end before after
+  pub wrote : Wrote o now trace end before after
 
 -- A line was refused. The journal is that of the events before it, up to the last one's tick.
-pub record IsRefused (line : ℕ) (kind : Refusal) (left before after : Option (List ℕ)) : Type 0 where
+pub record IsRefused (o : Outset) (now : Told) (line : ℕ) (kind : Refusal) (left before after : Option (List ℕ)) : Type 0 where
   pub trace : List Event
   pub reads : Reads left (Refused trace line kind)
-  pub wrote : Wrote trace (last_tick trace) before after
+  pub wrote : Wrote o now trace (last_tick trace) before after
 
 -- The source failed. The journal is that of the events that were read.
-pub record IsReadFault (left before after : Option (List ℕ)) : Type 0 where
+pub record IsReadFault (o : Outset) (now : Told) (left before after : Option (List ℕ)) : Type 0 where
   pub trace : List Event
   pub reads : ReadsFront left trace
-  pub wrote : Wrote trace (last_tick trace) before after
+  pub wrote : Wrote o now trace (last_tick trace) before after
 
 -- The sink failed. The journal breaks off at a note; the events read later than that were not applied.
-pub record IsWriteFault (left before after : Option (List ℕ)) : Type 0 where
+pub record IsWriteFault (o : Outset) (now : Told) (left before after : Option (List ℕ)) : Type 0 where
   pub trace : List Event
   pub later : List Event
   pub reads : ReadsFront left (trace ++ later)
-  pub wrote : WroteFront trace later before after
+  pub wrote : WroteFront o now trace later before after
 
--- what was left to read, and what was given before and after
-abbrev pub Ran : Status → Option (List ℕ) → Option (List ℕ) → Option (List ℕ) → Type 0
-Ran status.Done left before after = IsDone left before after
-Ran (status.Refused line kind) left before after = IsRefused line kind left before after
-Ran status.Usage left before after = ⊥
-Ran status.ReadFault left before after = IsReadFault left before after
-Ran status.WriteFault left before after = IsWriteFault left before after
-Ran status.NoMemory left before after = ⊥
+-- what a run from an outset has read and written, and what the flash tells afterwards
+abbrev pub RanFrom : Outset → Told → Status → Option (List ℕ) → Option (List ℕ) → Option (List ℕ) → Type 0
+RanFrom o now status.Done left before after = IsDone o now left before after
+RanFrom o now (status.Refused line kind) left before after = IsRefused o now line kind left before after
+RanFrom o now status.Usage left before after = ⊥
+RanFrom o now status.ReadFault left before after = IsReadFault o now left before after
+RanFrom o now status.WriteFault left before after = IsWriteFault o now left before after
+RanFrom o now status.NoMemory left before after = ⊥
+RanFrom o now status.AttachFault left before after = ⊥
+
+pub record HasRun (flash now : Told) (s : Status) (left before after : Option (List ℕ)) : Type 0 where
+  pub outset : Outset
+  pub begins : IsOutset flash outset
+  pub ran : RanFrom outset now s left before after
+
+-- what `run` has done, from what the flash told before, what was left to read, and what was given before and after
+abbrev pub Ran : Status → Told → Told → Option (List ℕ) → Option (List ℕ) → Option (List ℕ) → Type 0
+Ran status.AttachFault flash now left before after = (after ≡ before) × (now.bytes ≡ flash.bytes)
+Ran s flash now left before after = HasRun flash now s left before after
+
+-- a fact where the flash failed at the start
+abbrev pub OnAttachFault : Status → Type 0 → Type 0
+OnAttachFault status.AttachFault P = P
+OnAttachFault s P = Unit {0}
 
 -- a fact where the source failed
 abbrev pub OnReadFault : Status → Type 0 → Type 0
@@ -113,6 +144,7 @@ OnReadFault status.Usage P = Unit {0}
 OnReadFault status.ReadFault P = P
 OnReadFault status.WriteFault P = Unit {0}
 OnReadFault status.NoMemory P = Unit {0}
+OnReadFault status.AttachFault P = Unit {0}
 
 -- a fact where the sink failed
 abbrev pub OnWriteFault : Status → Type 0 → Type 0
@@ -122,13 +154,14 @@ OnWriteFault status.Usage P = Unit {0}
 OnWriteFault status.ReadFault P = Unit {0}
 OnWriteFault status.WriteFault P = P
 OnWriteFault status.NoMemory P = Unit {0}
+OnWriteFault status.AttachFault P = Unit {0}
 
 -- a fact where the trace ended too early
 abbrev pub OnNoEnd : Status → Type 0 → Type 0
 OnNoEnd (status.Refused line refusal.NoEnd) P = P
 OnNoEnd s P = Unit {0}
 
--- the source or the sink failed
+-- the source or the sink failed, or the flash at the start
 abbrev pub IsFault : Status → Type 0
 IsFault status.Done = ⊥
 IsFault (status.Refused line kind) = ⊥
@@ -136,3 +169,4 @@ IsFault status.Usage = ⊥
 IsFault status.ReadFault = Unit {0}
 IsFault status.WriteFault = Unit {0}
 IsFault status.NoMemory = ⊥
+IsFault status.AttachFault = Unit {0}

@@ -1,11 +1,12 @@
 ghost use Rattle.std.specs.Prelude.{◌≡◌, ◌≢◌, ◌⊎◌, ◌≤◌, ℕ, List, [], ◌∷◌, Option, Some, IfOk, OnErr, codes};
 ghost use Rattle.std.specs.Io.KnownBytes.{IsAtEnd};
 ghost use Rattle.esc_base.specs.declared.event.Event.{Event as AnEvent};
+ghost use Rattle.esc_base.specs.Flash.{told};
 ghost use Rattle.esc_base.specs.Outside.{Rose};
 ghost use Rattle.trace_text.specs.declared.item.Refusal.{Refusal as ARefusal};
 ghost use Rattle.trace_text.specs.Read.{Read, Trace};
 ghost use Rattle.trace_text.specs.Read.{Refused as RefusedBy};
-ghost use Rattle.am32sim.specs.Run.{Ran, IsWriteFault, OnReadFault, OnWriteFault, OnNoEnd, IsFault};
+ghost use Rattle.am32sim.specs.Run.{Ran, RanFrom, IsWriteFault, OnReadFault, OnWriteFault, OnAttachFault, OnNoEnd, IsFault};
 
 use crate::{Status, Words};
 use esc_base::{FlashDev, Sink, Source};
@@ -17,18 +18,19 @@ use trace_text::{Item, Lines};
 /// The ticks from one step of the core to the next.
 const STEP_COST: u32 = 2;
 
-/// Runs the core on the trace that the source gives, and writes the journal. An `Err` is the sink's.
+/// Runs the core with the loaded settings on the trace that the source gives, and writes the journal. An `Err` is the
+/// sink's.
 fn run<S: Source, K: Sink, F: FlashDev>(
     loaded: Loaded,
     src: &mut S,
     out: &mut K,
     flash: &mut F,
 ) -> Result<Status, WriteFault>
-    ensures ok { IfOk result (λ s. Ran s (S.left src.old) (K.given out.old) (K.given out.new)) }
+    ensures ok { IfOk result (λ s. RanFrom (record { loaded = loaded; flash = told F.bytes F.faults flash.old }) (told F.bytes F.faults flash.new) s (S.left src.old) (K.given out.old) (K.given out.new)) }
     ensures read_fault { IfOk result (λ s. OnReadFault s (Rose (S.faults src.old) (S.faults src.new))) }
     ensures no_end { IfOk result (λ s. OnNoEnd s (IsAtEnd (S.left src.new))) }
     ensures taken { IfOk result (λ s. OnWriteFault s (Rose (K.faults out.old) (K.faults out.new))) }
-    ensures err { OnErr result (IsWriteFault (S.left src.old) (K.given out.old) (K.given out.new)) }
+    ensures err { OnErr result (IsWriteFault (record { loaded = loaded; flash = told F.bytes F.faults flash.old }) (told F.bytes F.faults flash.new) (S.left src.old) (K.given out.old) (K.given out.new)) }
     ensures write_fault { OnErr result (Rose (K.faults out.old) (K.faults out.new)) }
 {
     let cfg = RunConfig {
@@ -54,24 +56,27 @@ fn run<S: Source, K: Sink, F: FlashDev>(
     }
 }
 
-/// Runs the command that the words name, which is `run` alone. It reads a trace from `src`, writes its journal to
-/// `out`, one line in each call, and takes no memory.
+/// Runs the command that the words name, which is `run` alone. It loads the settings from the flash, reads a trace from
+/// `src`, writes its journal to `out`, one line in each call, and takes no memory.
 pub fn sim_main<S: Source, K: Sink, F: FlashDev>(
     words: &Words,
     src: &mut S,
     out: &mut K,
     flash: &mut F,
 ) -> Status
-    // Other words are refused before anything is read or written.
+    // Other words are refused before anything is read, written or loaded.
     ensures usage { words.now ≢ codes "run" ∷ [] → result ≡ Status.Usage }
-    ensures untouched { words.now ≢ codes "run" ∷ [] → (src.new ≡ src.old) × (out.new ≡ out.old) }
+    ensures untouched { words.now ≢ codes "run" ∷ [] → (src.new ≡ src.old) × (out.new ≡ out.old) × (flash.new ≡ flash.old) }
 
-    // What was read and written, by the status, where source and sink tell their bytes.
-    ensures ran { words.now ≡ codes "run" ∷ [] → Ran result (S.left src.old) (K.given out.old) (K.given out.new) }
+    // What was read and written, by the status, and what the flash holds then, where source, sink and flash tell their
+    // bytes.
+    ensures ran { words.now ≡ codes "run" ∷ [] → Ran result (told F.bytes F.faults flash.old) (told F.bytes F.faults flash.new) (S.left src.old) (K.given out.old) (K.given out.new) }
 
-    // Each fault is the source's or the sink's own, and without one the trace alone decides.
+    // Each fault is the source's, the sink's or the flash's own, and without one the trace alone decides.
     ensures read_fault { OnReadFault result (Rose (S.faults src.old) (S.faults src.new)) }
     ensures write_fault { OnWriteFault result (Rose (K.faults out.old) (K.faults out.new)) }
+    ensures attach_fault { OnAttachFault result (Rose (F.faults flash.old) (F.faults flash.new)) }
+    ensures unread { OnAttachFault result ((src.new ≡ src.old) × (out.new ≡ out.old)) }
     ensures done { words.now ≡ codes "run" ∷ [] → (text : List ℕ) (trace : List AnEvent) (end : ℕ) → S.left src.old ≡ Some text → Read text ≡ Trace trace end → IsFault result ⊎ (result ≡ Status.Done) }
     ensures refused { words.now ≡ codes "run" ∷ [] → (text : List ℕ) (trace : List AnEvent) (line : ℕ) (kind : ARefusal) → S.left src.old ≡ Some text → Read text ≡ RefusedBy trace line kind → IsFault result ⊎ (result ≡ Status.Refused line kind) }
     ensures no_end { OnNoEnd result (IsAtEnd (S.left src.new)) }

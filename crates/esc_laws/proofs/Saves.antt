@@ -2,7 +2,7 @@
 use Rattle.std.proofs.Common.{◌≡◌, ◌≤◌, ◌⊎◌, inl, inr, ℕ, ◌+◌, suc, zero, Bool, true, false, ◌==◌, ◌||◌, if◌then◌else◌, List, [], ◌∷◌, ◌++◌, length, take, drop, map, replicate, reverse, bit_and, Option, Some, None, option_and_then, All, refl, sym, ◌∙◌, ap, subst, arith, append-nil, append_assoc}
 use Rattle.std.proofs.lemmas.Bool.Decides.{nat_tests}
 use Rattle.std.proofs.lemmas.List.{drop_all, length-drop, take-append-drop}
-use Rattle.std.proofs.lemmas.List.Elements.{All-head, All-tail}
+use Rattle.std.proofs.lemmas.List.Elements.{All-nil, All-cons, All-head, All-tail}
 use Rattle.std.specs.Option.{option_map}
 use Rattle.esc_base.specs.declared.tick.Tick.{Tick}
 use Rattle.esc_base.specs.declared.note.Note.{Note}
@@ -12,6 +12,7 @@ use Rattle.esc_base.specs.Outside.{Rose}
 use Rattle.dshot_commands.specs.declared.act.Act.{Act}
 use Rattle.dshot_commands.specs.declared.act.Act.TheVariants.{Beacon, Direction, ThreeD, Save, Extended, Spin}
 use Rattle.dshot_commands.specs.Act.{act_of, acting, frames_needed, number_of}
+use Rattle.settings_block.specs.declared.block.BlockFault.{BlockFault}
 use Rattle.settings_block.specs.declared.settings.Settings.{Settings}
 use Rattle.settings_block.specs.declared.stored.Loaded.{Loaded}
 use Rattle.settings_block.specs.Settings.{applied}
@@ -19,10 +20,12 @@ use Rattle.settings_block.specs.Stored.{KeepsBelow}
 use Rattle.settings_block.specs.Block.{block_of}
 use Rattle.arming.proofs.InOrder.{reverse-push}
 use Rattle.esc_core.specs.declared.orders.Orders.{Orders}
+use Rattle.esc_core.specs.Cap.{tick_at}
 use Rattle.esc_core.specs.Orders.{obeyed}
 use Rattle.esc_core.specs.Judge.{inputs_of}
 use Rattle.esc_core.specs.Saving.{IsSaved, IsSpoilt}
 use Rattle.esc_laws.specs.Saves.{after_save, and_places, any_places, changed_by, erased_places, flash_at, refused_at, settings_at, FlashFits, Holds, HoldsSaves}
+use Rattle.esc_laws.specs.Steps.{first_notes, load_number}
 use Rattle.esc_laws.specs.Tied.{OrdersTied}
 
 -- a note that changes the settings, or whether a save is asked for
@@ -162,13 +165,6 @@ fits_pushes loaded first now notes more a f = record {
   counted = rw (refused_pushes notes more a) f.counted;
 }
 
-pub fits_front : (loaded : Loaded) (first now : Told) (notes more : List Note) → All (λ n. is_save n ≡ false) more → FlashFits loaded first now (notes ++ more)
-    → FlashFits loaded first now notes
-fits_front loaded first now notes more a f = record {
-  holds = holds_same loaded.settings first.bytes (reverse (notes ++ more)) (reverse notes) now.bytes (λ c. flash_pushes loaded.settings c notes more a) f.holds;
-  counted = rw (sym (refused_pushes notes more a)) f.counted;
-}
-
 -- at the start the flash holds what it held after the load
 holds_self : (cells : List ℕ) → Holds (map Some cells) cells
 holds_self [] = tt
@@ -183,6 +179,12 @@ fits_none loaded first = record { holds = start_holds loaded.settings first.byte
 
 pub fits_start : (loaded : Loaded) (first : Told) (notes : List Note) → All (λ n. is_save n ≡ false) notes → FlashFits loaded first first notes
 fits_start loaded first notes a = fits_pushes loaded first first [] notes a (fits_none loaded first)
+
+-- the two first notes are no saves
+pub first_unsaved : (fault : Option BlockFault) → All (λ n. is_save n ≡ false) (first_notes fault)
+first_unsaved fault =
+    All-cons (λ n. is_save n ≡ false) (note.Up (tick_at 0) (load_number fault)) (note.Window (tick_at 0) 0 ∷ []) refl
+    (All-cons (λ n. is_save n ≡ false) (note.Window (tick_at 0) 0) [] refl (All-nil (λ n. is_save n ≡ false)))
 
 -- ---- parts of bytes stand in the parts of the places
 

@@ -8,15 +8,11 @@ use Rattle.esc_core.specs.Cap.{tick_at}
 use Rattle.esc_laws.specs.Saves.{FlashFits}
 use Rattle.esc_laws.specs.Steps.{Turned, load_number, journal}
 use Rattle.esc_laws.proofs.Carried.{start_logged, legal_logged}
-use Rattle.esc_laws.proofs.Saves.{is_save, fits_start}
+use Rattle.esc_laws.proofs.Saves.{first_unsaved, fits_start}
 use Rattle.trace_runner.proofs.state.Runner.start.Goals as goal
 
--- the two first notes are no saves
 start_flash : (loaded : Loaded) (first : Told) → FlashFits loaded first first (journal loaded [])
-start_flash loaded first =
-    fits_start loaded first (journal loaded [])
-    (All-cons (λ n. is_save n ≡ false) (note.Up (tick_at 0) (load_number loaded.fault)) (note.Window (tick_at 0) 0 ∷ []) refl
-    (All-cons (λ n. is_save n ≡ false) (note.Window (tick_at 0) 0) [] refl (All-nil (λ n. is_save n ≡ false))))
+start_flash loaded first = fits_start loaded first (journal loaded []) (first_unsaved loaded.fault)
 
 pub returns-clause-stands : goal.returns-clause-stands
 returns-clause-stands c = λ first. record {
