@@ -7,7 +7,7 @@ mod status;
 mod tests;
 mod words;
 
-use esc_base::{FileFlash, InSource, OutSink};
+use esc_base::{FileFlash, InSource, OutSink, Sink, Source};
 pub use run::sim_main;
 pub use status::{Status, status_text};
 use std::process::ExitCode;
@@ -30,16 +30,22 @@ fn words_of(rt: &HostRuntime) -> Result<Words, Status> {
     Ok(words)
 }
 
+/// Runs the command of the program's words, with a blank flash that is memory of its own.
+fn command<S: Source, K: Sink>(rt: &HostRuntime, src: &mut S, out: &mut K) -> Status {
+    let words = match words_of(rt) {
+        Ok(words) => words,
+        Err(status) => return status,
+    };
+    let Ok(mut flash) = FileFlash::new(rt, rt.alloc()) else {
+        return Status::NoMemory;
+    };
+    sim_main(&words, src, out, &mut flash)
+}
+
 fn main(rt: HostRuntime) -> ExitCode {
     let mut src = InSource::new(&rt);
     let mut out = OutSink::new(io::writer(&rt));
-    let mut status = match words_of(&rt) {
-        Ok(words) => match FileFlash::new(&rt, rt.alloc()) {
-            Ok(mut flash) => sim_main(&words, &mut src, &mut out, &mut flash),
-            Err(_) => Status::NoMemory,
-        },
-        Err(status) => status,
-    };
+    let mut status = command(&rt, &mut src, &mut out);
     if out.flush().is_err() {
         status = Status::WriteFault;
     }

@@ -21,8 +21,8 @@ use Rattle.esc_core.specs.declared.judge.Judgement.TheVariants.{Good, Bad, Found
 pub ends_in_order : (low high : ℕ) → min (2 * low + 750) (2 * high + 1749) < 2 * high + 1750
 ends_in_order low high = omega arith
 
--- the servo pulses that give the least and the greatest value, in microseconds, by the settings' two bytes, of which any
--- two give ends in this order
+-- The servo pulses that give the least and the greatest value, in microseconds, by the settings' two bytes. The low end by
+-- any byte is below the high end by any other, so its bound here changes nothing.
 abbrev pub servo_by : ℕ → ℕ → Servo
 servo_by low high = record { low_us = min (2 * low + 750) (2 * high + 1749); high_us = 2 * high + 1750; in_order = ends_in_order low high }
 

@@ -133,6 +133,7 @@ impl Firmware for Core {
     }
 
     fn step<D: FlashDev>(&mut self, kind: Kind, regs: &mut Regs, dev: &mut D) -> Did {
+        // The bounds on the mask rest on this field's invariant.
         let _ = &self.hold;
         self.core_step(kind, regs, dev)
     }
