@@ -10,10 +10,10 @@ use Rattle.esc_laws.specs.Windowed.{Windowed}
 use Rattle.esc_laws.specs.Nested.{NestedAfter}
 use Rattle.esc_laws.specs.Steps.{Turned, opening, journal, notes_in, EachStep, StepFits, Awaits, OpenFew, Below}
 
--- The journal is legal up to tick T for a trace, a step cost and a nesting: it begins with the settings and the first
--- window; times never fall; windows, control and nesting keep their rules; and there is a log of steps of which the other
--- notes are the notes, whose steps stand at the ticks that the cost and the stalls give, each kind in time, below T, and
--- which lacks no step that is due below T.
+-- The journal is legal up to tick T for the settings that were loaded, a trace, a step cost and a nesting: it begins with
+-- the load and the first window; times never fall; windows, control and nesting keep their rules; and there is a log of
+-- steps of which the other notes are the notes, whose steps stand at the ticks that the cost and the stalls give, each kind
+-- in time, below T, and which lacks no step that is due below T.
 pub record Legal (loaded : Loaded) (nest : Nest) (cost : ℕ) (trace : List Event) (until : ℕ) (notes : List Note) : Type 0 where
   pub rest : List Note
   pub begins : notes ≡ opening loaded ++ rest
