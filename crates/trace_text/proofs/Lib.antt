@@ -6,3 +6,4 @@ pub mod Cut
 pub mod Taking
 pub mod Answering
 pub mod NoteBack
+pub mod OneText

@@ -10,7 +10,7 @@ use Rattle.std.proofs.lemmas.Fmt.{decimal_is_IsNumeral, decimal_digit, first_dec
 use Rattle.std.proofs.lemmas.Str.{digit_value-digit_char}
 use Rattle.std.proofs.lemmas.Str.Parse.{digit_from_value}
 use Rattle.std.proofs.lemmas.Int.Digits.{digits_value_push, digits_value-lt}
-use Rattle.std.proofs.lemmas.List.Elements.{All-nil, All-cons, All-push}
+use Rattle.std.proofs.lemmas.List.Elements.{All-nil, All-cons, All-append, All-push, All-weaker}
 use Rattle.std.proofs.lemmas.List.Folds.{list_all-append}
 use Rattle.std.proofs.lemmas.List.Splits.{slice_split_none, slice_split_at}
 use Rattle.std.proofs.Math.Nat.{pow-suc}
@@ -121,105 +121,127 @@ not_none (a ∷ b ∷ c ∷ []) h = refl
 not_none (a ∷ b ∷ c ∷ d ∷ []) h = rw (not_n a h.0) refl
 not_none (a ∷ b ∷ c ∷ d ∷ e ∷ rest) h = refl
 
--- ---- words without a space
+-- ---- words without a space or a line feed
 
-abbrev NoSpace : List ℕ → Type 0
-NoSpace word = All (λ b. (b == 32) ≡ false) word
+-- no byte of a word is as low as a space or a line feed
+abbrev IsHigh : List ℕ → Type 0
+IsHigh word = All (λ b. 48 ≤ b) word
 
-abbrev AllNoSpace : List (List ℕ) → Type 0
-AllNoSpace [] = Unit {0}
-AllNoSpace (word ∷ words) = NoSpace word × AllNoSpace words
+abbrev AllHigh : List (List ℕ) → Type 0
+AllHigh [] = Unit {0}
+AllHigh (word ∷ words) = IsHigh word × AllHigh words
 
-fields_spaced : (first : List ℕ) (words : List (List ℕ)) → NoSpace first → AllNoSpace words → fields (first ++ spaced words) ≡ first ∷ words
-fields_spaced first [] h hs = ap fields (append-nil first) ∙ slice_split_none (λ b. b == 32) first h
-fields_spaced first (word ∷ words) h hs = slice_split_at (λ b. b == 32) first 32 (word ++ spaced words) h refl ∙ ap (λ (ws : List (List ℕ)). first ∷ ws) (fields_spaced word words hs.0 hs.1)
+no_space : (word : List ℕ) → IsHigh word → All (λ b. (b == 32) ≡ false) word
+no_space word h = All-weaker (λ b. 48 ≤ b) (λ b. (b == 32) ≡ false) (λ b le. grind (arith, nat_tests)) word h
 
-no_space_digit : (c : ℕ) → digit_value c < 10 → (c == 32) ≡ false
-no_space_digit c lt = let range = digit_from_value c lt in grind (arith, nat_tests)
+fields_spaced : (first : List ℕ) (words : List (List ℕ)) → IsHigh first → AllHigh words → fields (first ++ spaced words) ≡ first ∷ words
+fields_spaced first [] h hs = ap fields (append-nil first) ∙ slice_split_none (λ b. b == 32) first (no_space first h)
+fields_spaced first (word ∷ words) h hs = slice_split_at (λ b. b == 32) first 32 (word ++ spaced words) (no_space first h) refl ∙ ap (λ (ws : List (List ℕ)). first ∷ ws) (fields_spaced word words hs.0 hs.1)
 
-no_space_digits : (ds : List ℕ) → AllDigits 10 ds → NoSpace ds
-no_space_digits [] h = All-nil (λ b. (b == 32) ≡ false)
-no_space_digits (c ∷ ds) h = All-cons (λ b. (b == 32) ≡ false) c ds (no_space_digit c h.0) (no_space_digits ds h.1)
+abbrev pub NoFeed : List ℕ → Type 0
+NoFeed bytes = All (λ b. (b == 10) ≡ false) bytes
 
-no_space_decimal : (n : ℕ) → n < 2 ^ 64 → NoSpace (decimal n)
-no_space_decimal n small = no_space_digits (decimal n) (decimal_is_IsNumeral n small).0.1
+no_feed_spaced : (words : List (List ℕ)) → AllHigh words → NoFeed (spaced words)
+no_feed_spaced [] h = All-nil (λ b. (b == 10) ≡ false)
+no_feed_spaced (word ∷ words) h =
+    let here = All-weaker (λ b. 48 ≤ b) (λ b. (b == 10) ≡ false) (λ b le. grind (arith, nat_tests)) word h.0 in
+    All-cons (λ b. (b == 10) ≡ false) 32 (word ++ spaced words) refl (All-append (λ b. (b == 10) ≡ false) word (spaced words) here (no_feed_spaced words h.1))
 
-no_space_glyph : (d : ℕ) → (digit_glyph false d == 32) ≡ false
-no_space_glyph d = grind (arith, nat_tests)
+high_digits : (ds : List ℕ) → AllDigits 10 ds → IsHigh ds
+high_digits [] h = All-nil (λ b. 48 ≤ b)
+high_digits (c ∷ ds) h = All-cons (λ b. 48 ≤ b) c ds (let range = digit_from_value c h.0 in omega arith) (high_digits ds h.1)
 
-no_space_two : (a b : ℕ) → (a == 32) ≡ false → (b == 32) ≡ false → NoSpace (a ∷ b ∷ [])
-no_space_two a b h k = All-cons (λ x. (x == 32) ≡ false) a (b ∷ []) h (All-cons (λ x. (x == 32) ≡ false) b [] k (All-nil (λ x. (x == 32) ≡ false)))
+high_decimal : (n : ℕ) → n < 2 ^ 64 → IsHigh (decimal n)
+high_decimal n small = high_digits (decimal n) (decimal_is_IsNumeral n small).0.1
 
-no_space_hex : (b : ℕ) → NoSpace (hex b)
-no_space_hex b = no_space_two (digit_glyph false (b / 16)) (digit_glyph false (b % 16)) (no_space_glyph (b / 16)) (no_space_glyph (b % 16))
+high_glyph : (d : ℕ) → 48 ≤ digit_glyph false d
+high_glyph d = grind (arith, nat_tests)
 
-no_space_bits : (k b : ℕ) → NoSpace (bits k b)
-no_space_bits zero b = subst (λ (l : List ℕ). NoSpace l) (sym (no_bits b)) (All-nil (λ x. (x == 32) ≡ false))
-no_space_bits (suc k) b = subst (λ (l : List ℕ). NoSpace l) (sym (bits_suc k b)) (All-push (λ x. (x == 32) ≡ false) (bits k (b / 2)) (48 + b % 2) (no_space_bits k (b / 2)) (grind (arith, nat_tests)))
+high_letter : (l : ℕ) → 48 ≤ l → IsHigh (l ∷ [])
+high_letter l h = All-cons (λ x. 48 ≤ x) l [] h (All-nil (λ x. 48 ≤ x))
 
-no_space_letter : (l : ℕ) → (l == 32) ≡ false → NoSpace (l ∷ [])
-no_space_letter l h = All-cons (λ x. (x == 32) ≡ false) l [] h (All-nil (λ x. (x == 32) ≡ false))
+high_two : (a b : ℕ) → 48 ≤ a → 48 ≤ b → IsHigh (a ∷ b ∷ [])
+high_two a b h k = All-cons (λ x. 48 ≤ x) a (b ∷ []) h (high_letter b k)
 
-no_space_none : NoSpace (110 ∷ 111 ∷ 110 ∷ 101 ∷ [])
-no_space_none = All-cons (λ x. (x == 32) ≡ false) 110 (111 ∷ 110 ∷ 101 ∷ []) refl (All-cons (λ x. (x == 32) ≡ false) 111 (110 ∷ 101 ∷ []) refl (no_space_two 110 101 refl refl))
+high_hex : (b : ℕ) → IsHigh (hex b)
+high_hex b = high_two (digit_glyph false (b / 16)) (digit_glyph false (b % 16)) (high_glyph (b / 16)) (high_glyph (b % 16))
 
-words_without_space : (n : Note) → InRange n → AllNoSpace (note_fields n)
-words_without_space (note.Up t r) h = (no_space_decimal t.0 (omega arith), (no_space_decimal r (omega arith), tt))
-words_without_space (note.Enter t k) h = (no_space_decimal t.0 (omega arith), (no_space_decimal k (omega arith), tt))
-words_without_space (note.Leave t k) h = (no_space_decimal t.0 (omega arith), (no_space_decimal k (omega arith), tt))
-words_without_space (note.Gate t hi lo) h = (no_space_decimal t.0 (omega arith), (no_space_decimal hi (omega arith), (no_space_decimal lo (omega arith), tt)))
-words_without_space (note.Window t m) h = (no_space_decimal t.0 (omega arith), (no_space_decimal m (omega arith), tt))
-words_without_space (note.Good t v q) h = (no_space_decimal t.0 (omega arith), (no_space_letter 71 refl, (no_space_decimal v (omega arith), (no_space_decimal q (omega arith), tt))))
-words_without_space (note.Detected t m) h = (no_space_decimal t.0 (omega arith), (no_space_letter 68 refl, (no_space_decimal m (omega arith), tt)))
-words_without_space (note.Nothing t) h = (no_space_decimal t.0 (omega arith), (no_space_letter 78 refl, tt))
-words_without_space (note.Bad t w) h = (no_space_decimal t.0 (omega arith), (no_space_letter 66 refl, (no_space_decimal w (omega arith), tt)))
-words_without_space (note.Control t n s d) h = (no_space_decimal t.0 (omega arith), (no_space_decimal n (omega arith), (no_space_decimal s (omega arith), (no_space_decimal d (omega arith), tt))))
-words_without_space (note.Armed t) h = (no_space_decimal t.0 (omega arith), tt)
-words_without_space (note.Lost t c) h = (no_space_decimal t.0 (omega arith), (no_space_decimal c (omega arith), tt))
-words_without_space (note.Command t c) h = (no_space_decimal t.0 (omega arith), (no_space_decimal c (omega arith), tt))
-words_without_space (note.Saved t r) h = (no_space_decimal t.0 (omega arith), (no_space_decimal r (omega arith), tt))
-words_without_space (note.Step t s) h = (no_space_decimal t.0 (omega arith), (no_space_decimal s (omega arith), tt))
-words_without_space (note.Cross t) h = (no_space_decimal t.0 (omega arith), tt)
-words_without_space (note.Period t None) h = (no_space_decimal t.0 (omega arith), (no_space_none, tt))
-words_without_space (note.Period t (Some p)) h = (no_space_decimal t.0 (omega arith), (no_space_decimal p (omega arith), tt))
-words_without_space (note.Reply t s b) h = (no_space_decimal t.0 (omega arith), (no_space_decimal s.0 (omega arith), (no_space_bits 21 b, tt)))
-words_without_space (note.Packet t cc kk) h = (no_space_decimal t.0 (omega arith), (no_space_hex cc, (no_space_hex kk, tt)))
-words_without_space (note.Sent t xx) h = (no_space_decimal t.0 (omega arith), (no_space_hex xx, tt))
-words_without_space (note.Dropped t xx) h = (no_space_decimal t.0 (omega arith), (no_space_hex xx, tt))
-words_without_space (note.Watched t i n s) h = (no_space_decimal t.0 (omega arith), (no_space_decimal i (omega arith), (no_space_decimal n (omega arith), (no_space_decimal s (omega arith), tt))))
+high_bits : (k b : ℕ) → IsHigh (bits k b)
+high_bits zero b = subst (λ (l : List ℕ). IsHigh l) (sym (no_bits b)) (All-nil (λ x. 48 ≤ x))
+high_bits (suc k) b = subst (λ (l : List ℕ). IsHigh l) (sym (bits_suc k b)) (All-push (λ x. 48 ≤ x) (bits k (b / 2)) (48 + b % 2) (high_bits k (b / 2)) (omega arith))
 
-letter_without_space : (n : Note) → (letter n == 32) ≡ false
-letter_without_space (note.Up t r) = refl
-letter_without_space (note.Enter t k) = refl
-letter_without_space (note.Leave t k) = refl
-letter_without_space (note.Gate t hi lo) = refl
-letter_without_space (note.Window t m) = refl
-letter_without_space (note.Good t v q) = refl
-letter_without_space (note.Detected t m) = refl
-letter_without_space (note.Nothing t) = refl
-letter_without_space (note.Bad t w) = refl
-letter_without_space (note.Control t n s d) = refl
-letter_without_space (note.Armed t) = refl
-letter_without_space (note.Lost t c) = refl
-letter_without_space (note.Command t c) = refl
-letter_without_space (note.Saved t r) = refl
-letter_without_space (note.Step t s) = refl
-letter_without_space (note.Cross t) = refl
-letter_without_space (note.Period t p) = refl
-letter_without_space (note.Reply t s b) = refl
-letter_without_space (note.Packet t cc kk) = refl
-letter_without_space (note.Sent t xx) = refl
-letter_without_space (note.Dropped t xx) = refl
-letter_without_space (note.Watched t i n s) = refl
+high_none : IsHigh (110 ∷ 111 ∷ 110 ∷ 101 ∷ [])
+high_none = All-cons (λ x. 48 ≤ x) 110 (111 ∷ 110 ∷ 101 ∷ []) (omega arith) (All-cons (λ x. 48 ≤ x) 111 (110 ∷ 101 ∷ []) (omega arith) (high_two 110 101 (omega arith) (omega arith)))
+
+high_words : (n : Note) → InRange n → AllHigh (note_fields n)
+high_words (note.Up t r) h = (high_decimal t.0 (omega arith), (high_decimal r (omega arith), tt))
+high_words (note.Enter t k) h = (high_decimal t.0 (omega arith), (high_decimal k (omega arith), tt))
+high_words (note.Leave t k) h = (high_decimal t.0 (omega arith), (high_decimal k (omega arith), tt))
+high_words (note.Gate t hi lo) h = (high_decimal t.0 (omega arith), (high_decimal hi (omega arith), (high_decimal lo (omega arith), tt)))
+high_words (note.Window t m) h = (high_decimal t.0 (omega arith), (high_decimal m (omega arith), tt))
+high_words (note.Good t v q) h = (high_decimal t.0 (omega arith), (high_letter 71 (omega arith), (high_decimal v (omega arith), (high_decimal q (omega arith), tt))))
+high_words (note.Detected t m) h = (high_decimal t.0 (omega arith), (high_letter 68 (omega arith), (high_decimal m (omega arith), tt)))
+high_words (note.Nothing t) h = (high_decimal t.0 (omega arith), (high_letter 78 (omega arith), tt))
+high_words (note.Bad t w) h = (high_decimal t.0 (omega arith), (high_letter 66 (omega arith), (high_decimal w (omega arith), tt)))
+high_words (note.Control t n s d) h = (high_decimal t.0 (omega arith), (high_decimal n (omega arith), (high_decimal s (omega arith), (high_decimal d (omega arith), tt))))
+high_words (note.Armed t) h = (high_decimal t.0 (omega arith), tt)
+high_words (note.Lost t c) h = (high_decimal t.0 (omega arith), (high_decimal c (omega arith), tt))
+high_words (note.Command t c) h = (high_decimal t.0 (omega arith), (high_decimal c (omega arith), tt))
+high_words (note.Saved t r) h = (high_decimal t.0 (omega arith), (high_decimal r (omega arith), tt))
+high_words (note.Step t s) h = (high_decimal t.0 (omega arith), (high_decimal s (omega arith), tt))
+high_words (note.Cross t) h = (high_decimal t.0 (omega arith), tt)
+high_words (note.Period t None) h = (high_decimal t.0 (omega arith), (high_none, tt))
+high_words (note.Period t (Some p)) h = (high_decimal t.0 (omega arith), (high_decimal p (omega arith), tt))
+high_words (note.Reply t s b) h = (high_decimal t.0 (omega arith), (high_decimal s.0 (omega arith), (high_bits 21 b, tt)))
+high_words (note.Packet t cc kk) h = (high_decimal t.0 (omega arith), (high_hex cc, (high_hex kk, tt)))
+high_words (note.Sent t xx) h = (high_decimal t.0 (omega arith), (high_hex xx, tt))
+high_words (note.Dropped t xx) h = (high_decimal t.0 (omega arith), (high_hex xx, tt))
+high_words (note.Watched t i n s) h = (high_decimal t.0 (omega arith), (high_decimal i (omega arith), (high_decimal n (omega arith), (high_decimal s (omega arith), tt))))
+
+letter_high : (n : Note) → 48 ≤ letter n
+letter_high (note.Up t r) = omega arith
+letter_high (note.Enter t k) = omega arith
+letter_high (note.Leave t k) = omega arith
+letter_high (note.Gate t hi lo) = omega arith
+letter_high (note.Window t m) = omega arith
+letter_high (note.Good t v q) = omega arith
+letter_high (note.Detected t m) = omega arith
+letter_high (note.Nothing t) = omega arith
+letter_high (note.Bad t w) = omega arith
+letter_high (note.Control t n s d) = omega arith
+letter_high (note.Armed t) = omega arith
+letter_high (note.Lost t c) = omega arith
+letter_high (note.Command t c) = omega arith
+letter_high (note.Saved t r) = omega arith
+letter_high (note.Step t s) = omega arith
+letter_high (note.Cross t) = omega arith
+letter_high (note.Period t p) = omega arith
+letter_high (note.Reply t s b) = omega arith
+letter_high (note.Packet t cc kk) = omega arith
+letter_high (note.Sent t xx) = omega arith
+letter_high (note.Dropped t xx) = omega arith
+letter_high (note.Watched t i n s) = omega arith
+
+-- a note's line without its line feed
+abbrev pub note_front : Note → List ℕ
+note_front n = letter n ∷ spaced (note_fields n)
+
+pub fields_of_front : (n : Note) → InRange n → fields (note_front n) ≡ (letter n ∷ []) ∷ note_fields n
+fields_of_front n h = fields_spaced (letter n ∷ []) (note_fields n) (high_letter (letter n) (letter_high n)) (high_words n h)
+
+pub no_feed_front : (n : Note) → InRange n → NoFeed (note_front n)
+no_feed_front n h =
+    let high = letter_high n in
+    All-cons (λ b. (b == 10) ≡ false) (letter n) (spaced (note_fields n)) (grind (arith, nat_tests)) (no_feed_spaced (note_fields n) (high_words n h))
 
 -- the parts of a note's line
 pub fields_of_note : (n : Note) (bytes : List ℕ) → InRange n → note_bytes n ≡ bytes → fields (take (length bytes - 1) bytes) ≡ (letter n ∷ []) ∷ note_fields n
 fields_of_note n bytes h e =
-    let front : List ℕ = letter n ∷ spaced (note_fields n) in
+    let front : List ℕ = note_front n in
     let len = length-append front (10 ∷ []) in
     let shorter : length (front ++ 10 ∷ []) - 1 ≡ length front = omega arith in
     let cut : take (length bytes - 1) bytes ≡ front = ap (λ (l : List ℕ). take (length l - 1) l) (sym e) ∙ ap (λ (k : ℕ). take k (front ++ 10 ∷ [])) shorter ∙ take-append_seam front (10 ∷ []) in
-    ap fields cut ∙ fields_spaced (letter n ∷ []) (note_fields n) (no_space_letter (letter n) (letter_without_space n)) (words_without_space n h)
+    ap fields cut ∙ fields_of_front n h
 
 -- the time of a note in range
 pub time_back : (n : Note) → InRange n → number_between 0 4294967295 (word_at 0 (note_fields n)) ≡ Some (time_of n)

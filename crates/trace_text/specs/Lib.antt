@@ -3,3 +3,4 @@ pub mod Read
 pub mod Ahead
 pub mod Text
 pub mod NoteRead
+pub mod Laws

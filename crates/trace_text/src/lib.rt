@@ -5,6 +5,7 @@ mod event_line;
 mod field;
 mod held;
 mod item;
+mod laws;
 mod lines;
 mod note_back;
 mod note_line;
@@ -18,6 +19,7 @@ mod write;
 
 pub use event_line::event_text;
 pub use item::{Item, Place, Refusal};
+pub use laws::one_journal;
 pub use note_back::note_read;
 pub use note_line::note_text;
 pub use reader::Lines;
