@@ -250,18 +250,22 @@ fn push_frame(trace: &mut String, at: u64, word: u16) -> Result<(), Fail>
     Ok(())
 }
 
-/// Frames by their words: the value 0, and the commands for direction 1, for 3D, for a save, for extended telemetry and
-/// for the reversed spin.
+/// A frame's word: the value 0.
 const ZERO: u16 = 0x0000;
 
+/// Command 8: direction 1.
 const DIRECTION: u16 = 0x0101;
 
+/// Command 10: 3D on.
 const THREE_D: u16 = 0x0145;
 
+/// Command 12: a save.
 const SAVE: u16 = 0x0189;
 
+/// Command 13: extended telemetry on.
 const EXTENDED: u16 = 0x01AB;
 
+/// Command 21: the reversed spin.
 const SPIN: u16 = 0x02A8;
 
 /// A trace in which control arms at tick 12000004. Six frames of one word end near 12015760, and after a frame of value 0
