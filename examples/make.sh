@@ -147,6 +147,17 @@ sample command <<'EOF'
     good(12070000, 1); good(12074000, 0); end(12080000)
 EOF
 
+# Armed as above. Command 8 sets the direction to 1, and command 12 saves that: MAIN enters when CAP has returned. After
+# a zero frame command 12 acts once more and is saved once more, while a control tick enters between the steps of MAIN.
+sample save <<'EOF'
+    zeros(); stall(130000, 11900000)
+    for (i = 0; i < 6; i++) good(12040000 + i * 4000, 8)
+    for (i = 0; i < 6; i++) good(12064000 + i * 4000, 12)
+    good(12088000, 0)
+    for (i = 0; i < 6; i++) good(12098664 + i * 4000, 12)
+    end(12122000)
+EOF
+
 # A stall over several control ticks and a frame: the frame is captured meanwhile and read afterwards, and the control
 # tick that runs has the newest number.
 sample stall <<'EOF'

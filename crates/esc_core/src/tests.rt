@@ -3,13 +3,21 @@ ghost use Rattle.interrupt_machine.specs.Turn.{IsHeld};
 
 use crate::Core;
 use arrayvec::ArrayVec;
-use esc_base::{Note, Tick};
+use esc_base::{FlashOp, MemFlash, Note, Tick};
 use interrupt_machine::{Machine, Nest};
+use settings_block::{Settings, default_block, read_block, write_block};
 use std::process::Abort;
+use std::test::Fail;
 use timer_regs::{Reg, Regs};
 
 /// Makes a step for each row, and checks its first note.
-fn follow(rt: &impl Abort, machine: &mut Machine<Core>, regs: &mut Regs, rows: &[Option<Note>])
+fn follow(
+    rt: &impl Abort,
+    machine: &mut Machine<Core>,
+    regs: &mut Regs,
+    flash: &mut MemFlash,
+    rows: &[Option<Note>],
+)
     requires { regs.old.masked ≡ true → IsHeld machine.old.firmware.hold machine.old.open_kinds }
     ensures mask { regs.new.masked ≡ true → IsHeld machine.new.firmware.hold machine.new.open_kinds }
 {
@@ -17,21 +25,23 @@ fn follow(rt: &impl Abort, machine: &mut Machine<Core>, regs: &mut Regs, rows: &
     for row in rows {
         assert!(rt; !machine.idle(regs));
         assert!(rt; regs.accesses() < 1000);
-        machine.step_into(regs, &mut notes);
+        machine.step_into(regs, flash, &mut notes);
         assert_eq!(rt; notes.as_slice().first().copied(), *row);
     }
 }
 
 #[test]
-fn a_control_tick(rt: HostRuntime) {
+fn a_control_tick(rt: HostRuntime) -> Result<(), Fail> {
+    let mut flash = MemFlash::new(rt.alloc())?;
     let mut regs = Regs::new();
-    let mut machine = Machine::new(Core::new(default_settings()), Nest::One);
+    let mut machine = Machine::new(Core::new(read_block(&default_block())?), Nest::One);
     let t = Tick(2400);
     regs.advance(t);
     follow(
         &rt,
         &mut machine,
         &mut regs,
+        &mut flash,
         &[Some(Note::Enter { t, k: 2 }), None],
     );
     assert!(rt; regs.masked());
@@ -41,17 +51,19 @@ fn a_control_tick(rt: HostRuntime) {
         s: 0,
         d: 0,
     };
-    follow(&rt, &mut machine, &mut regs, &[Some(number)]);
+    follow(&rt, &mut machine, &mut regs, &mut flash, &[Some(number)]);
     assert!(rt; regs.masked());
-    follow(&rt, &mut machine, &mut regs, &[None]);
+    follow(&rt, &mut machine, &mut regs, &mut flash, &[None]);
     assert!(rt; !regs.masked());
     follow(
         &rt,
         &mut machine,
         &mut regs,
+        &mut flash,
         &[Some(Note::Leave { t, k: 2 })],
     );
     assert!(rt; machine.idle(&regs));
+    Ok(())
 }
 
 /// The line is high for so many ticks, from a tick on.
@@ -68,9 +80,10 @@ fn pulse(rt: &impl Abort, regs: &mut Regs, at: u64, width: u64)
 
 /// The frame of value 1046 at tick 10000: each bit is 80 ticks, a zero is high for 30 of them and a one for 60.
 #[test]
-fn a_first_frame(rt: HostRuntime) {
+fn a_first_frame(rt: HostRuntime) -> Result<(), Fail> {
+    let mut flash = MemFlash::new(rt.alloc())?;
     let mut regs = Regs::new();
-    let mut machine = Machine::new(Core::new(default_settings()), Nest::One);
+    let mut machine = Machine::new(Core::new(read_block(&default_block())?), Nest::One);
     regs.write(Reg::CapArm, 0);
     let widths = [
         60, 30, 30, 30, 30, 30, 60, 30, 60, 60, 30, 30, 30, 60, 60, 30,
@@ -86,15 +99,49 @@ fn a_first_frame(rt: HostRuntime) {
     assert_eq!(rt; t, Tick(11230));
     let mut reads = [None; 34];
     reads[0] = Some(Note::Enter { t, k: 3 });
-    follow(&rt, &mut machine, &mut regs, &reads);
+    follow(&rt, &mut machine, &mut regs, &mut flash, &reads);
     follow(
         &rt,
         &mut machine,
         &mut regs,
+        &mut flash,
         &[
             Some(Note::Detected { t, m: 2 }),
             Some(Note::Window { t, m: 2 }),
             Some(Note::Leave { t, k: 3 }),
         ],
     );
+    Ok(())
+}
+
+/// A save is asked for: MAIN is entered, saves in its first step with result `r`, and returns in the second.
+fn saves(rt: &impl Abort, settings: Settings, flash: &mut MemFlash, r: u8) {
+    let mut regs = Regs::new();
+    let mut core = Core::new(settings);
+    core.orders.save = true;
+    let mut machine = Machine::new(core, Nest::One);
+    assert!(rt; !regs.masked());
+    let t = Tick(0);
+    let rows = [
+        Some(Note::Enter { t, k: 0 }),
+        Some(Note::Saved { t, r }),
+        Some(Note::Leave { t, k: 0 }),
+    ];
+    follow(rt, &mut machine, &mut regs, flash, &rows);
+    assert!(rt; machine.idle(&regs));
+}
+
+#[test]
+fn main_saves_the_settings(rt: HostRuntime) -> Result<(), Fail> {
+    let mut flash = MemFlash::new(rt.alloc())?;
+    let mut settings = read_block(&default_block())?;
+    settings.direction = 1;
+    for op in [FlashOp::Erase, FlashOp::Program] {
+        flash.fail(op, 1)?;
+        saves(&rt, settings, &mut flash, 1);
+    }
+    saves(&rt, settings, &mut flash, 0);
+    let block = write_block(&settings);
+    assert_eq!(rt; flash.bytes().get(0x7C00..0x7C30), Some(block.0.as_slice()));
+    Ok(())
 }
