@@ -34,16 +34,15 @@ use Rattle.esc_laws.specs.Windowed.{WindowRule, Windowed}
 use Rattle.esc_laws.specs.Nested.{NestRule, NestedAfter}
 use Rattle.esc_laws.specs.Tied.{Keeps}
 use Rattle.esc_laws.specs.Legal.{Legal, LegalFront}
-use Rattle.esc_laws.specs.Logged.{Marks, Ties, EndsBy, Logged, CoreTurn, turned, first_bank}
-use Rattle.esc_laws.proofs.Pushes.{free-push, journal-push, notes-push}
+use Rattle.esc_laws.specs.Logged.{Marks, Ties, stall_end, Logged, CoreTurn, turned, first_bank}
+use Rattle.esc_laws.proofs.Pushes.{All-later, free-push, journal-push, notes-push}
+use Rattle.esc_laws.proofs.Stalls.{past_later, after_grows, free_less}
 use Rattle.esc_laws.proofs.Entries.{enters}
 use Rattle.esc_laws.proofs.OwnTurns.{steady, own_are}
-use Rattle.esc_laws.proofs.StepGrowth.{free_less}
-use Rattle.esc_laws.proofs.Turns.{all_end_later}
 use Rattle.esc_laws.proofs.Stepping.{sees_due, entry_turn, own_turn, left_is, stepped_by}
 use Rattle.esc_laws.proofs.Start.{logged_start}
 use Rattle.esc_laws.proofs.Lines.{plain_ties, line_ties}
-use Rattle.esc_laws.proofs.Events.{SameRegs, Moved, ties_later, keeps_later, marks_later, patient_later, after_grows, past_more, event_logged}
+use Rattle.esc_laws.proofs.Events.{SameRegs, Moved, ties_later, keeps_later, marks_later, patient_later, event_logged}
 
 pub start_logged : (loaded : Loaded) (nest : Nest) (cost : ℕ) → Logged loaded nest cost [] 0 (new_core loaded.settings) first_bank [] []
 start_logged loaded nest cost = logged_start loaded nest cost
@@ -182,7 +181,7 @@ jump_logged loaded nest cost trace c b stack log due t idle is later small le l 
       };
       time = omega arith;
       put_off = λ u from below. absurd (omega arith);
-      stalls = all_end_later trace b.time t later l.stalls;
+      stalls = All-later stall_end trace b.time t later l.stalls;
       at_next = λ o. absurd (o rest.0);
     }
   where
@@ -199,14 +198,14 @@ jump_logged loaded nest cost trace c b stack log due t idle is later small le l 
 -- ---- an event
 
 -- one that isn't a stall leaves the tick of the next step
-plain_moved : (loaded : Loaded) (nest : Nest) (cost : ℕ) (trace : List Event) (e : Event) (next : ℕ) (c : Brain) (b : Bank) (stack : List Kind) (log : List Turned) → ((t : ℕ) → past_stall t e ≡ t) → EndsBy next e
+plain_moved : (loaded : Loaded) (nest : Nest) (cost : ℕ) (trace : List Event) (e : Event) (next : ℕ) (c : Brain) (b : Bank) (stack : List Kind) (log : List Turned) → ((t : ℕ) → past_stall t e ≡ t) → stall_end e ≤ next
     → Logged loaded nest cost trace next c b stack log → Moved cost trace e b.time next next stack log
 plain_moved loaded nest cost trace e next c b stack log plain ends l =
     let same : after cost (trace ++ e ∷ []) log ≡ after cost trace log = after_grows cost trace e log ∙ plain (after cost trace log) in
     record {
       more = omega arith;
       past = rw same l.past;
-      ends = All-push (EndsBy next) trace e l.stalls ends;
+      ends = All-push (λ x. stall_end x ≤ next) trace e l.stalls ends;
       at_next = λ o. l.at_next o ∙ sym same;
       put_off = λ u from below past f. l.put_off u from below (rw (sym same) past) (free_less trace e u f);
     }
@@ -217,7 +216,7 @@ pub edge_logged : (loaded : Loaded) (nest : Nest) (cost : ℕ) (trace : List Eve
     → Logged loaded nest cost (trace ++ event.Edge (tick_at b.time) level ∷ []) next c (after_line b level) stack log
 edge_logged loaded nest cost trace next c b stack log level below l =
     event_logged loaded nest cost trace (event.Edge (tick_at b.time) level) next next c b (after_line b level) stack log refl below l
-    (plain_moved loaded nest cost trace (event.Edge (tick_at b.time) level) next c b stack log (λ t. refl) tt l) (line_same b level) (line_ties loaded trace c b log level l.ties)
+    (plain_moved loaded nest cost trace (event.Edge (tick_at b.time) level) next c b stack log (λ t. refl) (omega arith) l) (line_same b level) (line_ties loaded trace c b log level l.ties)
   where
     kept_regs : (v : Bool) (b x : Bank) → x.time ≡ b.time → x.masked ≡ b.masked → SameRegs b (if v then x else b)
     kept_regs true b x e f = record { time = e; masked = f }
@@ -231,14 +230,14 @@ pub comp_logged : (loaded : Loaded) (nest : Nest) (cost : ℕ) (trace : List Eve
     → Below b.time log → Logged loaded nest cost trace next c b stack log → Logged loaded nest cost (trace ++ event.Comp (tick_at b.time) level ∷ []) next c b stack log
 comp_logged loaded nest cost trace next c b stack log level below l =
     event_logged loaded nest cost trace (event.Comp (tick_at b.time) level) next next c b b stack log refl below l
-    (plain_moved loaded nest cost trace (event.Comp (tick_at b.time) level) next c b stack log (λ t. refl) tt l) (record { time = refl; masked = refl })
+    (plain_moved loaded nest cost trace (event.Comp (tick_at b.time) level) next c b stack log (λ t. refl) (omega arith) l) (record { time = refl; masked = refl })
     (plain_ties loaded trace (event.Comp (tick_at b.time) level) c b log (line-push trace (event.Comp (tick_at b.time) level)) (omega arith) l.ties)
 
 pub serial_logged : (loaded : Loaded) (nest : Nest) (cost : ℕ) (trace : List Event) (next : ℕ) (c : Brain) (b : Bank) (stack : List Kind) (log : List Turned) (byte : ℕ)
     → Below b.time log → Logged loaded nest cost trace next c b stack log → Logged loaded nest cost (trace ++ event.Serial (tick_at b.time) byte ∷ []) next c b stack log
 serial_logged loaded nest cost trace next c b stack log byte below l =
     event_logged loaded nest cost trace (event.Serial (tick_at b.time) byte) next next c b b stack log refl below l
-    (plain_moved loaded nest cost trace (event.Serial (tick_at b.time) byte) next c b stack log (λ t. refl) tt l) (record { time = refl; masked = refl })
+    (plain_moved loaded nest cost trace (event.Serial (tick_at b.time) byte) next c b stack log (λ t. refl) (omega arith) l) (record { time = refl; masked = refl })
     (plain_ties loaded trace (event.Serial (tick_at b.time) byte) c b log (line-push trace (event.Serial (tick_at b.time) byte)) (omega arith) l.ties)
 
 -- a stall puts the next step off to its end
@@ -288,10 +287,10 @@ stall_moved loaded nest cost trace next c b stack log n l =
     record {
       more = omega arith;
       past = rw grown (stall_after b.time n next (after cost trace log) l.past);
-      ends = All-push (EndsBy (max next (b.time + n))) trace e (all_end_later trace next (max next (b.time + n)) (omega arith) l.stalls) (omega arith);
+      ends = All-push (λ x. stall_end x ≤ max next (b.time + n)) trace e (All-later stall_end trace next (max next (b.time + n)) (omega arith) l.stalls) (omega arith);
       at_next = λ o. (let at = l.at_next o in stall_at b.time n next l.time ∙ ap (λ (t : ℕ). past_stall t e) at ∙ sym grown);
       put_off = λ u from below past f. elim (by_next u (nat_lt u next) refl) [
-        | inl early ↦ l.put_off u from early (let g = grown in let m = past_more e (after cost trace log) in omega arith) (free_less trace e u f)
+        | inl early ↦ l.put_off u from early (let g = grown in let m = past_later e (after cost trace log) in omega arith) (free_less trace e u f)
         | inr late ↦ stall_over b.time n u from (omega arith) (sym (free-push trace e u ∙ ap (λ (t : ℕ). past_stall t e) (free_less trace e u f)) ∙ f)
       ];
     }

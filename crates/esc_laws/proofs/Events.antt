@@ -1,10 +1,8 @@
 -- The log stands as it is while time goes on, and as the trace grows.
-use Rattle.std.proofs.Common.{◌≡◌, ◌≢◌, ◌≤◌, ◌<◌, ◌+◌, ◌/◌, ℕ, Bool, true, false, not, ◌&&◌, nat_le, nat_lt, if◌then◌else◌, List, [], ◌∷◌, ◌++◌, refl, sym, ◌∙◌, ap, subst, arith, All, ◌⊎◌, inl, inr}
-use Rattle.std.specs.List.{fold}
+use Rattle.std.proofs.Common.{◌≡◌, ◌≢◌, ◌≤◌, ◌<◌, ◌/◌, ℕ, Bool, true, false, not, ◌&&◌, nat_lt, List, [], ◌∷◌, ◌++◌, refl, sym, ◌∙◌, arith, All, ◌⊎◌, inl, inr}
 use Rattle.std.proofs.lemmas.Bool.Decides.{nat_tests}
 use Rattle.esc_base.specs.declared.kind.Kind.{Kind}
 use Rattle.esc_base.specs.declared.event.Event.{Event}
-use Rattle.esc_base.specs.declared.event.Event.TheVariants as event
 use Rattle.esc_base.specs.Journal.{time_of}
 use Rattle.esc_base.specs.Trace.{line, tick_of}
 use Rattle.settings_block.specs.declared.stored.Loaded.{Loaded}
@@ -19,12 +17,13 @@ use Rattle.esc_core.specs.declared.state.TickAt.TheVariants as tick
 use Rattle.esc_core.specs.Brain.{Brain}
 use Rattle.esc_laws.specs.Place.{place}
 use Rattle.esc_laws.specs.Seen.{sees}
-use Rattle.esc_laws.specs.Steps.{Turned, journal, past_stall, free, next_step, after, uses, steps_since, entered_at, called, Awaits, Below}
+use Rattle.esc_laws.specs.Steps.{Turned, journal, free, after, steps_since, entered_at, called, Awaits, Below}
 use Rattle.esc_laws.specs.Tied.{Keeps, cap_view, TickTied}
-use Rattle.esc_laws.specs.Logged.{Marks, Ties, EndsBy, Logged}
-use Rattle.esc_laws.proofs.Pushes.{All-later, free-push, uses-more}
+use Rattle.esc_laws.specs.Logged.{Marks, Ties, stall_end, Logged}
+use Rattle.esc_laws.proofs.Pushes.{All-later}
+use Rattle.esc_laws.proofs.Stalls.{past_later, after_grows, uses_before, reached_grows, free_less}
 use Rattle.esc_laws.proofs.Growth.{sees_before, sees_still, sees_later, windowed_grows}
-use Rattle.esc_laws.proofs.StepGrowth.{count_before, fits_grow, free_less, uses_before}
+use Rattle.esc_laws.proofs.StepGrowth.{count_before, fits_grow}
 use Rattle.esc_laws.proofs.Dues.{signal_follows, time_follows}
 
 -- ---- time goes on
@@ -75,43 +74,6 @@ patient_later loaded nest trace c b stack log u le p =
     grow_patient nest stack (sees trace (journal loaded log) b.time) (sees trace (journal loaded log) u) b.masked c.hold (called loaded nest trace log)
     (λ k e. waits_on (sees trace (journal loaded log) b.time k) (sees trace (journal loaded log) u k) (not (is_open stack k)) (sees_later trace (journal loaded log) b.time u k le) e) p
 
--- ---- the tick of the next step, in the longer trace
-
-after_from : (cost : ℕ) (trace : List Event) (e : Event) (i : ℕ) (log : List Turned)
-    → fold (λ n x. next_step cost (trace ++ e ∷ []) x.tick) (past_stall i e) log ≡ past_stall (fold (λ n x. next_step cost trace x.tick) i log) e
-after_from cost trace e i [] = refl
-after_from cost trace e i (x ∷ log) =
-    ap (λ (n : ℕ). fold (λ m y. next_step cost (trace ++ e ∷ []) y.tick) n log) (free-push trace e (x.tick + cost)) ∙ after_from cost trace e (next_step cost trace x.tick) log
-
-pub after_grows : (cost : ℕ) (trace : List Event) (e : Event) (log : List Turned) → after cost (trace ++ e ∷ []) log ≡ past_stall (after cost trace log) e
-unfolding after
-after_grows cost trace e log =
-    ap (λ (n : ℕ). fold (λ m x. next_step cost (trace ++ e ∷ []) x.tick) n log) (free-push trace e 0) ∙ after_from cost trace e (free trace 0) log
-
-pub past_more : (e : Event) (t : ℕ) → t ≤ past_stall t e
-past_more (event.Stall at n) t = by_test (nat_le at.0 t) (nat_lt t (at.0 + n)) t (at.0 + n) (λ a b. lt_from t (at.0 + n) b)
-  where
-    lt_from : (a b : ℕ) → nat_lt a b ≡ true → a < b
-    lt_from a b e = grind (arith, nat_tests)
-
-    by_test : (a b : Bool) (t x : ℕ) → (a ≡ true → b ≡ true → t < x) → t ≤ (if a && b then x else t)
-    by_test true true t x f = let l = f refl refl in omega arith
-    by_test true false t x f = omega arith
-    by_test false b t x f = omega arith
-past_more (event.Edge at level) t = omega arith
-past_more (event.Comp at level) t = omega arith
-past_more (event.Serial at byte) t = omega arith
-
-reached_grows : (cost : ℕ) (trace : List Event) (e : Event) (log : List Turned) (m t : ℕ) → after cost trace log ≡ uses cost trace (m + 1) t → uses cost trace m t < tick_of e
-    → after cost (trace ++ e ∷ []) log ≡ uses cost (trace ++ e ∷ []) (m + 1) t
-reached_grows cost trace e log m t h below =
-    let same = uses_before cost trace e m t (uses cost trace m t) refl below in
-    after_grows cost trace e log
-    ∙ ap (λ (x : ℕ). past_stall x e) (h ∙ uses-more cost trace m t)
-    ∙ sym (free-push trace e (uses cost trace m t + cost))
-    ∙ ap (λ (x : ℕ). next_step cost (trace ++ e ∷ []) x) (sym same)
-    ∙ sym (uses-more cost (trace ++ e ∷ []) m t)
-
 -- ---- one event more, at now
 
 -- what an event leaves of the registers
@@ -151,7 +113,7 @@ keeps_same c b b' stack s k = record {
 pub record Moved (cost : ℕ) (trace : List Event) (e : Event) (now next next' : ℕ) (stack : List Kind) (log : List Turned) : Type 0 where
   pub more : next ≤ next'
   pub past : after cost (trace ++ e ∷ []) log ≤ next'
-  pub ends : All (EndsBy next') (trace ++ e ∷ [])
+  pub ends : All (λ x. stall_end x ≤ next') (trace ++ e ∷ [])
   pub at_next : stack ≢ [] → next' ≡ after cost (trace ++ e ∷ []) log
   pub put_off : (u : ℕ) → now ≤ u → u < next' → after cost (trace ++ e ∷ []) log ≤ u → free (trace ++ e ∷ []) u ≢ u
 
@@ -161,7 +123,7 @@ awaits_grow loaded nest cost trace e next next' c b stack log at l m = record {
   open_step = λ o. (let n = m.at_next (λ s. o (sym l.marks.stack_is ∙ s)) in omega arith);
   idle = λ o u from below f k. elim (by_order u) [
     | inl early ↦ (
-        let a : after cost trace log ≤ u = (let g = after_grows cost trace e log in let p = past_more e (after cost trace log) in omega arith) in
+        let a : after cost trace log ≤ u = (let g = after_grows cost trace e log in let p = past_later e (after cost trace log) in omega arith) in
         let soon : u < next = (let t = l.time in omega arith) in
         sees_before trace e (journal loaded log) u k (omega arith) ∙ l.awaits.idle o u a soon (free_less trace e u f) k)
     | inr late ↦ absurd (m.put_off u late below from f)
@@ -192,8 +154,7 @@ event_logged loaded nest cost trace e next next' c b b' stack log at below l m s
   patient = rw (same.masked, same.time) (patient_grows loaded nest trace e c b stack log at below l.patient);
   owes = l.owes;
   reached = λ k o. reached_grows cost trace e log (steps_since k log) (entered_at k log) (l.reached k o) (l.reached_by k o (tick_of e) below);
-  reached_by = λ k o t b. subst (λ (x : ℕ). x < t) (sym (uses_before cost trace e (steps_since k log) (entered_at k log) (uses cost trace (steps_since k log) (entered_at k log)) refl (l.reached_by k o (tick_of e) below)))
-      (l.reached_by k o t b);
+  reached_by = λ k o t b. rw (uses_before cost trace e (steps_since k log) (entered_at k log) (l.reached_by k o (tick_of e) below)) (l.reached_by k o t b);
   fits = fits_grow loaded nest cost trace e log below l.fits;
   past = m.past;
   awaits = awaits_grow loaded nest cost trace e next next' c b stack log at l m;

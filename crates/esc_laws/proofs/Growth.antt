@@ -24,8 +24,6 @@ use Rattle.arming.specs.ControlAt.{number_at}
 use Rattle.esc_laws.specs.Place.{Signal, Silent, Listens, Judged, Rests, place}
 use Rattle.esc_laws.specs.Windowed.{Answers, AnswersAt, WindowRule, Windowed}
 use Rattle.esc_laws.specs.Seen.{calls_cap, sees}
-use Rattle.esc_laws.specs.Steps.{past_stall, free}
-use Rattle.esc_laws.proofs.Pushes.{free-push}
 
 -- ---- windows
 
@@ -66,29 +64,6 @@ windowed_from loaded trace e before (n ∷ notes) past w =
 
 pub windowed_grows : (loaded : Loaded) (trace : List Event) (e : Event) (notes : List Note) → All (λ n. time_of n ≤ tick_of e) notes → Windowed loaded trace notes → Windowed loaded (trace ++ e ∷ []) notes
 windowed_grows loaded trace e notes past w = windowed_from loaded trace e [] notes past w
-
--- ---- stalls
-
-past_before : (e : Event) (t : ℕ) → t < tick_of e → past_stall t e ≡ t
-past_before (event.Stall at n) t l = not_in at.0 n t l
-  where
-    not_in : (at n t : ℕ) → t < at → (if nat_le at t && nat_lt t (at + n) then at + n else t) ≡ t
-    not_in at n t l = grind (arith, nat_tests)
-past_before (event.Edge at level) t l = refl
-past_before (event.Comp at level) t l = refl
-past_before (event.Serial at byte) t l = refl
-
-pub free_before : (trace : List Event) (e : Event) (t u : ℕ) → free trace t ≡ u → u < tick_of e → free (trace ++ e ∷ []) t ≡ u
-free_before trace e t u f l = rw (free-push trace e t, f) (past_before e u l)
-
-pub past_later : (e : Event) (t : ℕ) → t ≤ past_stall t e
-past_later (event.Stall at n) t = later at.0 n t
-  where
-    later : (at n t : ℕ) → t ≤ (if nat_le at t && nat_lt t (at + n) then at + n else t)
-    later at n t = grind (arith, nat_tests)
-past_later (event.Edge at level) t = omega arith
-past_later (event.Comp at level) t = omega arith
-past_later (event.Serial at byte) t = omega arith
 
 -- ---- what is seen due
 

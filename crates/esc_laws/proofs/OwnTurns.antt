@@ -22,7 +22,7 @@ use Rattle.interrupt_machine.specs.Open.{innermost, outer_ones}
 use Rattle.interrupt_machine.specs.Turn.{leave_note, own_notes}
 use Rattle.dshot_commands.specs.declared.act.Act.{Act}
 use Rattle.arming.specs.Decide.{decide}
-use Rattle.arming.specs.Kept.{after_frame, after_tick, view_of}
+use Rattle.arming.specs.Kept.{after_tick, view_of}
 use Rattle.arming.proofs.InOrder.{reverse-push}
 use Rattle.arming.proofs.FrameTies.{other_stands}
 use Rattle.esc_core.specs.declared.state.CapAt.{CapAt}

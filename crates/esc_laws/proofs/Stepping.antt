@@ -39,7 +39,8 @@ use Rattle.esc_laws.proofs.Dues.{cap_called}
 use Rattle.esc_laws.proofs.Entries.{enters, entry_same, entered_others, entry_out, keeps_entry}
 use Rattle.esc_laws.proofs.OwnTurns.{IsOwn, steady, step_notes, step_own, open_left}
 use Rattle.esc_laws.proofs.OwnKeeps.{keeps_own, own_out}
-use Rattle.esc_laws.proofs.Turns.{of_self, of_other, some_open, free_ended, reached_on, reached_new, by_on, by_new, own_in, logged_after}
+use Rattle.esc_laws.proofs.Stalls.{free_ended}
+use Rattle.esc_laws.proofs.Turns.{of_self, of_other, some_open, reached_on, reached_new, by_on, by_new, own_in, logged_after}
 
 -- ---- what is seen due, and isn't open, is due
 
