@@ -1,20 +1,15 @@
 -- What carries `Logged` on: a step, time, an idle jump, an event, a stall; and what it says of the journal.
-use Rattle.std.proofs.Common.{◌≡◌, ◌≢◌, ◌<◌, ◌≤◌, ◌+◌, ℕ, Bool, true, false, not, ◌&&◌, nat_le, nat_lt, if◌then◌else◌, List, [], ◌∷◌, ◌++◌, max, Option, Some, None, is_none, refl, sym, ◌∙◌, ap, subst, arith, ◌⊎◌, inl, inr, append_assoc, append-nil, reverse}
+use Rattle.std.proofs.Common.{◌≡◌, ◌<◌, ◌≤◌, ◌+◌, ℕ, Bool, true, false, not, ◌&&◌, nat_lt, List, [], ◌∷◌, ◌++◌, Option, Some, None, is_none, refl, sym, ◌∙◌, ap, subst, arith, ◌⊎◌, inl, inr, append_assoc, append-nil, reverse}
 use Rattle.std.proofs.lemmas.Bool.Decides.{nat_tests}
-use Rattle.std.proofs.lemmas.List.Elements.{All-push}
 use Rattle.esc_base.specs.declared.kind.Kind.{Kind}
 use Rattle.esc_base.specs.declared.kind.Kind.TheVariants as kind
 use Rattle.esc_base.specs.declared.event.Event.{Event}
-use Rattle.esc_base.specs.declared.event.Event.TheVariants as event
 use Rattle.esc_base.specs.declared.note.Note.{Note}
 use Rattle.esc_base.specs.Flash.{Told}
 use Rattle.esc_base.specs.Journal.{IsLater, Journal}
-use Rattle.esc_base.specs.Trace.{differ}
-use Rattle.esc_base.proofs.TraceLaws.{line-push}
-use Rattle.edge_capture.specs.Window.{after_edge}
 use Rattle.settings_block.specs.declared.stored.Loaded.{Loaded}
 use Rattle.timer_regs.specs.Bank.{Bank}
-use Rattle.timer_regs.specs.Effects.{advanced, after_entry, after_line, is_due}
+use Rattle.timer_regs.specs.Effects.{advanced, after_entry, is_due}
 use Rattle.timer_regs.specs.NextDue.{IsNextDue, becomes_due}
 use Rattle.interrupt_machine.specs.declared.nest.Nest.{Nest}
 use Rattle.interrupt_machine.specs.declared.firmware.Did.{Did}
@@ -24,25 +19,22 @@ use Rattle.interrupt_machine.proofs.Waiting.{highest_none}
 use Rattle.arming.proofs.InOrder.{each_front, in_order}
 use Rattle.arming.specs.Controlled.{Controlled, FitsControl}
 use Rattle.esc_core.specs.Brain.{Brain}
-use Rattle.esc_core.specs.Cap.{tick_at}
 use Rattle.esc_core.specs.Firmware.{new_core, entered_core, core_step}
 use Rattle.esc_core.specs.Stepped.{IsStepped}
 use Rattle.esc_core.proofs.Bounds.{core_step-goes}
 use Rattle.esc_laws.specs.Seen.{sees}
-use Rattle.esc_laws.specs.Steps.{Turned, opening, journal, notes_in, open_in, past_stall, after, EachStep, StepFits, Below}
+use Rattle.esc_laws.specs.Steps.{Turned, opening, journal, notes_in, open_in, EachStep, StepFits, Below}
 use Rattle.esc_laws.specs.Windowed.{WindowRule, Windowed}
 use Rattle.esc_laws.specs.Nested.{NestRule, NestedAfter}
 use Rattle.esc_laws.specs.Tied.{Keeps}
 use Rattle.esc_laws.specs.Legal.{Legal, LegalFront}
 use Rattle.esc_laws.specs.Logged.{Marks, Ties, stall_end, Logged, CoreTurn, turned, first_bank}
-use Rattle.esc_laws.proofs.Pushes.{All-later, free-push, journal-push, notes-push}
-use Rattle.esc_laws.proofs.Stalls.{past_later, after_grows, free_less}
+use Rattle.esc_laws.proofs.Pushes.{All-later, journal-push, notes-push}
 use Rattle.esc_laws.proofs.Entries.{enters}
 use Rattle.esc_laws.proofs.OwnTurns.{steady, own_are}
 use Rattle.esc_laws.proofs.Stepping.{sees_due, entry_turn, own_turn, left_is, stepped_by}
 use Rattle.esc_laws.proofs.Start.{logged_start}
-use Rattle.esc_laws.proofs.Lines.{plain_ties, line_ties}
-use Rattle.esc_laws.proofs.Events.{SameRegs, Moved, ties_later, keeps_later, marks_later, patient_later, event_logged}
+use Rattle.esc_laws.proofs.Events.{ties_later, keeps_later, marks_later, patient_later}
 
 pub start_logged : (loaded : Loaded) (nest : Nest) (cost : ℕ) → Logged loaded nest cost [] 0 (new_core loaded.settings) first_bank [] []
 start_logged loaded nest cost = logged_start loaded nest cost
@@ -194,124 +186,6 @@ jump_logged loaded nest cost trace c b stack log due t idle is later small le l 
       where
         ge_from : (x y : ℕ) → nat_lt x y ≡ false → y ≤ x
         ge_from x y e = grind (arith, nat_tests)
-
--- ---- an event
-
--- one that isn't a stall leaves the tick of the next step
-plain_moved : (loaded : Loaded) (nest : Nest) (cost : ℕ) (trace : List Event) (e : Event) (next : ℕ) (c : Brain) (b : Bank) (stack : List Kind) (log : List Turned) → ((t : ℕ) → past_stall t e ≡ t) → stall_end e ≤ next
-    → Logged loaded nest cost trace next c b stack log → Moved cost trace e b.time next next stack log
-plain_moved loaded nest cost trace e next c b stack log plain ends l =
-    let same : after cost (trace ++ e ∷ []) log ≡ after cost trace log = after_grows cost trace e log ∙ plain (after cost trace log) in
-    record {
-      more = omega arith;
-      past = rw same l.past;
-      ends = All-push (λ x. stall_end x ≤ next) trace e l.stalls ends;
-      at_next = λ o. l.at_next o ∙ sym same;
-      put_off = λ u from below past f. l.put_off u from below (rw (sym same) past) (free_less trace e u f);
-    }
-
--- the signal line has a level at now; all steps stand before
-pub edge_logged : (loaded : Loaded) (nest : Nest) (cost : ℕ) (trace : List Event) (next : ℕ) (c : Brain) (b : Bank) (stack : List Kind) (log : List Turned) (level : Bool)
-    → Below b.time log → Logged loaded nest cost trace next c b stack log
-    → Logged loaded nest cost (trace ++ event.Edge (tick_at b.time) level ∷ []) next c (after_line b level) stack log
-edge_logged loaded nest cost trace next c b stack log level below l =
-    event_logged loaded nest cost trace (event.Edge (tick_at b.time) level) next next c b (after_line b level) stack log refl below l
-    (plain_moved loaded nest cost trace (event.Edge (tick_at b.time) level) next c b stack log (λ t. refl) (omega arith) l) (line_same b level) (line_ties loaded trace c b log level l.ties)
-  where
-    kept_regs : (v : Bool) (b x : Bank) → x.time ≡ b.time → x.masked ≡ b.masked → SameRegs b (if v then x else b)
-    kept_regs true b x e f = record { time = e; masked = f }
-    kept_regs false b x e f = record { time = refl; masked = refl }
-
-    line_same : (b : Bank) (level : Bool) → SameRegs b (after_line b level)
-    line_same b level = kept_regs (differ b.level level) b (record b { level = level; window = after_edge b.window (record { t = record { 0 = b.time }; level = level }) }) refl refl
-
--- an event without an effect
-pub comp_logged : (loaded : Loaded) (nest : Nest) (cost : ℕ) (trace : List Event) (next : ℕ) (c : Brain) (b : Bank) (stack : List Kind) (log : List Turned) (level : Bool)
-    → Below b.time log → Logged loaded nest cost trace next c b stack log → Logged loaded nest cost (trace ++ event.Comp (tick_at b.time) level ∷ []) next c b stack log
-comp_logged loaded nest cost trace next c b stack log level below l =
-    event_logged loaded nest cost trace (event.Comp (tick_at b.time) level) next next c b b stack log refl below l
-    (plain_moved loaded nest cost trace (event.Comp (tick_at b.time) level) next c b stack log (λ t. refl) (omega arith) l) (record { time = refl; masked = refl })
-    (plain_ties loaded trace (event.Comp (tick_at b.time) level) c b log (line-push trace (event.Comp (tick_at b.time) level)) (omega arith) l.ties)
-
-pub serial_logged : (loaded : Loaded) (nest : Nest) (cost : ℕ) (trace : List Event) (next : ℕ) (c : Brain) (b : Bank) (stack : List Kind) (log : List Turned) (byte : ℕ)
-    → Below b.time log → Logged loaded nest cost trace next c b stack log → Logged loaded nest cost (trace ++ event.Serial (tick_at b.time) byte ∷ []) next c b stack log
-serial_logged loaded nest cost trace next c b stack log byte below l =
-    event_logged loaded nest cost trace (event.Serial (tick_at b.time) byte) next next c b b stack log refl below l
-    (plain_moved loaded nest cost trace (event.Serial (tick_at b.time) byte) next c b stack log (λ t. refl) (omega arith) l) (record { time = refl; masked = refl })
-    (plain_ties loaded trace (event.Serial (tick_at b.time) byte) c b log (line-push trace (event.Serial (tick_at b.time) byte)) (omega arith) l.ties)
-
--- a stall puts the next step off to its end
-stall_after : (now n next t : ℕ) → t ≤ next → (if nat_le now t && nat_lt t (now + n) then now + n else t) ≤ max next (now + n)
-stall_after now n next t le = by_test (nat_le now t && nat_lt t (now + n)) now n next t le
-  where
-    by_test : (v : Bool) (now n next t : ℕ) → t ≤ next → (if v then now + n else t) ≤ max next (now + n)
-    by_test true now n next t le = omega arith
-    by_test false now n next t le = omega arith
-
-stall_at : (now n next : ℕ) → now ≤ next → max next (now + n) ≡ (if nat_le now next && nat_lt next (now + n) then now + n else next)
-stall_at now n next le = by_test (nat_le now next) (nat_lt next (now + n)) now n next (le_to now next le) (λ e. lt_from next (now + n) e) (λ e. ge_from next (now + n) e)
-  where
-    le_to : (x y : ℕ) → x ≤ y → nat_le x y ≡ true
-    le_to x y l = grind (arith, nat_tests)
-
-    lt_from : (x y : ℕ) → nat_lt x y ≡ true → x < y
-    lt_from x y e = grind (arith, nat_tests)
-
-    ge_from : (x y : ℕ) → nat_lt x y ≡ false → y ≤ x
-    ge_from x y e = grind (arith, nat_tests)
-
-    by_test : (v w : Bool) (now n next : ℕ) → v ≡ true → (w ≡ true → next < now + n) → (w ≡ false → now + n ≤ next) → max next (now + n) ≡ (if v && w then now + n else next)
-    by_test true true now n next e f g = let l = f refl in omega arith
-    by_test true false now n next e f g = let l = g refl in omega arith
-    by_test false w now n next e f g = cc
-
-stall_over : (now n u : ℕ) → now ≤ u → u < now + n → (if nat_le now u && nat_lt u (now + n) then now + n else u) ≢ u
-stall_over now n u from below = by_test (nat_le now u) (nat_lt u (now + n)) now n u (le_to now u from) (lt_to u (now + n) below) below
-  where
-    le_to : (x y : ℕ) → x ≤ y → nat_le x y ≡ true
-    le_to x y l = grind (arith, nat_tests)
-
-    lt_to : (x y : ℕ) → x < y → nat_lt x y ≡ true
-    lt_to x y l = grind (arith, nat_tests)
-
-    by_test : (v w : Bool) (now n u : ℕ) → v ≡ true → w ≡ true → u < now + n → (if v && w then now + n else u) ≢ u
-    by_test true true now n u e f l = λ s. absurd (omega arith)
-    by_test true false now n u e f l = cc
-    by_test false w now n u e f l = cc
-
-stall_moved : (loaded : Loaded) (nest : Nest) (cost : ℕ) (trace : List Event) (next : ℕ) (c : Brain) (b : Bank) (stack : List Kind) (log : List Turned) (n : ℕ)
-    → Logged loaded nest cost trace next c b stack log → Moved cost trace (event.Stall (tick_at b.time) n) b.time next (max next (b.time + n)) stack log
-stall_moved loaded nest cost trace next c b stack log n l =
-    let e : Event = event.Stall (tick_at b.time) n in
-    let grown : after cost (trace ++ e ∷ []) log ≡ past_stall (after cost trace log) e = after_grows cost trace e log in
-    record {
-      more = omega arith;
-      past = rw grown (stall_after b.time n next (after cost trace log) l.past);
-      ends = All-push (λ x. stall_end x ≤ max next (b.time + n)) trace e (All-later stall_end trace next (max next (b.time + n)) (omega arith) l.stalls) (omega arith);
-      at_next = λ o. (let at = l.at_next o in stall_at b.time n next l.time ∙ ap (λ (t : ℕ). past_stall t e) at ∙ sym grown);
-      put_off = λ u from below past f. elim (by_next u (nat_lt u next) refl) [
-        | inl early ↦ l.put_off u from early (let g = grown in let m = past_later e (after cost trace log) in omega arith) (free_less trace e u f)
-        | inr late ↦ stall_over b.time n u from (omega arith) (sym (free-push trace e u ∙ ap (λ (t : ℕ). past_stall t e) (free_less trace e u f)) ∙ f)
-      ];
-    }
-  where
-    by_next : (u : ℕ) (v : Bool) → nat_lt u next ≡ v → (u < next) ⊎ (next ≤ u)
-    by_next u true e = inl (lt_from u next e)
-      where
-        lt_from : (x y : ℕ) → nat_lt x y ≡ true → x < y
-        lt_from x y e = grind (arith, nat_tests)
-    by_next u false e = inr (ge_from u next e)
-      where
-        ge_from : (x y : ℕ) → nat_lt x y ≡ false → y ≤ x
-        ge_from x y e = grind (arith, nat_tests)
-
-pub stall_logged : (loaded : Loaded) (nest : Nest) (cost : ℕ) (trace : List Event) (next : ℕ) (c : Brain) (b : Bank) (stack : List Kind) (log : List Turned) (n : ℕ)
-    → Below b.time log → Logged loaded nest cost trace next c b stack log
-    → Logged loaded nest cost (trace ++ event.Stall (tick_at b.time) n ∷ []) (max next (b.time + n)) c b stack log
-stall_logged loaded nest cost trace next c b stack log n below l =
-    event_logged loaded nest cost trace (event.Stall (tick_at b.time) n) next (max next (b.time + n)) c b b stack log refl below l
-    (stall_moved loaded nest cost trace next c b stack log n l) (record { time = refl; masked = refl })
-    (plain_ties loaded trace (event.Stall (tick_at b.time) n) c b log (line-push trace (event.Stall (tick_at b.time) n)) (omega arith) l.ties)
 
 -- ---- what it says of the journal
 

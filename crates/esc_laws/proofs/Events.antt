@@ -1,10 +1,13 @@
 -- The log stands as it is while time goes on, and as the trace grows.
-use Rattle.std.proofs.Common.{◌≡◌, ◌≢◌, ◌≤◌, ◌<◌, ◌/◌, ℕ, Bool, true, false, not, ◌&&◌, nat_lt, List, [], ◌∷◌, ◌++◌, refl, sym, ◌∙◌, arith, All, ◌⊎◌, inl, inr}
-use Rattle.std.proofs.lemmas.Bool.Decides.{nat_tests}
+use Rattle.std.proofs.Common.{◌≡◌, ◌≢◌, ◌≤◌, ◌<◌, ◌/◌, ℕ, Bool, true, false, not, ◌&&◌, if◌then◌else◌, List, [], ◌∷◌, ◌++◌, refl, sym, ◌∙◌, ap, arith, inl, inr}
+use Rattle.std.proofs.lemmas.Bool.{cases_lt}
+use Rattle.std.proofs.lemmas.List.Elements.{All-push}
 use Rattle.esc_base.specs.declared.kind.Kind.{Kind}
 use Rattle.esc_base.specs.declared.event.Event.{Event}
+use Rattle.esc_base.specs.declared.event.Event.TheVariants as event
 use Rattle.esc_base.specs.Journal.{time_of}
-use Rattle.esc_base.specs.Trace.{line, tick_of}
+use Rattle.esc_base.specs.Trace.{line, tick_of, differ}
+use Rattle.edge_capture.specs.Window.{after_edge}
 use Rattle.settings_block.specs.declared.stored.Loaded.{Loaded}
 use Rattle.timer_regs.specs.Bank.{Bank}
 use Rattle.timer_regs.specs.Effects.{advanced}
@@ -15,16 +18,18 @@ use Rattle.interrupt_machine.proofs.Waiting.{grow_patient, same_patient}
 use Rattle.esc_core.specs.declared.state.TickAt.{TickAt}
 use Rattle.esc_core.specs.declared.state.TickAt.TheVariants as tick
 use Rattle.esc_core.specs.Brain.{Brain}
+use Rattle.esc_core.specs.Cap.{tick_at}
 use Rattle.esc_laws.specs.Place.{place}
 use Rattle.esc_laws.specs.Seen.{sees}
-use Rattle.esc_laws.specs.Steps.{Turned, journal, free, after, steps_since, entered_at, called, Awaits, Below}
+use Rattle.esc_laws.specs.Steps.{Turned, journal, past_stall, free, after, steps_since, entered_at, called, Awaits, Below}
 use Rattle.esc_laws.specs.Tied.{Keeps, cap_view, TickTied}
-use Rattle.esc_laws.specs.Logged.{Marks, Ties, stall_end, Logged}
+use Rattle.esc_laws.specs.Logged.{after_event, Marks, Ties, stall_end, Logged}
 use Rattle.esc_laws.proofs.Pushes.{All-later}
-use Rattle.esc_laws.proofs.Stalls.{past_later, after_grows, uses_before, reached_grows, free_less}
+use Rattle.esc_laws.proofs.Stalls.{past_later, past_more, past_ends, after_grows, uses_before, reached_grows, free_less, none_free}
 use Rattle.esc_laws.proofs.Growth.{sees_before, sees_still, sees_later, windowed_grows}
 use Rattle.esc_laws.proofs.StepGrowth.{count_before, fits_grow}
 use Rattle.esc_laws.proofs.Dues.{signal_follows, time_follows}
+use Rattle.esc_laws.proofs.Lines.{event_ties}
 
 -- ---- time goes on
 
@@ -76,10 +81,20 @@ patient_later loaded nest trace c b stack log u le p =
 
 -- ---- one event more, at now
 
--- what an event leaves of the registers
-pub record SameRegs (b b' : Bank) : Type 0 where
-  pub time : b'.time ≡ b.time
-  pub masked : b'.masked ≡ b.masked
+-- what it leaves of the registers
+record SameRegs (b b' : Bank) : Type 0 where
+  time : b'.time ≡ b.time
+  masked : b'.masked ≡ b.masked
+
+same_regs : (b : Bank) (e : Event) → SameRegs b (after_event b e)
+same_regs b (event.Edge at level) = by_test (differ b.level level) (record b { level = level; window = after_edge b.window (record { t = tick_at b.time; level = level }) }) (record { time = refl; masked = refl })
+  where
+    by_test : (v : Bool) (b' : Bank) → SameRegs b b' → SameRegs b (if v then b' else b)
+    by_test true b' s = s
+    by_test false b' s = record { time = refl; masked = refl }
+same_regs b (event.Comp at level) = record { time = refl; masked = refl }
+same_regs b (event.Serial at byte) = record { time = refl; masked = refl }
+same_regs b (event.Stall at n) = record { time = refl; masked = refl }
 
 patient_grows : (loaded : Loaded) (nest : Nest) (trace : List Event) (e : Event) (c : Brain) (b : Bank) (stack : List Kind) (log : List Turned) → b.time ≡ tick_of e → Below (tick_of e) log
     → Patient nest c.hold b.masked stack (sees trace (journal loaded log) b.time) (called loaded nest trace log)
@@ -109,57 +124,48 @@ keeps_same c b b' stack s k = record {
   built = k.built;
 }
 
--- the tick of the next step after the event
-pub record Moved (cost : ℕ) (trace : List Event) (e : Event) (now next next' : ℕ) (stack : List Kind) (log : List Turned) : Type 0 where
-  pub more : next ≤ next'
-  pub past : after cost (trace ++ e ∷ []) log ≤ next'
-  pub ends : All (λ x. stall_end x ≤ next') (trace ++ e ∷ [])
-  pub at_next : stack ≢ [] → next' ≡ after cost (trace ++ e ∷ []) log
-  pub put_off : (u : ℕ) → now ≤ u → u < next' → after cost (trace ++ e ∷ []) log ≤ u → free (trace ++ e ∷ []) u ≢ u
+module _ (loaded : Loaded) (nest : Nest) (cost : ℕ) (trace : List Event) (e : Event) (next : ℕ) (c : Brain) (b : Bank) (stack : List Kind) (log : List Turned) (at : tick_of e ≡ b.time) (below : Below b.time log) (l : Logged loaded nest cost trace next c b stack log) where
+  next_is : stack ≢ [] → past_stall next e ≡ after cost (trace ++ e ∷ []) log
+  next_is o = ap (λ (t : ℕ). past_stall t e) (l.at_next o) ∙ sym (after_grows cost trace e log)
 
-awaits_grow : (loaded : Loaded) (nest : Nest) (cost : ℕ) (trace : List Event) (e : Event) (next next' : ℕ) (c : Brain) (b : Bank) (stack : List Kind) (log : List Turned) → b.time ≡ tick_of e → Logged loaded nest cost trace next c b stack log
-    → Moved cost trace e b.time next next' stack log → Awaits loaded cost (trace ++ e ∷ []) next' log
-awaits_grow loaded nest cost trace e next next' c b stack log at l m = record {
-  open_step = λ o. (let n = m.at_next (λ s. o (sym l.marks.stack_is ∙ s)) in omega arith);
-  idle = λ o u from below f k. elim (by_order u) [
-    | inl early ↦ (
-        let a : after cost trace log ≤ u = (let g = after_grows cost trace e log in let p = past_later e (after cost trace log) in omega arith) in
-        let soon : u < next = (let t = l.time in omega arith) in
-        sees_before trace e (journal loaded log) u k (omega arith) ∙ l.awaits.idle o u a soon (free_less trace e u f) k)
-    | inr late ↦ absurd (m.put_off u late below from f)
-  ];
-}
-  where
-    by_order : (u : ℕ) → (u < b.time) ⊎ (b.time ≤ u)
-    by_order u = by_test (nat_lt u b.time) refl
-      where
-        lt_from : (x y : ℕ) → nat_lt x y ≡ true → x < y
-        lt_from x y e = grind (arith, nat_tests)
+  after_past : (u : ℕ) → after cost (trace ++ e ∷ []) log ≤ u → after cost trace log ≤ u
+  after_past u le = let g = after_grows cost trace e log in let p = past_later e (after cost trace log) in omega arith
 
-        ge_from : (x y : ℕ) → nat_lt x y ≡ false → y ≤ x
-        ge_from x y e = grind (arith, nat_tests)
+  none_now : (u : ℕ) → b.time ≤ u → u < past_stall next e → after cost (trace ++ e ∷ []) log ≤ u → free (trace ++ e ∷ []) u ≢ u
+  none_now u from soon past f = elim (cases_lt u next) [
+    | inl early ↦ l.put_off u from early (after_past u past) (free_less trace e u f)
+    | inr late ↦ none_free trace e next u late soon f
+  ]
 
-        by_test : (v : Bool) → nat_lt u b.time ≡ v → (u < b.time) ⊎ (b.time ≤ u)
-        by_test true e = inl (lt_from u b.time e)
-        by_test false e = inr (ge_from u b.time e)
+  awaits_grow : Awaits loaded cost (trace ++ e ∷ []) (past_stall next e) log
+  awaits_grow = record {
+    open_step = λ o. (let n = next_is (λ s. o (sym l.marks.stack_is ∙ s)) in omega arith);
+    idle = λ o u from soon f k. elim (cases_lt u b.time) [
+      | inl early ↦ sees_before trace e (journal loaded log) u k (omega arith) ∙ l.awaits.idle o u (after_past u from) (let t = l.time in omega arith) (free_less trace e u f) k
+      | inr late ↦ absurd (none_now u late soon from f)
+    ];
+  }
 
-pub event_logged : (loaded : Loaded) (nest : Nest) (cost : ℕ) (trace : List Event) (e : Event) (next next' : ℕ) (c : Brain) (b b' : Bank) (stack : List Kind) (log : List Turned) → b.time ≡ tick_of e → Below (tick_of e) log
-    → Logged loaded nest cost trace next c b stack log → Moved cost trace e b.time next next' stack log → SameRegs b b' → Ties loaded (trace ++ e ∷ []) c b' log
-    → Logged loaded nest cost (trace ++ e ∷ []) next' c b' stack log
-event_logged loaded nest cost trace e next next' c b b' stack log at below l m same ties = record {
-  keeps = keeps_same c b b' stack same l.keeps;
-  sorted = l.sorted;
-  marks = marks_grow loaded nest trace e c b b' stack log at same l.marks;
-  ties = ties;
-  patient = rw (same.masked, same.time) (patient_grows loaded nest trace e c b stack log at below l.patient);
-  owes = l.owes;
-  reached = λ k o. reached_grows cost trace e log (steps_since k log) (entered_at k log) (l.reached k o) (l.reached_by k o (tick_of e) below);
-  reached_by = λ k o t b. rw (uses_before cost trace e (steps_since k log) (entered_at k log) (l.reached_by k o (tick_of e) below)) (l.reached_by k o t b);
-  fits = fits_grow loaded nest cost trace e log below l.fits;
-  past = m.past;
-  awaits = awaits_grow loaded nest cost trace e next next' c b stack log at l m;
-  time = (let t = l.time in let s = same.time in let n = m.more in omega arith);
-  put_off = λ u from. m.put_off u (let s = same.time in omega arith);
-  stalls = m.ends;
-  at_next = m.at_next;
-}
+  -- the next step is put off where the event is a stall
+  pub event_logged : Logged loaded nest cost (trace ++ e ∷ []) (past_stall next e) c (after_event b e) stack log
+  event_logged =
+      let same : SameRegs b (after_event b e) = same_regs b e in
+      let before : Below (tick_of e) log = rw at below in
+      let later : next ≤ past_stall next e = past_later e next in
+      record {
+        keeps = keeps_same c b (after_event b e) stack same l.keeps;
+        sorted = l.sorted;
+        marks = marks_grow loaded nest trace e c b (after_event b e) stack log (sym at) same l.marks;
+        ties = event_ties loaded trace e c b log at l.ties;
+        patient = rw (same.masked, same.time) (patient_grows loaded nest trace e c b stack log (sym at) before l.patient);
+        owes = l.owes;
+        reached = λ k o. reached_grows cost trace e log (steps_since k log) (entered_at k log) (l.reached k o) (l.reached_by k o (tick_of e) before);
+        reached_by = λ k o t b. rw (uses_before cost trace e (steps_since k log) (entered_at k log) (l.reached_by k o (tick_of e) before)) (l.reached_by k o t b);
+        fits = fits_grow loaded nest cost trace e log before l.fits;
+        past = rw (after_grows cost trace e log) (past_more e (after cost trace log) next l.past);
+        awaits = awaits_grow;
+        time = (let t = l.time in let s = same.time in omega arith);
+        put_off = λ u from. none_now u (let s = same.time in omega arith);
+        stalls = All-push (λ x. stall_end x ≤ past_stall next e) trace e (All-later stall_end trace next (past_stall next e) later l.stalls) (past_ends e next (let t = l.time in omega arith));
+        at_next = next_is;
+      }

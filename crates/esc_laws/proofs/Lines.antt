@@ -23,7 +23,7 @@ use Rattle.esc_core.specs.Cap.{tick_at}
 use Rattle.esc_laws.specs.Place.{Place, place}
 use Rattle.esc_laws.specs.Steps.{Turned, journal}
 use Rattle.esc_laws.specs.Tied.{CapView, cap_view, Hears, WindowSound}
-use Rattle.esc_laws.specs.Logged.{Ties}
+use Rattle.esc_laws.specs.Logged.{Ties, after_event}
 use Rattle.esc_laws.proofs.CapTies.{closing_closed}
 use Rattle.esc_laws.proofs.Dues.{Follows, signal_follows}
 use Rattle.esc_laws.proofs.Facts.{both}
@@ -47,7 +47,7 @@ plain_follows trace e c b p same le = record {
   closes = λ w m at h l. close_grows trace e w at (mode_of m) h (omega arith);
 }
 
-pub plain_ties : (loaded : Loaded) (trace : List Event) (e : Event) (c : Brain) (b : Bank) (log : List Turned) → line (trace ++ e ∷ []) ≡ line trace → b.time ≤ tick_of e → Ties loaded trace c b log → Ties loaded (trace ++ e ∷ []) c b log
+plain_ties : (loaded : Loaded) (trace : List Event) (e : Event) (c : Brain) (b : Bank) (log : List Turned) → line (trace ++ e ∷ []) ≡ line trace → b.time ≤ tick_of e → Ties loaded trace c b log → Ties loaded (trace ++ e ∷ []) c b log
 plain_ties loaded trace e c b log same le t = record {
   signal = signal_follows (place (journal loaded log)).signal c.cap_at (cap_view trace c b (place (journal loaded log))) (cap_view (trace ++ e ∷ []) c b (place (journal loaded log)))
       (plain_follows trace e c b (place (journal loaded log)) same le) t.signal;
@@ -249,5 +249,11 @@ edge_ties loaded false trace c b log level d t =
     let same : line (trace ++ e ∷ []) ≡ line trace = new ∙ ap (λ (l : Bool). record { level = l; edges = (line trace).edges }) (sym (same_level (line trace).level level d')) in
     plain_ties loaded trace e c b log same (omega arith) t
 
-pub line_ties : (loaded : Loaded) (trace : List Event) (c : Brain) (b : Bank) (log : List Turned) (level : Bool) → Ties loaded trace c b log → Ties loaded (trace ++ event.Edge (tick_at b.time) level ∷ []) c (after_line b level) log
-line_ties loaded trace c b log level t = edge_ties loaded (differ b.level level) trace c b log level refl t
+-- ---- the ties after any event
+
+pub event_ties : (loaded : Loaded) (trace : List Event) (e : Event) (c : Brain) (b : Bank) (log : List Turned) → tick_of e ≡ b.time → Ties loaded trace c b log → Ties loaded (trace ++ e ∷ []) c (after_event b e) log
+event_ties loaded trace (event.Edge at level) c b log is t =
+    subst (λ (n : ℕ). Ties loaded (trace ++ event.Edge (tick_at n) level ∷ []) c (after_line b level) log) (sym is) (edge_ties loaded (differ b.level level) trace c b log level refl t)
+event_ties loaded trace (event.Comp at level) c b log is t = plain_ties loaded trace (event.Comp at level) c b log (line-push trace (event.Comp at level)) (omega arith) t
+event_ties loaded trace (event.Serial at byte) c b log is t = plain_ties loaded trace (event.Serial at byte) c b log (line-push trace (event.Serial at byte)) (omega arith) t
+event_ties loaded trace (event.Stall at n) c b log is t = plain_ties loaded trace (event.Stall at n) c b log (line-push trace (event.Stall at n)) (omega arith) t

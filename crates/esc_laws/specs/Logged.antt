@@ -10,7 +10,7 @@ use Rattle.esc_base.specs.Journal.{Journal, time_of}
 use Rattle.esc_base.specs.Trace.{line}
 use Rattle.settings_block.specs.declared.stored.Loaded.{Loaded}
 use Rattle.timer_regs.specs.Bank.{Bank}
-use Rattle.timer_regs.specs.Effects.{reset, written}
+use Rattle.timer_regs.specs.Effects.{after_line, reset, written}
 use Rattle.timer_regs.specs.declared.regs.Reg.TheVariants as reg
 use Rattle.interrupt_machine.specs.declared.nest.Nest.{Nest}
 use Rattle.interrupt_machine.specs.Did.{most}
@@ -31,6 +31,13 @@ use Rattle.esc_laws.specs.Tied.{Keeps, SignalTied, cap_view, WindowSound, TickTi
 -- the registers at the start of a run: the first window is open in mode 0
 abbrev pub first_bank : Bank
 first_bank = written reset reg.CapArm 0
+
+-- what an event at now leaves of the registers: an edge of the signal line changes them, others nothing
+abbrev pub after_event : Bank → Event → Bank
+after_event b (event.Edge at level) = after_line b level
+after_event b (event.Comp at level) = b
+after_event b (event.Serial at byte) = b
+after_event b (event.Stall at n) = b
 
 -- the journal keeps its laws, and is no later than now
 pub record Marks (loaded : Loaded) (nest : Nest) (trace : List Event) (c : Brain) (b : Bank) (stack : List Kind) (log : List Turned) : Type 0 where
