@@ -1,6 +1,6 @@
 -- What carries `Logged` on: a step, time, an idle jump, an event, a stall; and what it says of the journal.
-use Rattle.std.proofs.Common.{◌≡◌, ◌<◌, ◌≤◌, ◌+◌, ℕ, Bool, true, false, not, ◌&&◌, nat_lt, List, [], ◌∷◌, ◌++◌, Option, Some, None, is_none, refl, sym, ◌∙◌, ap, subst, arith, ◌⊎◌, inl, inr, append_assoc, append-nil, reverse}
-use Rattle.std.proofs.lemmas.Bool.Decides.{nat_tests}
+use Rattle.std.proofs.Common.{◌≡◌, ◌<◌, ◌≤◌, ◌+◌, ℕ, Bool, true, false, not, ◌&&◌, List, [], ◌∷◌, ◌++◌, Option, Some, None, is_none, refl, sym, ◌∙◌, ap, subst, arith, inl, inr, append_assoc, append-nil, reverse}
+use Rattle.std.proofs.lemmas.Bool.{cases_lt}
 use Rattle.esc_base.specs.declared.kind.Kind.{Kind}
 use Rattle.esc_base.specs.declared.kind.Kind.TheVariants as kind
 use Rattle.esc_base.specs.declared.event.Event.{Event}
@@ -123,20 +123,10 @@ none_seen : (loaded : Loaded) (nest : Nest) (trace : List Event) (c : Brain) (b 
 none_seen loaded nest trace c b log due t u k keeps m ties none is le from below small = by_seen (sees trace (journal loaded log) u k) refl
   where
     shut_now : due_now c.orders.save (advanced b u) k ≡ false
-    shut_now = elim (same_or_later (nat_lt b.time u) refl) [
-      | inl same ↦ rw (sym same) (highest_none (due_now c.orders.save b) k none)
-      | inr later ↦ due_by_regs c.orders.save b u k (highest_none (due_now c.orders.save b) k none) (λ e. stays_shut (is_due b k) (is_due (advanced b u) k) e (none_before due b k t u is le later below))
+    shut_now = elim (cases_lt b.time u) [
+      | inl later ↦ due_by_regs c.orders.save b u k (highest_none (due_now c.orders.save b) k none) (λ e. stays_shut (is_due b k) (is_due (advanced b u) k) e (none_before due b k t u is le later below))
+      | inr not_later ↦ (let same : b.time ≡ u = omega arith in rw (sym same) (highest_none (due_now c.orders.save b) k none))
     ]
-      where
-        same_or_later : (v : Bool) → nat_lt b.time u ≡ v → (b.time ≡ u) ⊎ (b.time < u)
-        same_or_later true e = inr (lt_from b.time u e)
-          where
-            lt_from : (x y : ℕ) → nat_lt x y ≡ true → x < y
-            lt_from x y e = grind (arith, nat_tests)
-        same_or_later false e = inl (let g = ge_from b.time u e in omega arith)
-          where
-            ge_from : (x y : ℕ) → nat_lt x y ≡ false → y ≤ x
-            ge_from x y e = grind (arith, nat_tests)
 
     by_seen : (v : Bool) → sees trace (journal loaded log) u k ≡ v → sees trace (journal loaded log) u k ≡ false
     by_seen true e =
@@ -166,7 +156,7 @@ jump_logged loaded nest cost trace c b stack log due t idle is later small le l 
       past = (let p = l.past in omega arith);
       awaits = record {
         open_step = λ o. absurd (o open_none);
-        idle = λ o u from below f k. elim (before_or_from u (nat_lt u b.time) refl) [
+        idle = λ o u from below f k. elim (cases_lt u b.time) [
           | inl early ↦ l.awaits.idle o u from early f k
           | inr on ↦ none_seen loaded nest trace c b log due t u k keeps marks l.ties rest.1 is le on below small
         ];
@@ -176,16 +166,6 @@ jump_logged loaded nest cost trace c b stack log due t idle is later small le l 
       stalls = All-later stall_end trace b.time t later l.stalls;
       at_next = λ o. absurd (o rest.0);
     }
-  where
-    before_or_from : (u : ℕ) (v : Bool) → nat_lt u b.time ≡ v → (u < b.time) ⊎ (b.time ≤ u)
-    before_or_from u true e = inl (lt_from u b.time e)
-      where
-        lt_from : (x y : ℕ) → nat_lt x y ≡ true → x < y
-        lt_from x y e = grind (arith, nat_tests)
-    before_or_from u false e = inr (ge_from u b.time e)
-      where
-        ge_from : (x y : ℕ) → nat_lt x y ≡ false → y ≤ x
-        ge_from x y e = grind (arith, nat_tests)
 
 -- ---- what it says of the journal
 

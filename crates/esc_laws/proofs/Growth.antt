@@ -1,5 +1,6 @@
 -- Later events change nothing of what the notes and the steps before them said.
 use Rattle.std.proofs.Common.{◌≡◌, ◌≤◌, ◌<◌, ◌+◌, ℕ, Bool, true, false, not, ◌&&◌, ◌==◌, nat_le, nat_lt, if◌then◌else◌, List, [], ◌∷◌, ◌++◌, length, Some, None, refl, sym, ◌∙◌, ap, arith, All, ◌-◌, ◌/◌, max, reverse, length-append}
+use Rattle.std.proofs.lemmas.Bool.{not-true, and_parts}
 use Rattle.std.proofs.lemmas.List.Elements.{All-head, All-tail}
 use Rattle.std.proofs.lemmas.List.{get_or_push}
 use Rattle.std.proofs.lemmas.Bool.Decides.{nat_tests}
@@ -96,21 +97,20 @@ contra : (a b : Bool) → (a ≡ true → b ≡ true) → b ≡ false → a ≡ 
 contra true b f e = let g = f refl in (let z = sym g ∙ e in cc)
 contra false b f e = refl
 
-not_closed : (a c b : Bool) → (a && not c && b) ≡ true → c ≡ false
-not_closed true true true e = cc
-not_closed true true false e = cc
-not_closed true false b e = refl
-not_closed false c b e = cc
+pub heard_open : (m : Mode) (w : ℕ) (edges : List Edge) (x : Edge) → hears m w edges x ≡ true → is_closed m edges x.t.0 ≡ false
+heard_open m w edges x h =
+    let not_yet = and_parts (nat_lt w x.t.0 && not (is_closed m edges x.t.0)) _ h in
+    not-true (is_closed m edges x.t.0) (and_parts (nat_lt w x.t.0) (not (is_closed m edges x.t.0)) not_yet.0).1
 
 heard_before : (v : Bool) (m : Mode) (w : ℕ) (heard : List Edge) (x : Edge) (t : ℕ) → hears m w heard x ≡ v → t < x.t.0 → is_closed m (if v then heard ++ x ∷ [] else heard) t ≡ is_closed m heard t
 heard_before true m w heard x t h lt =
-    let shut : is_closed m heard x.t.0 ≡ false = not_closed (nat_lt w x.t.0) (is_closed m heard x.t.0) _ h in
+    let shut : is_closed m heard x.t.0 ≡ false = heard_open m w heard x h in
     open_before m heard x t lt ∙ sym (contra (is_closed m heard t) (is_closed m heard x.t.0) (closed_later m heard t x.t.0 (omega arith)) shut)
 heard_before false m w heard x t h lt = refl
 
 heard_at : (v : Bool) (m : Mode) (w : ℕ) (heard : List Edge) (x : Edge) (t : ℕ) → hears m w heard x ≡ v → t ≤ x.t.0 → is_closed m heard t ≡ true → is_closed m (if v then heard ++ x ∷ [] else heard) t ≡ true
 heard_at true m w heard x t h le c =
-    let shut : is_closed m heard x.t.0 ≡ false = not_closed (nat_lt w x.t.0) (is_closed m heard x.t.0) _ h in
+    let shut : is_closed m heard x.t.0 ≡ false = heard_open m w heard x h in
     let open_too = closed_later m heard t x.t.0 le c in (let z = sym open_too ∙ shut in cc)
 heard_at false m w heard x t h le c = c
 

@@ -1,5 +1,6 @@
 -- What holds between any two steps holds after a step of the innermost handler, and so do the ties.
 use Rattle.std.proofs.Common.{◌≡◌, ◌≢◌, ◌≤◌, ◌<◌, ◌+◌, ◌-◌, ℕ, Bool, true, false, ◌||◌, ◌==◌, nat_lt, if◌then◌else◌, List, ◌∷◌, ◌++◌, Some, refl, sym, ◌∙◌, ap, subst, arith, lit≤, inl, inr}
+use Rattle.std.proofs.lemmas.Bool.{or_right}
 use Rattle.std.proofs.lemmas.Bool.Decides.{nat_tests}
 use Rattle.esc_base.specs.declared.kind.Kind.{Kind}
 use Rattle.esc_base.specs.declared.kind.Kind.TheVariants as kind
@@ -30,7 +31,6 @@ use Rattle.esc_core.proofs.Bounds.{CapMoves, cap_moves, MainMoves, main_moves, B
 use Rattle.esc_laws.specs.Place.{place}
 use Rattle.esc_laws.specs.Steps.{opening}
 use Rattle.esc_laws.specs.Tied.{Keeps, SignalTied, cap_view, TickTied, MainTied, IsBuilt}
-use Rattle.esc_laws.proofs.Facts.{or_right}
 use Rattle.esc_laws.proofs.OwnSteps.{OwnIn, OwnOut, StepOut, cap_out}
 use Rattle.esc_laws.proofs.TickSteps.{tick_out}
 use Rattle.esc_laws.proofs.MainSteps.{main_out}

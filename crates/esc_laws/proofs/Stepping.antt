@@ -1,6 +1,6 @@
 -- An entry and an own step carry the log on.
-use Rattle.std.proofs.Common.{◌≡◌, nat_lt, ◌≢◌, ◌≤◌, ◌<◌, ◌+◌, ◌/◌, ℕ, Bool, true, false, not, ◌||◌, ◌==◌, if◌then◌else◌, List, [], ◌∷◌, ◌++◌, reverse, Some, None, refl, sym, ◌∙◌, subst, arith, All, ◌⊎◌, inl, inr}
-use Rattle.std.proofs.lemmas.Bool.Decides.{nat_tests}
+use Rattle.std.proofs.Common.{◌≡◌, ◌≢◌, ◌≤◌, ◌<◌, ◌+◌, ◌/◌, ℕ, Bool, true, false, not, ◌||◌, ◌==◌, if◌then◌else◌, List, [], ◌∷◌, ◌++◌, reverse, Some, None, refl, sym, ◌∙◌, subst, arith, All, ◌⊎◌, inl, inr}
+use Rattle.std.proofs.lemmas.Bool.{not-true, ltb-true, and_parts, or_right}
 use Rattle.std.proofs.lemmas.List.Elements.{All-nil, All-cons, All-weaker}
 use Rattle.esc_base.specs.declared.kind.Kind.{Kind}
 use Rattle.esc_base.specs.declared.kind.Kind.TheVariants as kind
@@ -34,7 +34,7 @@ use Rattle.esc_laws.specs.Steps.{Turned, notes_in, journal, after, uses, is_of, 
 use Rattle.esc_laws.specs.Tied.{Keeps, SignalTied, cap_view, IsBuilt}
 use Rattle.esc_laws.specs.Logged.{Marks, Ties, Logged}
 use Rattle.esc_laws.proofs.Pushes.{own-push, since-push}
-use Rattle.esc_laws.proofs.Facts.{both, same_gates, due_built, tick_due, cap_shut, or_right}
+use Rattle.esc_laws.proofs.Facts.{same_gates, due_built, tick_due, cap_shut}
 use Rattle.esc_laws.proofs.Dues.{cap_called}
 use Rattle.esc_laws.proofs.Entries.{enters, entry_same, entered_others, entry_out, keeps_entry}
 use Rattle.esc_laws.proofs.OwnTurns.{IsOwn, steady, step_notes, step_own, open_left}
@@ -44,17 +44,10 @@ use Rattle.esc_laws.proofs.Turns.{of_self, of_other, some_open, reached_on, reac
 
 -- ---- what is seen due, and isn't open, is due
 
-not_false : (a : Bool) → not a ≡ true → a ≡ false
-not_false true e = cc
-not_false false e = refl
-
-less_from : (m n : ℕ) → nat_lt m n ≡ true → m < n
-less_from m n e = grind (arith, nat_tests)
-
 waits_due : (loaded : Loaded) (nest : Nest) (trace : List Event) (c : Brain) (b : Bank) (stack : List Kind) (log : List Turned) → Keeps c b stack → Marks loaded nest trace c b stack log → Ties loaded trace c b log
     → (k : Kind) → sees trace (journal loaded log) b.time k ≡ true → is_open stack k ≡ false → due_now c.orders.save b k ≡ true
 waits_due loaded nest trace c b stack log keeps m t kind.Tick s f =
-    tick_due c.orders.save b (rw (t.number, m.control.ties.number_is) (less_from (number_at (reverse (journal loaded log))) (b.time / 2400) s))
+    tick_due c.orders.save b (rw (t.number, m.control.ties.number_is) (ltb-true (number_at (reverse (journal loaded log))) (b.time / 2400) s))
 waits_due loaded nest trace c b stack log keeps m t kind.Cap s f =
     cap_called c.orders.save (place (journal loaded log)).signal trace c b (place (journal loaded log))
     (subst (λ (at : CapAt). SignalTied (place (journal loaded log)).signal at (cap_view trace c b (place (journal loaded log)))) (cap_shut c.cap_at (keeps.shut kind.Cap f)) t.signal) s
@@ -67,8 +60,8 @@ waits_due loaded nest trace c b stack log keeps m t kind.Comm s f = cc
 pub sees_due : (loaded : Loaded) (nest : Nest) (trace : List Event) (c : Brain) (b : Bank) (stack : List Kind) (log : List Turned) → Keeps c b stack → Marks loaded nest trace c b stack log → Ties loaded trace c b log
     → (k : Kind) → is_waiting (sees trace (journal loaded log) b.time) stack k ≡ true → due_now c.orders.save b k ≡ true
 sees_due loaded nest trace c b stack log keeps m t k e =
-    let parts = both (sees trace (journal loaded log) b.time k) (not (is_open stack k)) e in
-    waits_due loaded nest trace c b stack log keeps m t k parts.0 (not_false (is_open stack k) parts.1)
+    let parts = and_parts (sees trace (journal loaded log) b.time k) (not (is_open stack k)) e in
+    waits_due loaded nest trace c b stack log keeps m t k parts.0 (not-true (is_open stack k) parts.1)
 
 -- ---- an entry
 

@@ -1,7 +1,7 @@
 -- What an own step of TICK keeps.
 use Rattle.std.proofs.Common.{◌≡◌, ◌≢◌, ◌<◌, ◌+◌, ◌/◌, ℕ, Bool, true, false, nat_lt, if◌then◌else◌, List, [], ◌∷◌, ◌++◌, reverse, Option, Some, None, refl, sym, ◌∙◌, ap, subst, arith, append_assoc}
+use Rattle.std.proofs.lemmas.Bool.{lt-ltb}
 use Rattle.std.specs.List.{fold}
-use Rattle.std.proofs.lemmas.Bool.Decides.{nat_tests}
 use Rattle.esc_base.specs.declared.kind.Kind.TheVariants as kind
 use Rattle.esc_base.specs.declared.event.Event.{Event}
 use Rattle.esc_base.specs.declared.note.Note.{Note}
@@ -139,9 +139,6 @@ pick_then : (P : Stepped → Type 0) (v : Bool) (x y : Stepped) → v ≡ true �
 pick_then P true x y e h = h
 pick_then P false x y e h = cc
 
-less_test : (m n : ℕ) → m < n → nat_lt m n ≡ true
-less_test m n l = grind (arith, nat_tests)
-
 tick_place : (loaded : Loaded) (at : TickAt) (nest : Nest) (trace : List Event) (c : Brain) (b : Bank) (rest : List Note) → at ≢ tick.Back → at ≢ tick.Shut → OwnIn loaded nest trace c b rest
     → TickTied at b.number_read b.time (place (opening loaded ++ rest)).ticks → IsIn kind.Tick (place (opening loaded ++ rest))
     → StepOut loaded nest trace b rest (tick_step at c b) (place (opening loaded ++ rest)).stack
@@ -162,7 +159,7 @@ tick_place loaded tick.Raise nest trace c b rest nb ns i t inside =
 tick_place loaded tick.Read nest trace c b rest nb ns i t inside =
     let less : c.control.number < b.time / 2400 = (let a = i.number in let l : b.number_read < b.time / 2400 = t.0 in omega arith) in
     pick_then (λ (s : Stepped). StepOut loaded nest trace b rest s (place (opening loaded ++ rest)).stack) (nat_lt c.control.number (b.time / 2400)) (asked c b (b.time / 2400))
-    (goes_on (record c { tick_at = tick.Lower }) (Reads reg.TickState)) (less_test c.control.number (b.time / 2400) less)
+    (goes_on (record c { tick_at = tick.Lower }) (Reads reg.TickState)) (lt-ltb c.control.number (b.time / 2400) less)
     (asked_out loaded nest trace c b rest i inside less t.1)
 tick_place loaded tick.Lower nest trace c b rest nb ns i t inside =
     quiet loaded nest trace b rest (record c { tick_at = tick.Back }) (Writes reg.Mask 0) false (record {

@@ -1,6 +1,6 @@
 -- One step more: the log, the journal, the core and the registers after it.
 use Rattle.std.proofs.Common.{◌≡◌, ◌≢◌, ◌≤◌, ◌<◌, ◌+◌, ℕ, Bool, true, false, ◌&&◌, ◌==◌, List, [], ◌∷◌, ◌++◌, Option, Some, refl, sym, ◌∙◌, ap, subst, arith, All}
-use Rattle.std.proofs.lemmas.Bool.Decides.{nat_tests}
+use Rattle.std.proofs.lemmas.Bool.{eq-eqb, ne_eqb}
 use Rattle.std.proofs.lemmas.List.Elements.{All-head, All-tail}
 use Rattle.esc_base.specs.declared.kind.Kind.{Kind}
 use Rattle.esc_base.specs.declared.event.Event.{Event}
@@ -29,16 +29,10 @@ use Rattle.esc_laws.proofs.OwnSteps.{OwnIn, OwnOut}
 -- ---- kinds
 
 pub of_self : (k : Kind) → (kind_number k == kind_number k) ≡ true
-of_self k = same (kind_number k)
-  where
-    same : (n : ℕ) → (n == n) ≡ true
-    same n = grind (arith, nat_tests)
+of_self k = eq-eqb (kind_number k) (kind_number k) refl
 
 pub of_other : (j k : Kind) → j ≢ k → (kind_number j == kind_number k) ≡ false
-of_other j k ne = differ (kind_number j) (kind_number k) (λ e. ne (number_same j k e))
-  where
-    differ : (m n : ℕ) → (m ≡ n → ⊥) → (m == n) ≡ false
-    differ m n ne = grind (arith, nat_tests)
+of_other j k ne = ne_eqb (kind_number j) (kind_number k) (λ e. ne (number_same j k e))
 
 pub some_open : (stack : List Kind) (k : Kind) → is_open stack k ≡ true → stack ≢ []
 some_open [] k o = cc
