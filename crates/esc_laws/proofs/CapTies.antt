@@ -53,7 +53,7 @@ closing_closed v w m i =
     rw (i.hears.armed, i.hears.mode, i.hears.edges) c
 
 -- what the registers show then
-pub shows_edges : (b : Bank) → is_readable b ≡ true → edges_read b ≡ length b.window.edges
+shows_edges : (b : Bank) → is_readable b ≡ true → edges_read b ≡ length b.window.edges
 shows_edges b e = rw e refl
 
 shows_edge_at : (b : Bank) (i : ℕ) → is_readable b ≡ true → i < length b.window.edges → edge_read b i ≡ shown_edge (edge_at b.window.edges i)
@@ -123,7 +123,7 @@ last_of_front edges (suc i) o l =
     pred : (i : ℕ) → suc i - 1 ≡ i
     pred i = omega arith
 
-pub copy_takes : (c : Brain) (b : Bank) (i : ℕ) → c.burst ≡ take i b.window.edges → i < length b.window.edges → length b.window.edges ≤ 32 → IsInOrder b.window.edges
+copy_takes : (c : Brain) (b : Bank) (i : ℕ) → c.burst ≡ take i b.window.edges → i < length b.window.edges → length b.window.edges ≤ 32 → IsInOrder b.window.edges
     → next_edge c b ≡ edge_at b.window.edges i → takes c.burst (next_edge c b) ≡ true
 copy_takes c b i e l few o n =
     let len : length c.burst ≡ i = rw e (length-take-le i b.window.edges (omega arith)) in

@@ -1,7 +1,7 @@
 -- What the notes call for is due by the registers; and what the ties to the newest window become as time goes on or the
 -- trace grows.
-use Rattle.std.proofs.Common.{◌≡◌, ◌≤◌, ◌+◌, ℕ, Bool, true, false, not, ◌==◌, nat_le, max, if◌then◌else◌, List, length, Some, None, refl, sym, ◌∙◌, arith}
-use Rattle.std.proofs.lemmas.Bool.{and_parts, or_left, or_right, leb-true}
+use Rattle.std.proofs.Common.{◌≡◌, ◌≤◌, ◌+◌, ℕ, Bool, true, not, ◌==◌, nat_le, max, List, length, Some, None, refl, sym, ◌∙◌, arith}
+use Rattle.std.proofs.lemmas.Bool.{and_parts, or_left, or_right, leb-true, cond-false, not-true}
 use Rattle.esc_base.specs.declared.kind.Kind.TheVariants as kind
 use Rattle.esc_base.specs.declared.signal.Edge.{Edge}
 use Rattle.esc_base.specs.declared.signal.Mode.{Mode}
@@ -57,11 +57,7 @@ pub record ClosedBy (m : Mode) (heard : List Edge) (t : ℕ) : Type 0 where
 closed_by : (m : Mode) (heard : List Edge) (t : ℕ) → is_closed m heard t ≡ true → ClosedBy m heard t
 closed_by m heard t e =
     let parts = and_parts (not (length heard == 0)) (nat_le (last_at heard + wait m (length heard)) t) e in
-    record { at = last_at heard + wait m (length heard); closes = some_close (length heard == 0) (last_at heard + wait m (length heard)) parts.0; past = leb-true (last_at heard + wait m (length heard)) t parts.1 }
-  where
-    some_close : (v : Bool) (n : ℕ) → not v ≡ true → (if v then None else Some n) ≡ Some n
-    some_close true n e = cc
-    some_close false n e = refl
+    record { at = last_at heard + wait m (length heard); closes = cond-false (length heard == 0) None (Some (last_at heard + wait m (length heard))) (not-true (length heard == 0) parts.0); past = leb-true (last_at heard + wait m (length heard)) t parts.1 }
 
 -- the place after an I of CAP
 abbrev pub cap_place : Place → ℕ → Place

@@ -1,6 +1,6 @@
 -- Small facts of the registers and the core.
-use Rattle.std.proofs.Common.{◌≡◌, ◌≤◌, ◌<◌, ◌+◌, ◌-◌, ◌/◌, ℕ, Bool, true, false, not, ◌&&◌, ◌||◌, ◌==◌, nat_lt, if◌then◌else◌, List, [], ◌∷◌, ◌++◌, Option, Some, None, refl, sym, ◌∙◌, ap, subst, arith}
-use Rattle.std.proofs.lemmas.Bool.{eq-eqb, ne_eqb, not_from_false, le-leb, leb-true, lt-ltb, le-ltb, or_left, or_right}
+use Rattle.std.proofs.Common.{◌≡◌, ◌≤◌, ◌<◌, ◌+◌, ◌-◌, ◌/◌, ℕ, Bool, true, false, not, ◌&&◌, ◌||◌, ◌==◌, nat_lt, if◌then◌else◌, List, [], ◌∷◌, ◌++◌, Option, Some, None, refl, sym, ◌∙◌, ap, subst, arith, ◌≢◌}
+use Rattle.std.proofs.lemmas.Bool.{eq-eqb, ne_eqb, not_from_false, le-leb, leb-true, lt-ltb, le-ltb, or_left, or_right, or_parts, eqb-false}
 use Rattle.std.proofs.lemmas.Bool.Decides.{nat_tests}
 use Rattle.esc_base.specs.declared.kind.Kind.{Kind}
 use Rattle.esc_base.specs.declared.kind.Kind.TheVariants as kind
@@ -9,14 +9,15 @@ use Rattle.esc_base.specs.declared.signal.Mode.{Mode}
 use Rattle.esc_base.specs.declared.signal.Mode.TheVariants as mode
 use Rattle.esc_base.specs.declared.note.Note.{Note}
 use Rattle.esc_base.specs.declared.note.Note.TheVariants as note
-use Rattle.esc_base.specs.Numbers.{mode_number}
+use Rattle.esc_base.specs.Numbers.{kind_number, mode_number}
 use Rattle.timer_regs.specs.Bank.{Bank}
-use Rattle.timer_regs.specs.Effects.{after_read, written, after_entry, is_readable, is_reached, mode_of, shown_edge}
+use Rattle.timer_regs.specs.Effects.{after_read, written, is_readable, is_reached, mode_of, shown_edge}
 use Rattle.timer_regs.specs.declared.regs.Reg.{Reg}
 use Rattle.timer_regs.specs.declared.regs.Reg.TheVariants as reg
 use Rattle.interrupt_machine.specs.declared.firmware.Did.{Did}
 use Rattle.interrupt_machine.specs.Did.{Access, NoAccess, Reads, Writes, accessed, notes_of}
-use Rattle.interrupt_machine.specs.Open.{due_now}
+use Rattle.interrupt_machine.specs.Open.{due_now, is_open}
+use Rattle.interrupt_machine.proofs.OpenKinds.{number_same}
 use Rattle.interrupt_machine.specs.Turn.{gate_note, own_notes, leave_note}
 use Rattle.esc_core.specs.declared.state.CapAt.{CapAt}
 use Rattle.esc_core.specs.declared.state.CapAt.TheVariants as cap
@@ -49,13 +50,6 @@ same_gates b NoAccess = record { hi = refl; lo = refl; time = refl; level = refl
 same_gates b (Reads r) = read_gates b r
 same_gates b (Writes r v) = write_gates b r v
 
-entry_gates : (b : Bank) (k : Kind) → SameGates b (after_entry b k)
-entry_gates b kind.Cap = record { hi = refl; lo = refl; time = refl; level = refl }
-entry_gates b k = record { hi = refl; lo = refl; time = refl; level = refl }
-
-pub entry_time : (b : Bank) (k : Kind) → (after_entry b k).time ≡ b.time
-entry_time b k = (entry_gates b k).time
-
 no_gate : (m n : ℕ) (g : List Note) → (if (m == m) && (n == n) then [] else g) ≡ []
 no_gate m n g = rw (eq-eqb m m refl, eq-eqb n n refl) refl
 
@@ -85,11 +79,42 @@ due_tick w b le d = less (b.time / 2400) b.number_read le d
     less : (n m : ℕ) → m ≤ n → not (n == m) ≡ true → m < n
     less n m le e = grind (arith, nat_tests)
 
+-- ---- open kinds
+
+pub of_self : (k : Kind) → (kind_number k == kind_number k) ≡ true
+of_self k = eq-eqb (kind_number k) (kind_number k) refl
+
+pub of_other : (j k : Kind) → j ≢ k → (kind_number j == kind_number k) ≡ false
+of_other j k ne = ne_eqb (kind_number j) (kind_number k) (λ e. ne (number_same j k e))
+
+pub some_open : (stack : List Kind) (k : Kind) → is_open stack k ≡ true → stack ≢ []
+some_open [] k o = cc
+some_open (x ∷ outer) k o = λ e. cc
+
+pub self_open : (k : Kind) (outer : List Kind) → is_open (k ∷ outer) k ≡ true
+self_open k outer = or_left (kind_number k == kind_number k) (is_open outer k) (of_self k)
+
+-- a kind besides the innermost one is open where it is one of the outer ones
+pub outer_open : (k j : Kind) (outer : List Kind) → j ≢ k → is_open (k ∷ outer) j ≡ is_open outer j
+outer_open k j outer ne = ap (λ (v : Bool). v || is_open outer j) (of_other k j (λ e. ne (sym e)))
+
+pub not_open : (k j : Kind) (outer : List Kind) → is_open (k ∷ outer) j ≡ false → (j ≢ k) × (is_open outer j ≡ false)
+not_open k j outer f =
+    let parts = or_parts (kind_number k == kind_number j) (is_open outer j) f in
+    (λ s. eqb-false (kind_number k) (kind_number j) parts.0 (sym (ap kind_number s)), parts.1)
+
+-- a kind that is open after a step of the innermost one was open before
+pub left_open : (v : Bool) (k j : Kind) (outer : List Kind) → is_open (if v then outer else k ∷ outer) j ≡ true → is_open (k ∷ outer) j ≡ true
+left_open true k j outer o = or_right (kind_number k == kind_number j) (is_open outer j) o
+left_open false k j outer o = o
+
+-- ---- when CAP is due
+
 -- a closed window that wasn't taken, or a timer that was reached
 pub cap_due_window : (w : Bool) (b : Bank) → is_readable b ≡ true → b.taken ≡ false → due_now w b kind.Cap ≡ true
 cap_due_window w b r n = or_left (is_readable b && not b.taken) (is_reached b.timer b.time) (rw (r, n) refl)
 
-pub reached_some : (o : Option ℕ) (at t : ℕ) → o ≡ Some at → at ≤ t → is_reached o t ≡ true
+reached_some : (o : Option ℕ) (at t : ℕ) → o ≡ Some at → at ≤ t → is_reached o t ≡ true
 reached_some o at t e le = rw e (le-leb at t le)
 
 pub cap_due_timer : (w : Bool) (b : Bank) (at : ℕ) → b.timer ≡ Some at → at ≤ b.time → due_now w b kind.Cap ≡ true

@@ -29,7 +29,8 @@ use Rattle.esc_laws.specs.Tied.{MainTied, IsBuilt}
 use Rattle.esc_laws.specs.Logged.{Logged, CoreTurn}
 use Rattle.esc_laws.proofs.Saves.{is_save, fits_pushes, fits_saved, fits_spoilt}
 use Rattle.esc_laws.proofs.OwnTurns.{IsOwn, steady, own_are, step_notes, step_own}
-use Rattle.esc_laws.proofs.Stepping.{self_open, stepped_by}
+use Rattle.esc_laws.proofs.Facts.{self_open}
+use Rattle.esc_laws.proofs.Stepping.{stepped_by}
 
 -- A step either leaves the flash, and has no P; or its one note is a P, and the flash is as that P says.
 abbrev pub Flashes : Loaded → Told → Told → Told → ℕ → List Note → List Note → Type 0

@@ -1,6 +1,6 @@
 -- What the ties become as the trace grows by an event.
-use Rattle.std.proofs.Common.{◌≡◌, ◌≤◌, ◌<◌, ◌+◌, ◌-◌, ℕ, Bool, true, false, not, ◌&&◌, ◌==◌, nat_le, if◌then◌else◌, List, [], ◌∷◌, ◌++◌, length, refl, sym, ◌∙◌, ap, subst, arith, lit≤, All, inl, inr, length-append}
-use Rattle.std.proofs.lemmas.Bool.{and_parts, and_right, le-leb, leb-true, leb-false, cases_lt}
+use Rattle.std.proofs.Common.{◌≡◌, ◌≤◌, ◌<◌, ◌+◌, ◌-◌, ℕ, Bool, true, false, not, ◌&&◌, ◌==◌, nat_le, if◌then◌else◌, List, [], ◌∷◌, ◌++◌, length, refl, sym, ◌∙◌, ap, subst, arith, lit≤, All, inl, inr, length-append, true≢false}
+use Rattle.std.proofs.lemmas.Bool.{and_parts, and_right, cases_lt}
 use Rattle.std.proofs.lemmas.Bool.Decides.{nat_tests}
 use Rattle.std.proofs.lemmas.List.{get_or_push, get_or_append_left}
 use Rattle.std.proofs.lemmas.List.Elements.{All-push}
@@ -143,30 +143,20 @@ most_some mode.Servo = lit≤ tt
 
 -- a window with the most edges is closed from the last one on
 full_closed : (n most last limit t : ℕ) → 1 ≤ most → most ≤ n → last ≤ t → (not (n == 0) && nat_le (last + (if nat_le most n then 0 else limit)) t) ≡ true
-full_closed n most last limit t some full past = by_full (nat_le most n) n last limit t (le-leb most n full) (omega arith) past
-  where
-    now : (n last t : ℕ) → 1 ≤ n → last ≤ t → (not (n == 0) && nat_le (last + 0) t) ≡ true
-    now n last t some past = grind (arith, nat_tests)
-
-    by_full : (v : Bool) (n last limit t : ℕ) → v ≡ true → 1 ≤ n → last ≤ t → (not (n == 0) && nat_le (last + (if v then 0 else limit)) t) ≡ true
-    by_full true n last limit t e some past = now n last t some past
-    by_full false n last limit t e some past = cc
+full_closed n most last limit t some full past = grind (arith, nat_tests)
 
 last_past : (edges : List Edge) (t : ℕ) → All (λ e. e.t.0 ≤ t) edges → 1 ≤ length edges → last_at edges ≤ t
 last_past edges t past some = past (length edges - 1) blank (omega arith)
 
 still_few : (w : Window) (x : Edge) → WindowSound w x.t.0 → hears w.mode w.opened w.edges x ≡ true → length w.edges + 1 ≤ most w.mode
-still_few w x s h = by_number (nat_le (most w.mode) (length w.edges)) refl
-  where
-    by_number : (v : Bool) → nat_le (most w.mode) (length w.edges) ≡ v → length w.edges + 1 ≤ most w.mode
-    by_number false e = let l = leb-false (most w.mode) (length w.edges) e in omega arith
-    by_number true e =
-        let some = most_some w.mode in
-        let full = leb-true (most w.mode) (length w.edges) e in
-        let past = last_past w.edges x.t.0 s.past (omega arith) in
-        let closed = full_closed (length w.edges) (most w.mode) (last_at w.edges) _ x.t.0 some full past in
-        let opened = heard_open w.mode w.opened w.edges x h in
-        absurd (let z : true ≡ false = sym closed ∙ opened in cc)
+still_few w x s h = elim (cases_lt (length w.edges) (most w.mode)) [
+  | inl few ↦ omega arith
+  | inr full ↦ (
+      let some = most_some w.mode in
+      let past = last_past w.edges x.t.0 s.past (omega arith) in
+      let closed = full_closed (length w.edges) (most w.mode) (last_at w.edges) _ x.t.0 some full past in
+      absurd (true≢false (sym closed ∙ heard_open w.mode w.opened w.edges x h)))
+]
 
 front_edge : (edges : List Edge) (x : Edge) (i : ℕ) → i < length edges → edge_at (edges ++ x ∷ []) i ≡ edge_at edges i
 front_edge edges x i l = get_or_append_left edges (x ∷ []) blank i l

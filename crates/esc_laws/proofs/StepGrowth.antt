@@ -14,7 +14,7 @@ use Rattle.esc_laws.proofs.Growth.{sees_before}
 
 -- ---- counts
 
-pub called_before : (loaded : Loaded) (trace : List Event) (e : Event) (log : List Turned) (t : ℕ) (k : Kind) → t < tick_of e → is_called loaded (trace ++ e ∷ []) log t k ≡ is_called loaded trace log t k
+called_before : (loaded : Loaded) (trace : List Event) (e : Event) (log : List Turned) (t : ℕ) (k : Kind) → t < tick_of e → is_called loaded (trace ++ e ∷ []) log t k ≡ is_called loaded trace log t k
 called_before loaded trace e log t k l = ap (λ (v : Bool). v && not (is_open (open_in loaded log) k)) (sees_before trace e (journal loaded log) t k l)
 
 count_from : (loaded : Loaded) (nest : Nest) (trace : List Event) (e : Event) (k : Kind) (before : List Turned) (n : ℕ) (log : List Turned) → Below (tick_of e) log

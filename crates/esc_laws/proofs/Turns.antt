@@ -1,12 +1,10 @@
 -- One step more: the log, the journal, the core and the registers after it.
-use Rattle.std.proofs.Common.{◌≡◌, ◌≢◌, ◌≤◌, ◌<◌, ◌+◌, ℕ, Bool, true, false, ◌&&◌, ◌==◌, List, [], ◌∷◌, ◌++◌, Option, Some, refl, sym, ◌∙◌, ap, subst, arith, All}
-use Rattle.std.proofs.lemmas.Bool.{eq-eqb, ne_eqb}
+use Rattle.std.proofs.Common.{◌≡◌, ◌≤◌, ◌<◌, ◌+◌, ℕ, Bool, true, false, ◌&&◌, List, [], ◌∷◌, ◌++◌, Option, Some, refl, sym, ◌∙◌, ap, subst, arith, All}
 use Rattle.std.proofs.lemmas.List.Elements.{All-head, All-tail}
 use Rattle.esc_base.specs.declared.kind.Kind.{Kind}
 use Rattle.esc_base.specs.declared.event.Event.{Event}
 use Rattle.esc_base.specs.declared.note.Note.{Note}
 use Rattle.esc_base.specs.Journal.{time_of}
-use Rattle.esc_base.specs.Numbers.{kind_number}
 use Rattle.esc_base.specs.Trace.{line}
 use Rattle.settings_block.specs.declared.stored.Loaded.{Loaded}
 use Rattle.timer_regs.specs.Bank.{Bank}
@@ -14,7 +12,6 @@ use Rattle.interrupt_machine.specs.declared.nest.Nest.{Nest}
 use Rattle.interrupt_machine.specs.Did.{most}
 use Rattle.interrupt_machine.specs.Open.{is_open, IsStack}
 use Rattle.interrupt_machine.specs.Response.{is_waiting, wait_next, Patient}
-use Rattle.interrupt_machine.proofs.OpenKinds.{number_same}
 use Rattle.interrupt_machine.proofs.Waiting.{same_patient, patient_most}
 use Rattle.esc_core.specs.Brain.{Brain}
 use Rattle.esc_core.specs.Firmware.{left_of}
@@ -25,18 +22,6 @@ use Rattle.esc_laws.specs.Logged.{Marks, Ties, stall_end, Logged}
 use Rattle.esc_laws.proofs.Pushes.{All-later, notes-push, after-push, entered-push, since-push, called-push, uses-more, step-push}
 use Rattle.esc_laws.proofs.Stalls.{free_ended}
 use Rattle.esc_laws.proofs.OwnSteps.{OwnIn, OwnOut}
-
--- ---- kinds
-
-pub of_self : (k : Kind) → (kind_number k == kind_number k) ≡ true
-of_self k = eq-eqb (kind_number k) (kind_number k) refl
-
-pub of_other : (j k : Kind) → j ≢ k → (kind_number j == kind_number k) ≡ false
-of_other j k ne = ne_eqb (kind_number j) (kind_number k) (λ e. ne (number_same j k e))
-
-pub some_open : (stack : List Kind) (k : Kind) → is_open stack k ≡ true → stack ≢ []
-some_open [] k o = cc
-some_open (x ∷ outer) k o = λ e. cc
 
 -- ---- counts of an open kind
 
