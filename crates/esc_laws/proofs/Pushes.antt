@@ -1,5 +1,6 @@
 -- One more note, one more step, one more event.
 use Rattle.std.proofs.Common.{◌≡◌, ◌≤◌, ◌+◌, ℕ, List, [], ◌∷◌, ◌++◌, refl, sym, ◌∙◌, ap, subst, append-nil, append_assoc, arith, add-one, All, slice_index_or}
+use Rattle.std.proofs.lemmas.List.Concat.{flat_map-append}
 use Rattle.std.proofs.lemmas.List.Sums.{fold_push}
 use Rattle.esc_base.specs.declared.kind.Kind.{Kind}
 use Rattle.esc_base.specs.declared.event.Event.{Event}
@@ -22,8 +23,7 @@ unfolding free
 free-none t = refl
 
 pub notes-push : (log : List Turned) (e : Turned) → notes_in (log ++ e ∷ []) ≡ notes_in log ++ e.notes
-notes-push [] e = append-nil e.notes
-notes-push (x ∷ log) e = ap (λ (ns : List Note). x.notes ++ ns) (notes-push log e) ∙ sym (append_assoc x.notes (notes_in log) e.notes)
+notes-push log e = flat_map-append (λ x. x.notes) log (e ∷ []) ∙ ap (λ (ns : List Note). notes_in log ++ ns) (append-nil e.notes)
 
 pub journal-push : (loaded : Loaded) (log : List Turned) (e : Turned) → journal loaded (log ++ e ∷ []) ≡ journal loaded log ++ e.notes
 journal-push loaded log e = ap (λ (ns : List Note). opening loaded ++ ns) (notes-push log e) ∙ sym (append_assoc (opening loaded) (notes_in log) e.notes)
