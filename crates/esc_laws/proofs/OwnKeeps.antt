@@ -212,6 +212,7 @@ cap_turn loaded nest trace c b rest outer i same l = elim (cap_goes c.cap_at c b
   | inr on ↦ goes_out loaded nest trace b rest (cap_step c.cap_at c b) kind.Cap outer on.2
       (subst (λ (st : List Kind). StepOut loaded nest trace b rest (cap_step c.cap_at c b) st) same (cap_out loaded nest trace c b rest on.0 on.1 i (ap innermost same)))
 ]
+
 tick_turn : (loaded : Loaded) (nest : Nest) (trace : List Event) (c : Brain) (b : Bank) (rest : List Note) (outer : List Kind) → OwnIn loaded nest trace c b rest → (place (opening loaded ++ rest)).stack ≡ kind.Tick ∷ outer → 0 < tick_left c.tick_at
     → OwnOut loaded nest trace (tick_step c.tick_at c b).core b (accessed b (tick_step c.tick_at c b).access) (rest ++ step_notes b.time kind.Tick (tick_step c.tick_at c b)) (open_left kind.Tick outer (tick_step c.tick_at c b))
 tick_turn loaded nest trace c b rest outer i same l = elim (tick_goes c.tick_at c b l) [
@@ -219,6 +220,7 @@ tick_turn loaded nest trace c b rest outer i same l = elim (tick_goes c.tick_at 
   | inr on ↦ goes_out loaded nest trace b rest (tick_step c.tick_at c b) kind.Tick outer on.2
       (subst (λ (st : List Kind). StepOut loaded nest trace b rest (tick_step c.tick_at c b) st) same (tick_out loaded nest trace c b rest on.0 on.1 i (ap innermost same)))
 ]
+
 main_turn : (loaded : Loaded) (nest : Nest) (trace : List Event) (saved : Bool) (c : Brain) (b : Bank) (rest : List Note) (outer : List Kind) → OwnIn loaded nest trace c b rest → (place (opening loaded ++ rest)).stack ≡ kind.Main ∷ outer → 0 < main_left c.main_at
     → OwnOut loaded nest trace (main_step saved c.main_at c b).core b (accessed b (main_step saved c.main_at c b).access) (rest ++ step_notes b.time kind.Main (main_step saved c.main_at c b)) (open_left kind.Main outer (main_step saved c.main_at c b))
 main_turn loaded nest trace saved c b rest outer i same l = elim (main_goes c.main_at saved c b l) [
@@ -226,6 +228,7 @@ main_turn loaded nest trace saved c b rest outer i same l = elim (main_goes c.ma
   | inr on ↦ goes_out loaded nest trace b rest (main_step saved c.main_at c b) kind.Main outer on.2
       (subst (λ (st : List Kind). StepOut loaded nest trace b rest (main_step saved c.main_at c b) st) same (main_out loaded nest trace c b rest saved on.0 on.1 i (ap innermost same)))
 ]
+
 pub own_out : (loaded : Loaded) (k : Kind) → IsBuilt k → (saved : Bool) (nest : Nest) (trace : List Event) (c : Brain) (b : Bank) (rest : List Note) (outer : List Kind) → OwnIn loaded nest trace c b rest → (place (opening loaded ++ rest)).stack ≡ k ∷ outer → 0 < left_of c k
     → OwnOut loaded nest trace (kind_step k saved (counted_down c b) b).core b (accessed b (kind_step k saved (counted_down c b) b).access) (rest ++ step_notes b.time k (kind_step k saved (counted_down c b) b)) (open_left k outer (kind_step k saved (counted_down c b) b))
 own_out loaded kind.Tick t saved nest trace c b rest outer i same l = tick_turn loaded nest trace (counted_down c b) b rest outer (counted_in loaded nest trace c b rest i) same l

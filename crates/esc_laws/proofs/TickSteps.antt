@@ -117,7 +117,7 @@ asked_out loaded nest trace c b rest i inside less none =
     let first = said_push loaded nest trace b.time rest k i.said refl tt inside in
     let still : IsIn kind.Tick (place (opening loaded ++ (rest ++ k ∷ []))) = subst (λ (q : Place). IsIn kind.Tick q) (sym (place-push (opening loaded ++ rest) k)) inside in
     let o = outcome_out loaded answer.lost answer.armed_now nest trace (after_tick c.control n (decide (view_of c.control) n 0)) c.orders b.time rest k first still st
-        (orders_other loaded c.orders k (reverse (opening loaded ++ rest)) refl i.orders) in
+    (orders_other loaded c.orders k (reverse (opening loaded ++ rest)) refl i.orders) in
     let at : place (opening loaded ++ (rest ++ tick_notes b.time n 0 answer)) ≡ fold next p (tick_notes b.time n 0 answer) = place-append (opening loaded ++ rest) (tick_notes b.time n 0 answer) in
     let number : (after_tick c.control n (decide (view_of c.control) n 0)).number ≡ n =
     st.ties.number_is ∙ outcome_number answer.lost answer.armed_now b.time n 0 answer.demand (reverse (opening loaded ++ rest)) in
