@@ -91,9 +91,6 @@ pub some_open : (stack : List Kind) (k : Kind) → is_open stack k ≡ true → 
 some_open [] k o = cc
 some_open (x ∷ outer) k o = λ e. cc
 
-pub self_open : (k : Kind) (outer : List Kind) → is_open (k ∷ outer) k ≡ true
-self_open k outer = or_left (kind_number k == kind_number k) (is_open outer k) (of_self k)
-
 -- a kind besides the innermost one is open where it is one of the outer ones
 pub outer_open : (k j : Kind) (outer : List Kind) → j ≢ k → is_open (k ∷ outer) j ≡ is_open outer j
 outer_open k j outer ne = ap (λ (v : Bool). v || is_open outer j) (of_other k j (λ e. ne (sym e)))

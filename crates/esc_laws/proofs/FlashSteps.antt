@@ -13,6 +13,7 @@ use Rattle.timer_regs.specs.Bank.{Bank}
 use Rattle.interrupt_machine.specs.declared.nest.Nest.{Nest}
 use Rattle.interrupt_machine.specs.declared.firmware.Did.{Did}
 use Rattle.interrupt_machine.specs.Turn.{own_notes}
+use Rattle.interrupt_machine.proofs.Waiting.{self_open}
 use Rattle.esc_core.specs.declared.state.MainAt.{MainAt}
 use Rattle.esc_core.specs.declared.state.MainAt.TheVariants as main
 use Rattle.esc_core.specs.Brain.{Brain}
@@ -29,7 +30,6 @@ use Rattle.esc_laws.specs.Tied.{MainTied, IsBuilt}
 use Rattle.esc_laws.specs.Logged.{Logged, CoreTurn}
 use Rattle.esc_laws.proofs.Saves.{is_save, fits_pushes, fits_saved, fits_spoilt}
 use Rattle.esc_laws.proofs.OwnTurns.{IsOwn, steady, own_are, step_notes, step_own}
-use Rattle.esc_laws.proofs.Facts.{self_open}
 use Rattle.esc_laws.proofs.Stepping.{stepped_by}
 
 -- A step either leaves the flash, and has no P; or its one note is a P, and the flash is as that P says.

@@ -18,7 +18,7 @@ use Rattle.interrupt_machine.specs.Open.{is_open, due_now, next_entry, IsStack}
 use Rattle.interrupt_machine.specs.Response.{is_waiting}
 use Rattle.interrupt_machine.specs.Turn.{open_after}
 use Rattle.interrupt_machine.proofs.OpenKinds.{entry_above, same_kind}
-use Rattle.interrupt_machine.proofs.Waiting.{entry_patient, own_patient, entry_highest, entry_masked, highest_is_due, highest_most}
+use Rattle.interrupt_machine.proofs.Waiting.{entry_patient, own_patient, entry_highest, entry_masked, highest_is_due, highest_most, self_open}
 use Rattle.arming.specs.ControlAt.{number_at}
 use Rattle.esc_core.specs.declared.state.CapAt.{CapAt}
 use Rattle.esc_core.specs.declared.state.TickAt.{TickAt}
@@ -33,7 +33,7 @@ use Rattle.esc_laws.specs.Steps.{Turned, notes_in, journal, after, uses, is_of, 
 use Rattle.esc_laws.specs.Tied.{Keeps, SignalTied, cap_view, IsBuilt}
 use Rattle.esc_laws.specs.Logged.{Marks, Ties, Logged}
 use Rattle.esc_laws.proofs.Pushes.{own-push, since-push}
-use Rattle.esc_laws.proofs.Facts.{of_self, of_other, some_open, self_open, outer_open, left_open, same_gates, due_built, tick_due, cap_shut}
+use Rattle.esc_laws.proofs.Facts.{of_self, of_other, some_open, outer_open, left_open, same_gates, due_built, tick_due, cap_shut}
 use Rattle.esc_laws.proofs.Dues.{cap_called}
 use Rattle.esc_laws.proofs.Entries.{enters, entry_same, entered_others, entry_out, keeps_entry}
 use Rattle.esc_laws.proofs.OwnTurns.{IsOwn, steady, step_notes, step_own, open_left}
