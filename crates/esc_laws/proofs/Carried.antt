@@ -1,12 +1,14 @@
--- What carries `Logged` on: a step, time, an idle jump, an event, a stall; and what it says of the journal.
-use Rattle.std.proofs.Common.{◌≡◌, ◌<◌, ◌≤◌, ◌+◌, ℕ, Bool, true, false, not, ◌&&◌, List, [], ◌∷◌, ◌++◌, Option, Some, None, is_none, refl, sym, ◌∙◌, ap, subst, arith, inl, inr, append_assoc, append-nil, reverse}
+-- What carries `Logged` on: a step, time, an idle jump, an event; and what it says of the journal.
+use Rattle.std.proofs.Common.{◌≡◌, ◌≢◌, ◌<◌, ◌≤◌, ◌+◌, ℕ, Bool, true, false, not, ◌&&◌, List, [], ◌∷◌, ◌++◌, Option, Some, None, is_none, refl, sym, ◌∙◌, ap, subst, arith, inl, inr, append_assoc, append-nil, reverse}
 use Rattle.std.proofs.lemmas.Bool.{cases_lt}
+use Rattle.std.proofs.lemmas.List.Elements.{All-push}
 use Rattle.esc_base.specs.declared.kind.Kind.{Kind}
 use Rattle.esc_base.specs.declared.kind.Kind.TheVariants as kind
 use Rattle.esc_base.specs.declared.event.Event.{Event}
 use Rattle.esc_base.specs.declared.note.Note.{Note}
 use Rattle.esc_base.specs.Flash.{Told}
 use Rattle.esc_base.specs.Journal.{IsLater, Journal}
+use Rattle.esc_base.specs.Trace.{tick_of}
 use Rattle.settings_block.specs.declared.stored.Loaded.{Loaded}
 use Rattle.timer_regs.specs.Bank.{Bank}
 use Rattle.timer_regs.specs.Effects.{advanced, after_entry, is_due}
@@ -23,18 +25,22 @@ use Rattle.esc_core.specs.Firmware.{new_core, entered_core, core_step}
 use Rattle.esc_core.specs.Stepped.{IsStepped}
 use Rattle.esc_core.proofs.Bounds.{core_step-goes}
 use Rattle.esc_laws.specs.Seen.{sees}
-use Rattle.esc_laws.specs.Steps.{Turned, opening, journal, notes_in, open_in, EachStep, StepFits, Below}
+use Rattle.esc_laws.specs.Steps.{Turned, opening, journal, notes_in, open_in, past_stall, free, after, steps_since, entered_at, EachStep, StepFits, Awaits, Below}
 use Rattle.esc_laws.specs.Windowed.{WindowRule, Windowed}
 use Rattle.esc_laws.specs.Nested.{NestRule, NestedAfter}
 use Rattle.esc_laws.specs.Tied.{Keeps}
 use Rattle.esc_laws.specs.Legal.{Legal, LegalFront}
-use Rattle.esc_laws.specs.Logged.{Marks, Ties, stall_end, Logged, CoreTurn, turned, first_bank}
+use Rattle.esc_laws.specs.Logged.{first_bank, after_event, Marks, Ties, stall_end, Logged, CoreTurn, turned}
 use Rattle.esc_laws.proofs.Pushes.{All-later, journal-push, notes-push}
+use Rattle.esc_laws.proofs.Stalls.{past_later, past_more, past_ends, after_grows, uses_before, reached_grows, free_less, none_free}
+use Rattle.esc_laws.proofs.Growth.{sees_before}
+use Rattle.esc_laws.proofs.StepGrowth.{fits_grow}
 use Rattle.esc_laws.proofs.Entries.{enters}
 use Rattle.esc_laws.proofs.OwnTurns.{steady, own_are}
 use Rattle.esc_laws.proofs.Stepping.{sees_due, entry_turn, own_turn, left_is, stepped_by}
+use Rattle.esc_laws.proofs.Lines.{event_ties}
 use Rattle.esc_laws.proofs.Start.{logged_start}
-use Rattle.esc_laws.proofs.Events.{ties_later, keeps_later, marks_later, patient_later}
+use Rattle.esc_laws.proofs.Events.{ties_later, keeps_later, marks_later, patient_later, event_time, patient_grows, marks_grow, keeps_grow}
 
 pub start_logged : (loaded : Loaded) (nest : Nest) (cost : ℕ) → Logged loaded nest cost [] 0 (new_core loaded.settings) first_bank [] []
 start_logged loaded nest cost = logged_start loaded nest cost
@@ -166,6 +172,54 @@ jump_logged loaded nest cost trace c b stack log due t idle is later small le l 
       stalls = All-later stall_end trace b.time t later l.stalls;
       at_next = λ o. absurd (o rest.0);
     }
+
+-- ---- an event
+
+-- at now; all steps stand before it
+module _ (loaded : Loaded) (nest : Nest) (cost : ℕ) (trace : List Event) (e : Event) (next : ℕ) (c : Brain) (b : Bank) (stack : List Kind) (log : List Turned) (at : tick_of e ≡ b.time) (below : Below b.time log) (l : Logged loaded nest cost trace next c b stack log) where
+  next_is : stack ≢ [] → past_stall next e ≡ after cost (trace ++ e ∷ []) log
+  next_is o = ap (λ (t : ℕ). past_stall t e) (l.at_next o) ∙ sym (after_grows cost trace e log)
+
+  after_past : (u : ℕ) → after cost (trace ++ e ∷ []) log ≤ u → after cost trace log ≤ u
+  after_past u le = let g = after_grows cost trace e log in let p = past_later e (after cost trace log) in omega arith
+
+  none_now : (u : ℕ) → b.time ≤ u → u < past_stall next e → after cost (trace ++ e ∷ []) log ≤ u → free (trace ++ e ∷ []) u ≢ u
+  none_now u from soon past f = elim (cases_lt u next) [
+    | inl early ↦ l.put_off u from early (after_past u past) (free_less trace e u f)
+    | inr late ↦ none_free trace e next u late soon f
+  ]
+
+  awaits_grow : Awaits loaded cost (trace ++ e ∷ []) (past_stall next e) log
+  awaits_grow = record {
+    open_step = λ o. (let n = next_is (λ s. o (sym l.marks.stack_is ∙ s)) in omega arith);
+    idle = λ o u from soon f k. elim (cases_lt u b.time) [
+      | inl early ↦ sees_before trace e (journal loaded log) u k (omega arith) ∙ l.awaits.idle o u (after_past u from) (let t = l.time in omega arith) (free_less trace e u f) k
+      | inr late ↦ absurd (none_now u late soon from f)
+    ];
+  }
+
+  -- the next step is put off where the event is a stall
+  pub event_logged : Logged loaded nest cost (trace ++ e ∷ []) (past_stall next e) c (after_event b e) stack log
+  event_logged =
+      let before : Below (tick_of e) log = rw at below in
+      let later : next ≤ past_stall next e = past_later e next in
+      record {
+        keeps = keeps_grow e c b stack l.keeps;
+        sorted = l.sorted;
+        marks = marks_grow loaded nest trace e c b stack log at l.marks;
+        ties = event_ties loaded trace e c b log at l.ties;
+        patient = patient_grows loaded nest trace e c b stack log at before l.patient;
+        owes = l.owes;
+        reached = λ k o. reached_grows cost trace e log (steps_since k log) (entered_at k log) (l.reached k o) (l.reached_by k o (tick_of e) before);
+        reached_by = λ k o t b. rw (uses_before cost trace e (steps_since k log) (entered_at k log) (l.reached_by k o (tick_of e) before)) (l.reached_by k o t b);
+        fits = fits_grow loaded nest cost trace e log before l.fits;
+        past = rw (after_grows cost trace e log) (past_more e (after cost trace log) next l.past);
+        awaits = awaits_grow;
+        time = (let t = l.time in let s = event_time b e in omega arith);
+        put_off = λ u from. none_now u (let s = event_time b e in omega arith);
+        stalls = All-push (λ x. stall_end x ≤ past_stall next e) trace e (All-later stall_end trace next (past_stall next e) later l.stalls) (past_ends e next (let t = l.time in omega arith));
+        at_next = next_is;
+      }
 
 -- ---- what it says of the journal
 

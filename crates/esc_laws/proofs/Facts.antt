@@ -17,8 +17,8 @@ use Rattle.timer_regs.specs.declared.regs.Reg.TheVariants as reg
 use Rattle.interrupt_machine.specs.declared.firmware.Did.{Did}
 use Rattle.interrupt_machine.specs.Did.{Access, NoAccess, Reads, Writes, accessed, notes_of}
 use Rattle.interrupt_machine.specs.Open.{due_now, is_open}
-use Rattle.interrupt_machine.proofs.OpenKinds.{number_same}
 use Rattle.interrupt_machine.specs.Turn.{gate_note, own_notes, leave_note}
+use Rattle.interrupt_machine.proofs.OpenKinds.{number_same}
 use Rattle.esc_core.specs.declared.state.CapAt.{CapAt}
 use Rattle.esc_core.specs.declared.state.CapAt.TheVariants as cap
 use Rattle.esc_core.specs.declared.state.TickAt.{TickAt}

@@ -33,12 +33,12 @@ use Rattle.esc_laws.specs.Steps.{Turned, notes_in, journal, after, uses, is_of, 
 use Rattle.esc_laws.specs.Tied.{Keeps, SignalTied, cap_view, IsBuilt}
 use Rattle.esc_laws.specs.Logged.{Marks, Ties, Logged}
 use Rattle.esc_laws.proofs.Pushes.{own-push, since-push}
+use Rattle.esc_laws.proofs.Stalls.{free_ended}
 use Rattle.esc_laws.proofs.Facts.{of_self, of_other, some_open, outer_open, left_open, same_gates, due_built, tick_due, cap_shut}
 use Rattle.esc_laws.proofs.Dues.{cap_called}
 use Rattle.esc_laws.proofs.Entries.{enters, entry_same, entered_others, entry_out, keeps_entry}
 use Rattle.esc_laws.proofs.OwnTurns.{IsOwn, steady, step_notes, step_own, open_left}
 use Rattle.esc_laws.proofs.OwnKeeps.{keeps_own, own_out}
-use Rattle.esc_laws.proofs.Stalls.{free_ended}
 use Rattle.esc_laws.proofs.Turns.{reached_on, reached_new, by_on, by_new, own_in, logged_after}
 
 -- ---- what is seen due, and isn't open, is due

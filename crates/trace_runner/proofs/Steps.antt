@@ -26,10 +26,9 @@ use Rattle.trace_runner.specs.Run.{IsApart, StepBound, Outset, Runs, LeftBelow, 
 use Rattle.trace_runner.specs.declared.state.Runner.{Runner}
 use Rattle.esc_laws.specs.Saves.{FlashFits}
 use Rattle.esc_laws.proofs.FlashSteps.{all_front, turn_flash, front_flash}
-use Rattle.esc_laws.proofs.Events.{event_logged}
-use Rattle.esc_laws.proofs.Carried.{turn_logged, time_logged, legal_logged, front_logged, last_step}
+use Rattle.esc_laws.proofs.Carried.{turn_logged, time_logged, event_logged, legal_logged, front_logged, last_step}
 
-pub bound_push : (cost until : ℕ) (steps : List Turned) (e : Turned) → StepBound cost until steps → All (λ d. d.tick + cost ≤ e.tick) steps → e.tick < until → length e.notes ≤ 6 → StepBound cost until (steps ++ e ∷ [])
+bound_push : (cost until : ℕ) (steps : List Turned) (e : Turned) → StepBound cost until steps → All (λ d. d.tick + cost ≤ e.tick) steps → e.tick < until → length e.notes ≤ 6 → StepBound cost until (steps ++ e ∷ [])
 bound_push cost until steps e b s lt few = record {
   apart = step-push (IsApart cost) [] steps e b.apart s;
   below = All-push (λ d. d.tick < until) steps e b.below lt;
