@@ -1,5 +1,6 @@
 -- A whole run, event by event, and what each of its endings says.
 use Rattle.std.proofs.Common.{false, ◌≡◌, ◌<◌, inl, inr, All, ℕ, List, [], ◌∷◌, ◌++◌, Option, Some, None, refl, sym, ◌∙◌, ap, subst, append_assoc, append-nil}
+use Rattle.std.proofs.lemmas.List.Concat.{flat_map-append}
 use Rattle.std.proofs.lemmas.List.Elements.{All-nil, All-cons}
 use Rattle.std.specs.Io.KnownBytes.{append_known}
 use Rattle.esc_base.specs.declared.note.Note.{Note}
@@ -24,6 +25,7 @@ use Rattle.esc_laws.specs.Legal.{Legal}
 use Rattle.esc_laws.proofs.Saves.{is_save, first_unsaved, fits_start}
 use Rattle.esc_laws.proofs.FlashSteps.{all_front}
 use Rattle.trace_runner.specs.declared.state.Runner.{Runner}
+use Rattle.trace_runner.proofs.Written.{append_known-twice}
 use Rattle.trace_runner.specs.Lines.{BrokeLines}
 use Rattle.trace_runner.specs.Run.{Outset, StandsFor, LeftBelow, GoesOn, BreaksOff, nest_of, cost_of, newest}
 use Rattle.am32sim.specs.Run.{last_tick_from, last_tick, Reads, ReadsFront, run_nest, run_cost, Wrote, IsLegalFront, IsDone, IsRefused, IsReadFault, IsWriteFault}
@@ -60,25 +62,13 @@ reads_front (Some bytes) events f = f bytes refl
 
 -- ---- what was written
 
-append_known-twice : (o : Option (List ℕ)) (xs ys : List ℕ) → append_known o (xs ++ ys) ≡ append_known (append_known o xs) ys
-append_known-twice (Some bytes) xs ys = ap (λ (x : List ℕ). Some x) (sym (append_assoc bytes xs ys))
-append_known-twice None xs ys = refl
-
-text-append : (xs ys : List Note) → Text (xs ++ ys) ≡ Text xs ++ Text ys
-text-append [] ys = refl
-text-append (n ∷ xs) ys = ap (λ (z : List ℕ). note_bytes n ++ z) (text-append xs ys) ∙ sym (append_assoc (note_bytes n) (Text xs) (Text ys))
-
-notes_in-append : (xs ys : List Turned) → notes_in (xs ++ ys) ≡ notes_in xs ++ notes_in ys
-notes_in-append [] ys = refl
-notes_in-append (x ∷ xs) ys = ap (λ (ns : List Note). x.notes ++ ns) (notes_in-append xs ys) ∙ sym (append_assoc x.notes (notes_in xs) (notes_in ys))
-
 journal-append : (loaded : Loaded) (steps log : List Turned) → journal loaded (steps ++ log) ≡ journal loaded steps ++ notes_in log
-journal-append loaded steps log = ap (λ (ns : List Note). opening loaded ++ ns) (notes_in-append steps log)
+journal-append loaded steps log = ap (λ (ns : List Note). opening loaded ++ ns) (flat_map-append (λ e. e.notes) steps log)
 
 -- what was given so far, and what a call adds
 given_more : (first before after : Option (List ℕ)) (notes more : List Note) → before ≡ append_known first (Text notes) → after ≡ append_known before (Text more) → after ≡ append_known first (Text (notes ++ more))
 given_more first before after notes more e f =
-    f ∙ ap (λ (o : Option (List ℕ)). append_known o (Text more)) e ∙ sym (append_known-twice first (Text notes) (Text more)) ∙ ap (append_known first) (sym (text-append notes more))
+    f ∙ ap (λ (o : Option (List ℕ)). append_known o (Text more)) e ∙ sym (append_known-twice first (Text notes) (Text more)) ∙ ap (append_known first) (sym (flat_map-append note_bytes notes more))
 
 -- ---- the run so far
 

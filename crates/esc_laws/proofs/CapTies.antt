@@ -1,5 +1,6 @@
 -- What CAP's own steps keep of the ties to the newest window, place by place.
-use Rattle.std.proofs.Common.{◌≡◌, ◌≤◌, ◌<◌, ◌+◌, ◌-◌, ℕ, zero, suc, Bool, true, false, ◌&&◌, ◌==◌, nat_le, nat_lt, min, if◌then◌else◌, List, [], ◌∷◌, ◌++◌, length, take, Option, Some, None, refl, sym, ◌∙◌, ap, arith, All, ◌⊎◌, inl, inr}
+use Rattle.std.proofs.Common.{◌≡◌, ◌≤◌, ◌<◌, ◌+◌, ◌-◌, ℕ, zero, suc, Bool, true, false, ◌==◌, nat_le, nat_lt, min, if◌then◌else◌, List, [], ◌∷◌, ◌++◌, length, take, Option, Some, None, refl, sym, ◌∙◌, ap, arith, All, ◌⊎◌, inl, inr}
+use Rattle.std.proofs.lemmas.Bool.{and_from, lt-ltb, le-leb, leb-true, leb-false, ne_eqb}
 use Rattle.std.specs.List.{fold}
 use Rattle.std.proofs.lemmas.List.{take_more, take_all, get_or-take, length-take-le}
 use Rattle.std.proofs.lemmas.Bool.Decides.{nat_tests}
@@ -52,14 +53,11 @@ closing_closed v w m i =
     rw (i.hears.armed, i.hears.mode, i.hears.edges) c
 
 -- what the registers show then
-pub shows_edges : (b : Bank) → is_readable b ≡ true → edges_read b ≡ length b.window.edges
+shows_edges : (b : Bank) → is_readable b ≡ true → edges_read b ≡ length b.window.edges
 shows_edges b e = rw e refl
 
-index_small : (i n : ℕ) → i < n → nat_lt i n ≡ true
-index_small i n l = grind (arith, nat_tests)
-
 shows_edge_at : (b : Bank) (i : ℕ) → is_readable b ≡ true → i < length b.window.edges → edge_read b i ≡ shown_edge (edge_at b.window.edges i)
-shows_edge_at b i e l = rw (shows_edges b e, index_small i (length b.window.edges) l) refl
+shows_edge_at b i e l = rw (shows_edges b e, lt-ltb i (length b.window.edges) l) refl
 
 -- the next edge that CAP copies is the window's
 pub next_is : (c : Brain) (b : Bank) → is_readable b ≡ true → length c.burst < length b.window.edges → (edge_at b.window.edges (length c.burst)).t.0 < 2147483648
@@ -74,11 +72,8 @@ TiedAfter trace b p s =
     SignalTied (fold next p s.notes).signal s.core.cap_at (cap_view trace s.core (accessed b s.access) (fold next p s.notes))
 
 -- it begins to read the edges of a window
-zero_not : (n : ℕ) → 1 ≤ n → (n == 0) ≡ false
-zero_not n l = grind (arith, nat_tests)
-
 few_edges : (n : ℕ) → 1 ≤ n → n ≤ 32 → after_edges n ≡ cap.Copy n
-few_edges n l m = rw (zero_not n l) (ap cap.Copy (least n m))
+few_edges n l m = rw (ne_eqb n 0 (λ e. omega arith)) (ap cap.Copy (least n m))
   where
     least : (n : ℕ) → n ≤ 32 → min n 32 ≡ n
     least n m = omega arith
@@ -128,15 +123,12 @@ last_of_front edges (suc i) o l =
     pred : (i : ℕ) → suc i - 1 ≡ i
     pred i = omega arith
 
-takes_at : (n a b : ℕ) → n < 32 → a ≤ b → (nat_lt n 32 && nat_le a b) ≡ true
-takes_at n a b l m = grind (arith, nat_tests)
-
-pub copy_takes : (c : Brain) (b : Bank) (i : ℕ) → c.burst ≡ take i b.window.edges → i < length b.window.edges → length b.window.edges ≤ 32 → IsInOrder b.window.edges
+copy_takes : (c : Brain) (b : Bank) (i : ℕ) → c.burst ≡ take i b.window.edges → i < length b.window.edges → length b.window.edges ≤ 32 → IsInOrder b.window.edges
     → next_edge c b ≡ edge_at b.window.edges i → takes c.burst (next_edge c b) ≡ true
 copy_takes c b i e l few o n =
     let len : length c.burst ≡ i = rw e (length-take-le i b.window.edges (omega arith)) in
     let last : last_at c.burst ≤ (edge_at b.window.edges i).t.0 = rw e (last_of_front b.window.edges i o l) in
-    rw n (takes_at (length c.burst) (last_at c.burst) (edge_at b.window.edges i).t.0 (rw len (omega arith)) last)
+    rw n (and_from (nat_lt (length c.burst) 32) (nat_le (last_at c.burst) (edge_at b.window.edges i).t.0) (lt-ltb (length c.burst) 32 (rw len (omega arith))) (le-leb (last_at c.burst) (edge_at b.window.edges i).t.0 last))
 
 copied_judge : (v : CapView) (w m : ℕ) → IsClosing v w m → v.copied ≡ take (length v.window.edges) v.window.edges → SignalTied (Listens w m) cap.Judge v
 copied_judge v w m i e = (i, e ∙ take_all (length v.window.edges) v.window.edges (omega arith))
@@ -144,16 +136,13 @@ copied_judge v w m i e = (i, e ∙ take_all (length v.window.edges) v.window.edg
 after_copy_at : (x : Bool) (rest : ℕ) (v : CapView) (w m : ℕ) → nat_le rest 1 ≡ x → IsClosing v w m → 1 ≤ rest → rest ≤ length v.window.edges
     → v.copied ≡ take ((length v.window.edges - rest) + 1) v.window.edges → SignalTied (Listens w m) (if x then cap.Judge else cap.Copy (rest - 1)) v
 after_copy_at true rest v w m x i some within e =
-    let one : rest ≡ 1 = last_one rest x some in
+    let one : rest ≡ 1 = (let l = leb-true rest 1 x in omega arith) in
     copied_judge v w m i (e ∙ ap (λ (n : ℕ). take n v.window.edges) (whole (length v.window.edges) rest one within))
   where
-    last_one : (r : ℕ) → nat_le r 1 ≡ true → 1 ≤ r → r ≡ 1
-    last_one r x some = grind (arith, nat_tests)
-
     whole : (n r : ℕ) → r ≡ 1 → r ≤ n → (n - r) + 1 ≡ n
     whole n r e le = omega arith
 after_copy_at false rest v w m x i some within e =
-    let more : 2 ≤ rest = more_left rest x in
+    let more : 2 ≤ rest = leb-false rest 1 x in
     record {
       closing = i;
       copied = e ∙ ap (λ (n : ℕ). take n v.window.edges) (one_less (length v.window.edges) rest more within);
@@ -161,9 +150,6 @@ after_copy_at false rest v w m x i some within e =
       within = omega arith;
     }
   where
-    more_left : (r : ℕ) → nat_le r 1 ≡ false → 2 ≤ r
-    more_left r x = grind (arith, nat_tests)
-
     one_less : (n r : ℕ) → 2 ≤ r → r ≤ n → (n - r) + 1 ≡ n - (r - 1)
     one_less n r m le = omega arith
 

@@ -1,20 +1,17 @@
--- What carries `Logged` on: a step, time, an idle jump, an event, a stall; and what it says of the journal.
-use Rattle.std.proofs.Common.{◌≡◌, ◌≢◌, ◌<◌, ◌≤◌, ◌+◌, ℕ, Bool, true, false, not, ◌&&◌, nat_le, nat_lt, if◌then◌else◌, List, [], ◌∷◌, ◌++◌, max, Option, Some, None, is_none, refl, sym, ◌∙◌, ap, subst, arith, ◌⊎◌, inl, inr, append_assoc, append-nil, reverse}
-use Rattle.std.proofs.lemmas.Bool.Decides.{nat_tests}
+-- What carries `Logged` on: a step, time, an idle jump, an event; and what it says of the journal.
+use Rattle.std.proofs.Common.{◌≡◌, ◌≢◌, ◌<◌, ◌≤◌, ◌+◌, ℕ, Bool, true, false, not, ◌&&◌, List, [], ◌∷◌, ◌++◌, Option, Some, None, is_none, refl, sym, ◌∙◌, ap, subst, arith, inl, inr, append_assoc, append-nil, reverse}
+use Rattle.std.proofs.lemmas.Bool.{cases_lt}
 use Rattle.std.proofs.lemmas.List.Elements.{All-push}
 use Rattle.esc_base.specs.declared.kind.Kind.{Kind}
 use Rattle.esc_base.specs.declared.kind.Kind.TheVariants as kind
 use Rattle.esc_base.specs.declared.event.Event.{Event}
-use Rattle.esc_base.specs.declared.event.Event.TheVariants as event
 use Rattle.esc_base.specs.declared.note.Note.{Note}
 use Rattle.esc_base.specs.Flash.{Told}
 use Rattle.esc_base.specs.Journal.{IsLater, Journal}
-use Rattle.esc_base.specs.Trace.{differ}
-use Rattle.esc_base.proofs.TraceLaws.{line-push}
-use Rattle.edge_capture.specs.Window.{after_edge}
+use Rattle.esc_base.specs.Trace.{tick_of}
 use Rattle.settings_block.specs.declared.stored.Loaded.{Loaded}
 use Rattle.timer_regs.specs.Bank.{Bank}
-use Rattle.timer_regs.specs.Effects.{advanced, after_entry, after_line, is_due}
+use Rattle.timer_regs.specs.Effects.{advanced, after_entry, is_due}
 use Rattle.timer_regs.specs.NextDue.{IsNextDue, becomes_due}
 use Rattle.interrupt_machine.specs.declared.nest.Nest.{Nest}
 use Rattle.interrupt_machine.specs.declared.firmware.Did.{Did}
@@ -24,26 +21,26 @@ use Rattle.interrupt_machine.proofs.Waiting.{highest_none}
 use Rattle.arming.proofs.InOrder.{each_front, in_order}
 use Rattle.arming.specs.Controlled.{Controlled, FitsControl}
 use Rattle.esc_core.specs.Brain.{Brain}
-use Rattle.esc_core.specs.Cap.{tick_at}
 use Rattle.esc_core.specs.Firmware.{new_core, entered_core, core_step}
 use Rattle.esc_core.specs.Stepped.{IsStepped}
 use Rattle.esc_core.proofs.Bounds.{core_step-goes}
 use Rattle.esc_laws.specs.Seen.{sees}
-use Rattle.esc_laws.specs.Steps.{Turned, opening, journal, notes_in, open_in, past_stall, after, EachStep, StepFits, Below}
+use Rattle.esc_laws.specs.Steps.{Turned, opening, journal, notes_in, open_in, past_stall, free, after, steps_since, entered_at, EachStep, StepFits, Awaits, Below}
 use Rattle.esc_laws.specs.Windowed.{WindowRule, Windowed}
 use Rattle.esc_laws.specs.Nested.{NestRule, NestedAfter}
 use Rattle.esc_laws.specs.Tied.{Keeps}
 use Rattle.esc_laws.specs.Legal.{Legal, LegalFront}
-use Rattle.esc_laws.specs.Logged.{Marks, Ties, EndsBy, Logged, CoreTurn, turned, first_bank}
-use Rattle.esc_laws.proofs.Pushes.{free-push, journal-push, notes-push}
+use Rattle.esc_laws.specs.Logged.{first_bank, after_event, Marks, Ties, stall_end, Logged, CoreTurn, turned}
+use Rattle.esc_laws.proofs.Pushes.{All-later, journal-push, notes-push}
+use Rattle.esc_laws.proofs.Stalls.{past_later, past_more, past_ends, after_grows, uses_before, reached_grows, free_less, none_free}
+use Rattle.esc_laws.proofs.Growth.{sees_before}
+use Rattle.esc_laws.proofs.StepGrowth.{fits_grow}
 use Rattle.esc_laws.proofs.Entries.{enters}
 use Rattle.esc_laws.proofs.OwnTurns.{steady, own_are}
-use Rattle.esc_laws.proofs.StepGrowth.{free_less}
-use Rattle.esc_laws.proofs.Turns.{all_end_later}
 use Rattle.esc_laws.proofs.Stepping.{sees_due, entry_turn, own_turn, left_is, stepped_by}
+use Rattle.esc_laws.proofs.Lines.{event_ties}
 use Rattle.esc_laws.proofs.Start.{logged_start}
-use Rattle.esc_laws.proofs.Lines.{plain_ties, line_ties}
-use Rattle.esc_laws.proofs.Events.{SameRegs, Moved, ties_later, keeps_later, marks_later, patient_later, after_grows, past_more, event_logged}
+use Rattle.esc_laws.proofs.Events.{ties_later, keeps_later, marks_later, patient_later, event_time, patient_grows, marks_grow, keeps_grow}
 
 pub start_logged : (loaded : Loaded) (nest : Nest) (cost : ℕ) → Logged loaded nest cost [] 0 (new_core loaded.settings) first_bank [] []
 start_logged loaded nest cost = logged_start loaded nest cost
@@ -132,20 +129,10 @@ none_seen : (loaded : Loaded) (nest : Nest) (trace : List Event) (c : Brain) (b 
 none_seen loaded nest trace c b log due t u k keeps m ties none is le from below small = by_seen (sees trace (journal loaded log) u k) refl
   where
     shut_now : due_now c.orders.save (advanced b u) k ≡ false
-    shut_now = elim (same_or_later (nat_lt b.time u) refl) [
-      | inl same ↦ rw (sym same) (highest_none (due_now c.orders.save b) k none)
-      | inr later ↦ due_by_regs c.orders.save b u k (highest_none (due_now c.orders.save b) k none) (λ e. stays_shut (is_due b k) (is_due (advanced b u) k) e (none_before due b k t u is le later below))
+    shut_now = elim (cases_lt b.time u) [
+      | inl later ↦ due_by_regs c.orders.save b u k (highest_none (due_now c.orders.save b) k none) (λ e. stays_shut (is_due b k) (is_due (advanced b u) k) e (none_before due b k t u is le later below))
+      | inr not_later ↦ (let same : b.time ≡ u = omega arith in rw (sym same) (highest_none (due_now c.orders.save b) k none))
     ]
-      where
-        same_or_later : (v : Bool) → nat_lt b.time u ≡ v → (b.time ≡ u) ⊎ (b.time < u)
-        same_or_later true e = inr (lt_from b.time u e)
-          where
-            lt_from : (x y : ℕ) → nat_lt x y ≡ true → x < y
-            lt_from x y e = grind (arith, nat_tests)
-        same_or_later false e = inl (let g = ge_from b.time u e in omega arith)
-          where
-            ge_from : (x y : ℕ) → nat_lt x y ≡ false → y ≤ x
-            ge_from x y e = grind (arith, nat_tests)
 
     by_seen : (v : Bool) → sees trace (journal loaded log) u k ≡ v → sees trace (journal loaded log) u k ≡ false
     by_seen true e =
@@ -175,144 +162,64 @@ jump_logged loaded nest cost trace c b stack log due t idle is later small le l 
       past = (let p = l.past in omega arith);
       awaits = record {
         open_step = λ o. absurd (o open_none);
-        idle = λ o u from below f k. elim (before_or_from u (nat_lt u b.time) refl) [
+        idle = λ o u from below f k. elim (cases_lt u b.time) [
           | inl early ↦ l.awaits.idle o u from early f k
           | inr on ↦ none_seen loaded nest trace c b log due t u k keeps marks l.ties rest.1 is le on below small
         ];
       };
       time = omega arith;
       put_off = λ u from below. absurd (omega arith);
-      stalls = all_end_later trace b.time t later l.stalls;
+      stalls = All-later stall_end trace b.time t later l.stalls;
       at_next = λ o. absurd (o rest.0);
     }
-  where
-    before_or_from : (u : ℕ) (v : Bool) → nat_lt u b.time ≡ v → (u < b.time) ⊎ (b.time ≤ u)
-    before_or_from u true e = inl (lt_from u b.time e)
-      where
-        lt_from : (x y : ℕ) → nat_lt x y ≡ true → x < y
-        lt_from x y e = grind (arith, nat_tests)
-    before_or_from u false e = inr (ge_from u b.time e)
-      where
-        ge_from : (x y : ℕ) → nat_lt x y ≡ false → y ≤ x
-        ge_from x y e = grind (arith, nat_tests)
 
 -- ---- an event
 
--- one that isn't a stall leaves the tick of the next step
-plain_moved : (loaded : Loaded) (nest : Nest) (cost : ℕ) (trace : List Event) (e : Event) (next : ℕ) (c : Brain) (b : Bank) (stack : List Kind) (log : List Turned) → ((t : ℕ) → past_stall t e ≡ t) → EndsBy next e
-    → Logged loaded nest cost trace next c b stack log → Moved cost trace e b.time next next stack log
-plain_moved loaded nest cost trace e next c b stack log plain ends l =
-    let same : after cost (trace ++ e ∷ []) log ≡ after cost trace log = after_grows cost trace e log ∙ plain (after cost trace log) in
-    record {
-      more = omega arith;
-      past = rw same l.past;
-      ends = All-push (EndsBy next) trace e l.stalls ends;
-      at_next = λ o. l.at_next o ∙ sym same;
-      put_off = λ u from below past f. l.put_off u from below (rw (sym same) past) (free_less trace e u f);
-    }
+-- at now; all steps stand before it
+module _ (loaded : Loaded) (nest : Nest) (cost : ℕ) (trace : List Event) (e : Event) (next : ℕ) (c : Brain) (b : Bank) (stack : List Kind) (log : List Turned) (at : tick_of e ≡ b.time) (below : Below b.time log) (l : Logged loaded nest cost trace next c b stack log) where
+  next_is : stack ≢ [] → past_stall next e ≡ after cost (trace ++ e ∷ []) log
+  next_is o = ap (λ (t : ℕ). past_stall t e) (l.at_next o) ∙ sym (after_grows cost trace e log)
 
--- the signal line has a level at now; all steps stand before
-pub edge_logged : (loaded : Loaded) (nest : Nest) (cost : ℕ) (trace : List Event) (next : ℕ) (c : Brain) (b : Bank) (stack : List Kind) (log : List Turned) (level : Bool)
-    → Below b.time log → Logged loaded nest cost trace next c b stack log
-    → Logged loaded nest cost (trace ++ event.Edge (tick_at b.time) level ∷ []) next c (after_line b level) stack log
-edge_logged loaded nest cost trace next c b stack log level below l =
-    event_logged loaded nest cost trace (event.Edge (tick_at b.time) level) next next c b (after_line b level) stack log refl below l
-    (plain_moved loaded nest cost trace (event.Edge (tick_at b.time) level) next c b stack log (λ t. refl) tt l) (line_same b level) (line_ties loaded trace c b log level l.ties)
-  where
-    kept_regs : (v : Bool) (b x : Bank) → x.time ≡ b.time → x.masked ≡ b.masked → SameRegs b (if v then x else b)
-    kept_regs true b x e f = record { time = e; masked = f }
-    kept_regs false b x e f = record { time = refl; masked = refl }
+  after_past : (u : ℕ) → after cost (trace ++ e ∷ []) log ≤ u → after cost trace log ≤ u
+  after_past u le = let g = after_grows cost trace e log in let p = past_later e (after cost trace log) in omega arith
 
-    line_same : (b : Bank) (level : Bool) → SameRegs b (after_line b level)
-    line_same b level = kept_regs (differ b.level level) b (record b { level = level; window = after_edge b.window (record { t = record { 0 = b.time }; level = level }) }) refl refl
+  none_now : (u : ℕ) → b.time ≤ u → u < past_stall next e → after cost (trace ++ e ∷ []) log ≤ u → free (trace ++ e ∷ []) u ≢ u
+  none_now u from soon past f = elim (cases_lt u next) [
+    | inl early ↦ l.put_off u from early (after_past u past) (free_less trace e u f)
+    | inr late ↦ none_free trace e next u late soon f
+  ]
 
--- an event without an effect
-pub comp_logged : (loaded : Loaded) (nest : Nest) (cost : ℕ) (trace : List Event) (next : ℕ) (c : Brain) (b : Bank) (stack : List Kind) (log : List Turned) (level : Bool)
-    → Below b.time log → Logged loaded nest cost trace next c b stack log → Logged loaded nest cost (trace ++ event.Comp (tick_at b.time) level ∷ []) next c b stack log
-comp_logged loaded nest cost trace next c b stack log level below l =
-    event_logged loaded nest cost trace (event.Comp (tick_at b.time) level) next next c b b stack log refl below l
-    (plain_moved loaded nest cost trace (event.Comp (tick_at b.time) level) next c b stack log (λ t. refl) tt l) (record { time = refl; masked = refl })
-    (plain_ties loaded trace (event.Comp (tick_at b.time) level) c b log (line-push trace (event.Comp (tick_at b.time) level)) (omega arith) l.ties)
+  awaits_grow : Awaits loaded cost (trace ++ e ∷ []) (past_stall next e) log
+  awaits_grow = record {
+    open_step = λ o. (let n = next_is (λ s. o (sym l.marks.stack_is ∙ s)) in omega arith);
+    idle = λ o u from soon f k. elim (cases_lt u b.time) [
+      | inl early ↦ sees_before trace e (journal loaded log) u k (omega arith) ∙ l.awaits.idle o u (after_past u from) (let t = l.time in omega arith) (free_less trace e u f) k
+      | inr late ↦ absurd (none_now u late soon from f)
+    ];
+  }
 
-pub serial_logged : (loaded : Loaded) (nest : Nest) (cost : ℕ) (trace : List Event) (next : ℕ) (c : Brain) (b : Bank) (stack : List Kind) (log : List Turned) (byte : ℕ)
-    → Below b.time log → Logged loaded nest cost trace next c b stack log → Logged loaded nest cost (trace ++ event.Serial (tick_at b.time) byte ∷ []) next c b stack log
-serial_logged loaded nest cost trace next c b stack log byte below l =
-    event_logged loaded nest cost trace (event.Serial (tick_at b.time) byte) next next c b b stack log refl below l
-    (plain_moved loaded nest cost trace (event.Serial (tick_at b.time) byte) next c b stack log (λ t. refl) tt l) (record { time = refl; masked = refl })
-    (plain_ties loaded trace (event.Serial (tick_at b.time) byte) c b log (line-push trace (event.Serial (tick_at b.time) byte)) (omega arith) l.ties)
-
--- a stall puts the next step off to its end
-stall_after : (now n next t : ℕ) → t ≤ next → (if nat_le now t && nat_lt t (now + n) then now + n else t) ≤ max next (now + n)
-stall_after now n next t le = by_test (nat_le now t && nat_lt t (now + n)) now n next t le
-  where
-    by_test : (v : Bool) (now n next t : ℕ) → t ≤ next → (if v then now + n else t) ≤ max next (now + n)
-    by_test true now n next t le = omega arith
-    by_test false now n next t le = omega arith
-
-stall_at : (now n next : ℕ) → now ≤ next → max next (now + n) ≡ (if nat_le now next && nat_lt next (now + n) then now + n else next)
-stall_at now n next le = by_test (nat_le now next) (nat_lt next (now + n)) now n next (le_to now next le) (λ e. lt_from next (now + n) e) (λ e. ge_from next (now + n) e)
-  where
-    le_to : (x y : ℕ) → x ≤ y → nat_le x y ≡ true
-    le_to x y l = grind (arith, nat_tests)
-
-    lt_from : (x y : ℕ) → nat_lt x y ≡ true → x < y
-    lt_from x y e = grind (arith, nat_tests)
-
-    ge_from : (x y : ℕ) → nat_lt x y ≡ false → y ≤ x
-    ge_from x y e = grind (arith, nat_tests)
-
-    by_test : (v w : Bool) (now n next : ℕ) → v ≡ true → (w ≡ true → next < now + n) → (w ≡ false → now + n ≤ next) → max next (now + n) ≡ (if v && w then now + n else next)
-    by_test true true now n next e f g = let l = f refl in omega arith
-    by_test true false now n next e f g = let l = g refl in omega arith
-    by_test false w now n next e f g = cc
-
-stall_over : (now n u : ℕ) → now ≤ u → u < now + n → (if nat_le now u && nat_lt u (now + n) then now + n else u) ≢ u
-stall_over now n u from below = by_test (nat_le now u) (nat_lt u (now + n)) now n u (le_to now u from) (lt_to u (now + n) below) below
-  where
-    le_to : (x y : ℕ) → x ≤ y → nat_le x y ≡ true
-    le_to x y l = grind (arith, nat_tests)
-
-    lt_to : (x y : ℕ) → x < y → nat_lt x y ≡ true
-    lt_to x y l = grind (arith, nat_tests)
-
-    by_test : (v w : Bool) (now n u : ℕ) → v ≡ true → w ≡ true → u < now + n → (if v && w then now + n else u) ≢ u
-    by_test true true now n u e f l = λ s. absurd (omega arith)
-    by_test true false now n u e f l = cc
-    by_test false w now n u e f l = cc
-
-stall_moved : (loaded : Loaded) (nest : Nest) (cost : ℕ) (trace : List Event) (next : ℕ) (c : Brain) (b : Bank) (stack : List Kind) (log : List Turned) (n : ℕ)
-    → Logged loaded nest cost trace next c b stack log → Moved cost trace (event.Stall (tick_at b.time) n) b.time next (max next (b.time + n)) stack log
-stall_moved loaded nest cost trace next c b stack log n l =
-    let e : Event = event.Stall (tick_at b.time) n in
-    let grown : after cost (trace ++ e ∷ []) log ≡ past_stall (after cost trace log) e = after_grows cost trace e log in
-    record {
-      more = omega arith;
-      past = rw grown (stall_after b.time n next (after cost trace log) l.past);
-      ends = All-push (EndsBy (max next (b.time + n))) trace e (all_end_later trace next (max next (b.time + n)) (omega arith) l.stalls) (omega arith);
-      at_next = λ o. (let at = l.at_next o in stall_at b.time n next l.time ∙ ap (λ (t : ℕ). past_stall t e) at ∙ sym grown);
-      put_off = λ u from below past f. elim (by_next u (nat_lt u next) refl) [
-        | inl early ↦ l.put_off u from early (let g = grown in let m = past_more e (after cost trace log) in omega arith) (free_less trace e u f)
-        | inr late ↦ stall_over b.time n u from (omega arith) (sym (free-push trace e u ∙ ap (λ (t : ℕ). past_stall t e) (free_less trace e u f)) ∙ f)
-      ];
-    }
-  where
-    by_next : (u : ℕ) (v : Bool) → nat_lt u next ≡ v → (u < next) ⊎ (next ≤ u)
-    by_next u true e = inl (lt_from u next e)
-      where
-        lt_from : (x y : ℕ) → nat_lt x y ≡ true → x < y
-        lt_from x y e = grind (arith, nat_tests)
-    by_next u false e = inr (ge_from u next e)
-      where
-        ge_from : (x y : ℕ) → nat_lt x y ≡ false → y ≤ x
-        ge_from x y e = grind (arith, nat_tests)
-
-pub stall_logged : (loaded : Loaded) (nest : Nest) (cost : ℕ) (trace : List Event) (next : ℕ) (c : Brain) (b : Bank) (stack : List Kind) (log : List Turned) (n : ℕ)
-    → Below b.time log → Logged loaded nest cost trace next c b stack log
-    → Logged loaded nest cost (trace ++ event.Stall (tick_at b.time) n ∷ []) (max next (b.time + n)) c b stack log
-stall_logged loaded nest cost trace next c b stack log n below l =
-    event_logged loaded nest cost trace (event.Stall (tick_at b.time) n) next (max next (b.time + n)) c b b stack log refl below l
-    (stall_moved loaded nest cost trace next c b stack log n l) (record { time = refl; masked = refl })
-    (plain_ties loaded trace (event.Stall (tick_at b.time) n) c b log (line-push trace (event.Stall (tick_at b.time) n)) (omega arith) l.ties)
+  -- the next step is put off where the event is a stall
+  pub event_logged : Logged loaded nest cost (trace ++ e ∷ []) (past_stall next e) c (after_event b e) stack log
+  event_logged =
+      let before : Below (tick_of e) log = rw at below in
+      let later : next ≤ past_stall next e = past_later e next in
+      record {
+        keeps = keeps_grow e c b stack l.keeps;
+        sorted = l.sorted;
+        marks = marks_grow loaded nest trace e c b stack log at l.marks;
+        ties = event_ties loaded trace e c b log at l.ties;
+        patient = patient_grows loaded nest trace e c b stack log at before l.patient;
+        owes = l.owes;
+        reached = λ k o. reached_grows cost trace e log (steps_since k log) (entered_at k log) (l.reached k o) (l.reached_by k o (tick_of e) before);
+        reached_by = λ k o t b. rw (uses_before cost trace e (steps_since k log) (entered_at k log) (l.reached_by k o (tick_of e) before)) (l.reached_by k o t b);
+        fits = fits_grow loaded nest cost trace e log before l.fits;
+        past = rw (after_grows cost trace e log) (past_more e (after cost trace log) next l.past);
+        awaits = awaits_grow;
+        time = (let t = l.time in let s = event_time b e in omega arith);
+        put_off = λ u from. none_now u (let s = event_time b e in omega arith);
+        stalls = All-push (λ x. stall_end x ≤ past_stall next e) trace e (All-later stall_end trace next (past_stall next e) later l.stalls) (past_ends e next (let t = l.time in omega arith));
+        at_next = next_is;
+      }
 
 -- ---- what it says of the journal
 

@@ -1,7 +1,7 @@
 -- What the notes call for is due by the registers; and what the ties to the newest window become as time goes on or the
 -- trace grows.
-use Rattle.std.proofs.Common.{◌≡◌, ◌≤◌, ◌+◌, ℕ, Bool, true, false, not, ◌==◌, nat_le, max, if◌then◌else◌, List, length, Some, None, refl, sym, ◌∙◌, arith}
-use Rattle.std.proofs.lemmas.Bool.Decides.{nat_tests}
+use Rattle.std.proofs.Common.{◌≡◌, ◌≤◌, ◌+◌, ℕ, Bool, true, not, ◌==◌, nat_le, max, List, length, Some, None, refl, sym, ◌∙◌, arith}
+use Rattle.std.proofs.lemmas.Bool.{and_parts, or_left, or_right, leb-true, cond-false, not-true}
 use Rattle.esc_base.specs.declared.kind.Kind.TheVariants as kind
 use Rattle.esc_base.specs.declared.signal.Edge.{Edge}
 use Rattle.esc_base.specs.declared.signal.Mode.{Mode}
@@ -22,7 +22,7 @@ use Rattle.esc_base.specs.declared.note.Note.TheVariants as note
 use Rattle.esc_laws.specs.Place.{Signal, Silent, Listens, Judged, Rests, Place, next}
 use Rattle.esc_laws.specs.Seen.{calls_cap}
 use Rattle.esc_laws.specs.Tied.{CapView, cap_view, Hears, IsClosing, IsListening, IsJudged, IsPaused, IsOver, SignalTied}
-use Rattle.esc_laws.proofs.Facts.{both, or_left, or_right, due_window, due_timer, cap_due_window, cap_due_timer}
+use Rattle.esc_laws.proofs.Facts.{due_window, due_timer, cap_due_window, cap_due_timer}
 use Rattle.esc_laws.proofs.Growth.{reached_closed}
 
 -- ---- a window that is closed by the trace is closed by the registers, and back
@@ -34,10 +34,7 @@ closed_heard : (v : CapView) (w m : ℕ) → Hears v w m → window_closed v.win
 closed_heard v w m h c = rw (h.armed, h.mode, h.edges) at c
 
 rested_by : (f r t : ℕ) → nat_le (max (f + 1200) r) t ≡ true → f + 600 ≤ t
-rested_by f r t e = let l : max (f + 1200) r ≤ t = le_from (max (f + 1200) r) t e in omega arith
-  where
-    le_from : (m n : ℕ) → nat_le m n ≡ true → m ≤ n
-    le_from m n e = grind (arith, nat_tests)
+rested_by f r t e = let l = leb-true (max (f + 1200) r) t e in omega arith
 
 -- a CAP that the notes call for is due
 pub cap_called : (due : Bool) (s : Signal) (trace : List Event) (c : Brain) (b : Bank) (p : Place) → SignalTied s cap.Shut (cap_view trace c b p) → calls_cap trace s b.time ≡ true → due_now due b kind.Cap ≡ true
@@ -59,15 +56,8 @@ pub record ClosedBy (m : Mode) (heard : List Edge) (t : ℕ) : Type 0 where
 
 closed_by : (m : Mode) (heard : List Edge) (t : ℕ) → is_closed m heard t ≡ true → ClosedBy m heard t
 closed_by m heard t e =
-    let parts = both (not (length heard == 0)) (nat_le (last_at heard + wait m (length heard)) t) e in
-    record { at = last_at heard + wait m (length heard); closes = some_close (length heard == 0) (last_at heard + wait m (length heard)) parts.0; past = le_from (last_at heard + wait m (length heard)) t parts.1 }
-  where
-    some_close : (v : Bool) (n : ℕ) → not v ≡ true → (if v then None else Some n) ≡ Some n
-    some_close true n e = cc
-    some_close false n e = refl
-
-    le_from : (m n : ℕ) → nat_le m n ≡ true → m ≤ n
-    le_from m n e = grind (arith, nat_tests)
+    let parts = and_parts (not (length heard == 0)) (nat_le (last_at heard + wait m (length heard)) t) e in
+    record { at = last_at heard + wait m (length heard); closes = cond-false (length heard == 0) None (Some (last_at heard + wait m (length heard))) (not-true (length heard == 0) parts.0); past = leb-true (last_at heard + wait m (length heard)) t parts.1 }
 
 -- the place after an I of CAP
 abbrev pub cap_place : Place → ℕ → Place

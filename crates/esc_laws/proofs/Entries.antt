@@ -1,5 +1,5 @@
 -- An entry: its note fits, the ties hold again, and the step fits the log.
-use Rattle.std.proofs.Common.{◌≡◌, ◌≢◌, ◌≤◌, ◌<◌, ◌/◌, ℕ, Bool, true, false, not, ◌&&◌, ◌||◌, ◌==◌, if◌then◌else◌, List, [], ◌∷◌, ◌++◌, reverse, Some, None, refl, sym, ◌∙◌, ap, subst, arith, lit≤, All, inl, inr}
+use Rattle.std.proofs.Common.{◌≡◌, ◌≢◌, ◌≤◌, ◌<◌, ◌/◌, ℕ, Bool, true, false, not, ◌&&◌, ◌==◌, if◌then◌else◌, List, [], ◌∷◌, ◌++◌, reverse, Some, None, refl, sym, ◌∙◌, ap, subst, arith, lit≤, All, inl, inr}
 use Rattle.std.proofs.lemmas.Bool.Decides.{nat_tests}
 use Rattle.std.proofs.lemmas.List.Elements.{All-nil, All-cons}
 use Rattle.esc_base.specs.declared.kind.Kind.{Kind}
@@ -13,8 +13,8 @@ use Rattle.timer_regs.specs.Bank.{Bank}
 use Rattle.timer_regs.specs.Effects.{after_entry}
 use Rattle.interrupt_machine.specs.declared.nest.Nest.{Nest}
 use Rattle.interrupt_machine.specs.declared.nest.Nest.TheVariants.{One, Full}
-use Rattle.interrupt_machine.specs.Open.{innermost, is_open, due_now, may_enter, enters_above, next_entry, IsAbove, IsStack}
-use Rattle.interrupt_machine.proofs.OpenKinds.{closed_above, entry_above, live_entry, number_same, same_kind}
+use Rattle.interrupt_machine.specs.Open.{innermost, due_now, may_enter, enters_above, next_entry, IsAbove, IsStack}
+use Rattle.interrupt_machine.proofs.OpenKinds.{closed_above, entry_above, live_entry, same_kind}
 use Rattle.interrupt_machine.proofs.Waiting.{entry_highest, highest_is_due, entry_masked}
 use Rattle.arming.proofs.InOrder.{reverse-push}
 use Rattle.arming.proofs.FrameTies.{other_stands}
@@ -28,7 +28,7 @@ use Rattle.esc_laws.specs.Steps.{opening}
 use Rattle.esc_laws.specs.Tied.{Keeps, SignalTied, cap_view, TickTied, MainTied, IsBuilt}
 use Rattle.esc_laws.proofs.Pushes.{place-push}
 use Rattle.esc_laws.proofs.Notes.{said_push}
-use Rattle.esc_laws.proofs.Facts.{cap_shut, due_built, due_tick}
+use Rattle.esc_laws.proofs.Facts.{outer_open, not_open, cap_shut, due_built, due_tick}
 use Rattle.esc_laws.proofs.Dues.{cap_entered}
 use Rattle.esc_laws.proofs.Saves.{orders_other}
 use Rattle.esc_laws.proofs.OwnSteps.{OwnIn, OwnOut}
@@ -69,27 +69,10 @@ entry_may nest stack due k e =
     may_by true k e = refl
     may_by false k e = cc
 
-pub entry_above_all : (nest : Nest) (stack : List Kind) (due : Kind → Bool) (k : Kind) → IsStack stack → next_entry nest stack due ≡ Some k → IsAboveAll nest stack (kind_number k)
+entry_above_all : (nest : Nest) (stack : List Kind) (due : Kind → Bool) (k : Kind) → IsStack stack → next_entry nest stack due ≡ Some k → IsAboveAll nest stack (kind_number k)
 entry_above_all nest stack due k s e = above_all nest stack k s (entry_above nest stack due k e) (entry_may nest stack due k e)
 
 -- ---- what holds between any two steps
-
-other_kind : (k j : Kind) (stack : List Kind) → is_open (j ∷ stack) k ≡ false → (k ≢ j) × (is_open stack k ≡ false)
-other_kind k j stack f = ((λ s. absurd (self_not (kind_number j) (kind_number k) (is_open stack k) f (sym (ap kind_number s)))), rest_not (kind_number j == kind_number k) (is_open stack k) f)
-  where
-    self_not : (m n : ℕ) (b : Bool) → ((m == n) || b) ≡ false → m ≡ n → ⊥
-    self_not m n b f e = grind (arith, nat_tests)
-
-    rest_not : (a b : Bool) → (a || b) ≡ false → b ≡ false
-    rest_not true b f = cc
-    rest_not false b f = f
-
-open_parts : (k j : Kind) (stack : List Kind) → k ≢ j → is_open (j ∷ stack) k ≡ true → is_open stack k ≡ true
-open_parts k j stack ne o = rest_open (kind_number j) (kind_number k) (is_open stack k) (λ e. ne (number_same k j (sym e))) o
-  where
-    rest_open : (m n : ℕ) (b : Bool) → (m ≡ n → ⊥) → ((m == n) || b) ≡ true → b ≡ true
-    rest_open m n true ne o = refl
-    rest_open m n false ne o = absurd (ne (grind (arith, nat_tests)))
 
 -- the other handlers stay where they are
 pub entered_others : (k : Kind) → IsBuilt k → (c : Brain) (j : Kind) → j ≢ k → left_of (entered_core c k) j ≡ left_of c j
@@ -158,10 +141,10 @@ keeps_entry nest c b stack k keeps sorted down chosen =
       enough = λ m. (let z = sym m ∙ still in cc);
       tick_masked = λ n. absurd (entered_need k built c b stack keeps down n);
       live = live_entry (left_of c) (left_of (entered_core c k)) k stack keeps.live (entered_left k built c) (entered_others k built c);
-      shut = λ j f. (let p = other_kind j k stack f in entered_others k built c j p.0 ∙ keeps.shut j p.1);
+      shut = λ j f. (let p = not_open k j stack f in entered_others k built c j p.0 ∙ keeps.shut j p.1);
       built = λ j o. elim (same_kind j k) [
         | inl s ↦ subst IsBuilt (sym s) built
-        | inr ne ↦ keeps.built j (open_parts j k stack ne o)
+        | inr ne ↦ keeps.built j (sym (outer_open k j stack ne) ∙ o)
       ];
     }
 

@@ -1,12 +1,11 @@
 -- The log stands as it is while time goes on, and as the trace grows.
-use Rattle.std.proofs.Common.{◌≡◌, ◌≢◌, ◌≤◌, ◌<◌, ◌+◌, ◌/◌, ℕ, Bool, true, false, not, ◌&&◌, nat_le, nat_lt, if◌then◌else◌, List, [], ◌∷◌, ◌++◌, refl, sym, ◌∙◌, ap, subst, arith, All, ◌⊎◌, inl, inr}
-use Rattle.std.specs.List.{fold}
-use Rattle.std.proofs.lemmas.Bool.Decides.{nat_tests}
+use Rattle.std.proofs.Common.{◌≡◌, ◌≤◌, ◌<◌, ◌/◌, ℕ, Bool, true, false, not, ◌&&◌, if◌then◌else◌, List, [], ◌∷◌, ◌++◌, refl, sym, ◌∙◌, arith}
 use Rattle.esc_base.specs.declared.kind.Kind.{Kind}
 use Rattle.esc_base.specs.declared.event.Event.{Event}
 use Rattle.esc_base.specs.declared.event.Event.TheVariants as event
 use Rattle.esc_base.specs.Journal.{time_of}
-use Rattle.esc_base.specs.Trace.{line, tick_of}
+use Rattle.esc_base.specs.Trace.{line, tick_of, differ}
+use Rattle.edge_capture.specs.Window.{after_edge}
 use Rattle.settings_block.specs.declared.stored.Loaded.{Loaded}
 use Rattle.timer_regs.specs.Bank.{Bank}
 use Rattle.timer_regs.specs.Effects.{advanced}
@@ -17,14 +16,15 @@ use Rattle.interrupt_machine.proofs.Waiting.{grow_patient, same_patient}
 use Rattle.esc_core.specs.declared.state.TickAt.{TickAt}
 use Rattle.esc_core.specs.declared.state.TickAt.TheVariants as tick
 use Rattle.esc_core.specs.Brain.{Brain}
+use Rattle.esc_core.specs.Cap.{tick_at}
 use Rattle.esc_laws.specs.Place.{place}
 use Rattle.esc_laws.specs.Seen.{sees}
-use Rattle.esc_laws.specs.Steps.{Turned, journal, past_stall, free, next_step, after, uses, steps_since, entered_at, called, Awaits, Below}
+use Rattle.esc_laws.specs.Steps.{Turned, journal, called, Below}
 use Rattle.esc_laws.specs.Tied.{Keeps, cap_view, TickTied}
-use Rattle.esc_laws.specs.Logged.{Marks, Ties, EndsBy, Logged}
-use Rattle.esc_laws.proofs.Pushes.{All-later, free-push, uses-more}
-use Rattle.esc_laws.proofs.Growth.{sees_before, sees_still, sees_later, windowed_grows}
-use Rattle.esc_laws.proofs.StepGrowth.{count_before, fits_grow, free_less, uses_before}
+use Rattle.esc_laws.specs.Logged.{after_event, Marks, Ties}
+use Rattle.esc_laws.proofs.Pushes.{All-later}
+use Rattle.esc_laws.proofs.Growth.{sees_still, sees_later, windowed_grows}
+use Rattle.esc_laws.proofs.StepGrowth.{count_before}
 use Rattle.esc_laws.proofs.Dues.{signal_follows, time_follows}
 
 -- ---- time goes on
@@ -75,130 +75,53 @@ patient_later loaded nest trace c b stack log u le p =
     grow_patient nest stack (sees trace (journal loaded log) b.time) (sees trace (journal loaded log) u) b.masked c.hold (called loaded nest trace log)
     (λ k e. waits_on (sees trace (journal loaded log) b.time k) (sees trace (journal loaded log) u k) (not (is_open stack k)) (sees_later trace (journal loaded log) b.time u k le) e) p
 
--- ---- the tick of the next step, in the longer trace
+-- ---- an event at now
 
-after_from : (cost : ℕ) (trace : List Event) (e : Event) (i : ℕ) (log : List Turned)
-    → fold (λ n x. next_step cost (trace ++ e ∷ []) x.tick) (past_stall i e) log ≡ past_stall (fold (λ n x. next_step cost trace x.tick) i log) e
-after_from cost trace e i [] = refl
-after_from cost trace e i (x ∷ log) =
-    ap (λ (n : ℕ). fold (λ m y. next_step cost (trace ++ e ∷ []) y.tick) n log) (free-push trace e (x.tick + cost)) ∙ after_from cost trace e (next_step cost trace x.tick) log
+record SameRegs (b b' : Bank) : Type 0 where
+  time : b'.time ≡ b.time
+  masked : b'.masked ≡ b.masked
 
-pub after_grows : (cost : ℕ) (trace : List Event) (e : Event) (log : List Turned) → after cost (trace ++ e ∷ []) log ≡ past_stall (after cost trace log) e
-unfolding after
-after_grows cost trace e log =
-    ap (λ (n : ℕ). fold (λ m x. next_step cost (trace ++ e ∷ []) x.tick) n log) (free-push trace e 0) ∙ after_from cost trace e (free trace 0) log
-
-pub past_more : (e : Event) (t : ℕ) → t ≤ past_stall t e
-past_more (event.Stall at n) t = by_test (nat_le at.0 t) (nat_lt t (at.0 + n)) t (at.0 + n) (λ a b. lt_from t (at.0 + n) b)
+same_regs : (b : Bank) (e : Event) → SameRegs b (after_event b e)
+same_regs b (event.Edge at level) = by_test (differ b.level level) (record b { level = level; window = after_edge b.window (record { t = tick_at b.time; level = level }) }) (record { time = refl; masked = refl })
   where
-    lt_from : (a b : ℕ) → nat_lt a b ≡ true → a < b
-    lt_from a b e = grind (arith, nat_tests)
+    by_test : (v : Bool) (b' : Bank) → SameRegs b b' → SameRegs b (if v then b' else b)
+    by_test true b' s = s
+    by_test false b' s = record { time = refl; masked = refl }
+same_regs b (event.Comp at level) = record { time = refl; masked = refl }
+same_regs b (event.Serial at byte) = record { time = refl; masked = refl }
+same_regs b (event.Stall at n) = record { time = refl; masked = refl }
 
-    by_test : (a b : Bool) (t x : ℕ) → (a ≡ true → b ≡ true → t < x) → t ≤ (if a && b then x else t)
-    by_test true true t x f = let l = f refl refl in omega arith
-    by_test true false t x f = omega arith
-    by_test false b t x f = omega arith
-past_more (event.Edge at level) t = omega arith
-past_more (event.Comp at level) t = omega arith
-past_more (event.Serial at byte) t = omega arith
+pub event_time : (b : Bank) (e : Event) → (after_event b e).time ≡ b.time
+event_time b e = (same_regs b e).time
 
-reached_grows : (cost : ℕ) (trace : List Event) (e : Event) (log : List Turned) (m t : ℕ) → after cost trace log ≡ uses cost trace (m + 1) t → uses cost trace m t < tick_of e
-    → after cost (trace ++ e ∷ []) log ≡ uses cost (trace ++ e ∷ []) (m + 1) t
-reached_grows cost trace e log m t h below =
-    let same = uses_before cost trace e m t (uses cost trace m t) refl below in
-    after_grows cost trace e log
-    ∙ ap (λ (x : ℕ). past_stall x e) (h ∙ uses-more cost trace m t)
-    ∙ sym (free-push trace e (uses cost trace m t + cost))
-    ∙ ap (λ (x : ℕ). next_step cost (trace ++ e ∷ []) x) (sym same)
-    ∙ sym (uses-more cost (trace ++ e ∷ []) m t)
-
--- ---- one event more, at now
-
--- what an event leaves of the registers
-pub record SameRegs (b b' : Bank) : Type 0 where
-  pub time : b'.time ≡ b.time
-  pub masked : b'.masked ≡ b.masked
-
-patient_grows : (loaded : Loaded) (nest : Nest) (trace : List Event) (e : Event) (c : Brain) (b : Bank) (stack : List Kind) (log : List Turned) → b.time ≡ tick_of e → Below (tick_of e) log
+pub patient_grows : (loaded : Loaded) (nest : Nest) (trace : List Event) (e : Event) (c : Brain) (b : Bank) (stack : List Kind) (log : List Turned) → tick_of e ≡ b.time → Below (tick_of e) log
     → Patient nest c.hold b.masked stack (sees trace (journal loaded log) b.time) (called loaded nest trace log)
-    → Patient nest c.hold b.masked stack (sees (trace ++ e ∷ []) (journal loaded log) b.time) (called loaded nest (trace ++ e ∷ []) log)
+    → Patient nest c.hold (after_event b e).masked stack (sees (trace ++ e ∷ []) (journal loaded log) (after_event b e).time) (called loaded nest (trace ++ e ∷ []) log)
 patient_grows loaded nest trace e c b stack log at below p =
-    same_patient nest c.hold b.masked stack (sees (trace ++ e ∷ []) (journal loaded log) b.time) (called loaded nest trace log) (called loaded nest (trace ++ e ∷ []) log) (λ k. count_before loaded nest trace e log k below)
+    let same : SameRegs b (after_event b e) = same_regs b e in
+    rw (same.masked, same.time)
+    (same_patient nest c.hold b.masked stack (sees (trace ++ e ∷ []) (journal loaded log) b.time) (called loaded nest trace log) (called loaded nest (trace ++ e ∷ []) log) (λ k. count_before loaded nest trace e log k below)
     (grow_patient nest stack (sees trace (journal loaded log) b.time) (sees (trace ++ e ∷ []) (journal loaded log) b.time) b.masked c.hold (called loaded nest trace log)
-    (λ k s. waits_on (sees trace (journal loaded log) b.time k) (sees (trace ++ e ∷ []) (journal loaded log) b.time k) (not (is_open stack k)) (sees_still trace e (journal loaded log) b.time k (omega arith)) s) p)
+    (λ k s. waits_on (sees trace (journal loaded log) b.time k) (sees (trace ++ e ∷ []) (journal loaded log) b.time k) (not (is_open stack k)) (sees_still trace e (journal loaded log) b.time k (omega arith)) s) p))
 
-marks_grow : (loaded : Loaded) (nest : Nest) (trace : List Event) (e : Event) (c : Brain) (b b' : Bank) (stack : List Kind) (log : List Turned) → b.time ≡ tick_of e → SameRegs b b' → Marks loaded nest trace c b stack log → Marks loaded nest (trace ++ e ∷ []) c b' stack log
-marks_grow loaded nest trace e c b b' stack log at same m = record {
+pub marks_grow : (loaded : Loaded) (nest : Nest) (trace : List Event) (e : Event) (c : Brain) (b : Bank) (stack : List Kind) (log : List Turned) → tick_of e ≡ b.time → Marks loaded nest trace c b stack log → Marks loaded nest (trace ++ e ∷ []) c (after_event b e) stack log
+marks_grow loaded nest trace e c b stack log at m = record {
   in_time = m.in_time;
   windowed = windowed_grows loaded trace e (journal loaded log) (All-later time_of (journal loaded log) b.time (tick_of e) (omega arith) m.past) m.windowed;
   nested = m.nested;
   control = m.control;
   stack_is = m.stack_is;
-  past = All-later time_of (journal loaded log) b.time b'.time (let s = same.time in omega arith) m.past;
+  past = All-later time_of (journal loaded log) b.time (after_event b e).time (let s = event_time b e in omega arith) m.past;
 }
 
-keeps_same : (c : Brain) (b b' : Bank) (stack : List Kind) → SameRegs b b' → Keeps c b stack → Keeps c b' stack
-keeps_same c b b' stack s k = record {
-  hold = k.hold;
-  enough = λ m. k.enough (sym s.masked ∙ m);
-  tick_masked = λ n. (s.masked ∙ (k.tick_masked n).0, (k.tick_masked n).1);
-  live = k.live;
-  shut = k.shut;
-  built = k.built;
-}
-
--- the tick of the next step after the event
-pub record Moved (cost : ℕ) (trace : List Event) (e : Event) (now next next' : ℕ) (stack : List Kind) (log : List Turned) : Type 0 where
-  pub more : next ≤ next'
-  pub past : after cost (trace ++ e ∷ []) log ≤ next'
-  pub ends : All (EndsBy next') (trace ++ e ∷ [])
-  pub at_next : stack ≢ [] → next' ≡ after cost (trace ++ e ∷ []) log
-  pub put_off : (u : ℕ) → now ≤ u → u < next' → after cost (trace ++ e ∷ []) log ≤ u → free (trace ++ e ∷ []) u ≢ u
-
-awaits_grow : (loaded : Loaded) (nest : Nest) (cost : ℕ) (trace : List Event) (e : Event) (next next' : ℕ) (c : Brain) (b : Bank) (stack : List Kind) (log : List Turned) → b.time ≡ tick_of e → Logged loaded nest cost trace next c b stack log
-    → Moved cost trace e b.time next next' stack log → Awaits loaded cost (trace ++ e ∷ []) next' log
-awaits_grow loaded nest cost trace e next next' c b stack log at l m = record {
-  open_step = λ o. (let n = m.at_next (λ s. o (sym l.marks.stack_is ∙ s)) in omega arith);
-  idle = λ o u from below f k. elim (by_order u) [
-    | inl early ↦ (
-        let a : after cost trace log ≤ u = (let g = after_grows cost trace e log in let p = past_more e (after cost trace log) in omega arith) in
-        let soon : u < next = (let t = l.time in omega arith) in
-        sees_before trace e (journal loaded log) u k (omega arith) ∙ l.awaits.idle o u a soon (free_less trace e u f) k)
-    | inr late ↦ absurd (m.put_off u late below from f)
-  ];
-}
-  where
-    by_order : (u : ℕ) → (u < b.time) ⊎ (b.time ≤ u)
-    by_order u = by_test (nat_lt u b.time) refl
-      where
-        lt_from : (x y : ℕ) → nat_lt x y ≡ true → x < y
-        lt_from x y e = grind (arith, nat_tests)
-
-        ge_from : (x y : ℕ) → nat_lt x y ≡ false → y ≤ x
-        ge_from x y e = grind (arith, nat_tests)
-
-        by_test : (v : Bool) → nat_lt u b.time ≡ v → (u < b.time) ⊎ (b.time ≤ u)
-        by_test true e = inl (lt_from u b.time e)
-        by_test false e = inr (ge_from u b.time e)
-
-pub event_logged : (loaded : Loaded) (nest : Nest) (cost : ℕ) (trace : List Event) (e : Event) (next next' : ℕ) (c : Brain) (b b' : Bank) (stack : List Kind) (log : List Turned) → b.time ≡ tick_of e → Below (tick_of e) log
-    → Logged loaded nest cost trace next c b stack log → Moved cost trace e b.time next next' stack log → SameRegs b b' → Ties loaded (trace ++ e ∷ []) c b' log
-    → Logged loaded nest cost (trace ++ e ∷ []) next' c b' stack log
-event_logged loaded nest cost trace e next next' c b b' stack log at below l m same ties = record {
-  keeps = keeps_same c b b' stack same l.keeps;
-  sorted = l.sorted;
-  marks = marks_grow loaded nest trace e c b b' stack log at same l.marks;
-  ties = ties;
-  patient = rw (same.masked, same.time) (patient_grows loaded nest trace e c b stack log at below l.patient);
-  owes = l.owes;
-  reached = λ k o. reached_grows cost trace e log (steps_since k log) (entered_at k log) (l.reached k o) (l.reached_by k o (tick_of e) below);
-  reached_by = λ k o t b. subst (λ (x : ℕ). x < t) (sym (uses_before cost trace e (steps_since k log) (entered_at k log) (uses cost trace (steps_since k log) (entered_at k log)) refl (l.reached_by k o (tick_of e) below)))
-      (l.reached_by k o t b);
-  fits = fits_grow loaded nest cost trace e log below l.fits;
-  past = m.past;
-  awaits = awaits_grow loaded nest cost trace e next next' c b stack log at l m;
-  time = (let t = l.time in let s = same.time in let n = m.more in omega arith);
-  put_off = λ u from. m.put_off u (let s = same.time in omega arith);
-  stalls = m.ends;
-  at_next = m.at_next;
-}
+pub keeps_grow : (e : Event) (c : Brain) (b : Bank) (stack : List Kind) → Keeps c b stack → Keeps c (after_event b e) stack
+keeps_grow e c b stack k =
+    let same : SameRegs b (after_event b e) = same_regs b e in
+    record {
+      hold = k.hold;
+      enough = λ m. k.enough (sym same.masked ∙ m);
+      tick_masked = λ n. (same.masked ∙ (k.tick_masked n).0, (k.tick_masked n).1);
+      live = k.live;
+      shut = k.shut;
+      built = k.built;
+    }

@@ -1,5 +1,6 @@
 -- Small facts of the registers and the core.
-use Rattle.std.proofs.Common.{◌≡◌, ◌≤◌, ◌<◌, ◌+◌, ◌-◌, ◌/◌, ℕ, Bool, true, false, not, ◌&&◌, ◌||◌, ◌==◌, nat_le, nat_lt, if◌then◌else◌, List, [], ◌∷◌, ◌++◌, Option, Some, None, refl, sym, ◌∙◌, ap, subst, arith, ◌⊎◌, inl, inr}
+use Rattle.std.proofs.Common.{◌≡◌, ◌≤◌, ◌<◌, ◌+◌, ◌-◌, ◌/◌, ℕ, Bool, true, false, not, ◌&&◌, ◌||◌, ◌==◌, nat_lt, if◌then◌else◌, List, [], ◌∷◌, ◌++◌, Option, Some, None, refl, sym, ◌∙◌, ap, subst, arith, ◌≢◌}
+use Rattle.std.proofs.lemmas.Bool.{eq-eqb, ne_eqb, not_from_false, le-leb, leb-true, lt-ltb, le-ltb, or_left, or_right, or_parts, eqb-false}
 use Rattle.std.proofs.lemmas.Bool.Decides.{nat_tests}
 use Rattle.esc_base.specs.declared.kind.Kind.{Kind}
 use Rattle.esc_base.specs.declared.kind.Kind.TheVariants as kind
@@ -8,15 +9,16 @@ use Rattle.esc_base.specs.declared.signal.Mode.{Mode}
 use Rattle.esc_base.specs.declared.signal.Mode.TheVariants as mode
 use Rattle.esc_base.specs.declared.note.Note.{Note}
 use Rattle.esc_base.specs.declared.note.Note.TheVariants as note
-use Rattle.esc_base.specs.Numbers.{mode_number}
+use Rattle.esc_base.specs.Numbers.{kind_number, mode_number}
 use Rattle.timer_regs.specs.Bank.{Bank}
-use Rattle.timer_regs.specs.Effects.{after_read, written, after_entry, is_readable, is_reached, mode_of, shown_edge}
+use Rattle.timer_regs.specs.Effects.{after_read, written, is_readable, is_reached, mode_of, shown_edge}
 use Rattle.timer_regs.specs.declared.regs.Reg.{Reg}
 use Rattle.timer_regs.specs.declared.regs.Reg.TheVariants as reg
 use Rattle.interrupt_machine.specs.declared.firmware.Did.{Did}
 use Rattle.interrupt_machine.specs.Did.{Access, NoAccess, Reads, Writes, accessed, notes_of}
-use Rattle.interrupt_machine.specs.Open.{due_now}
+use Rattle.interrupt_machine.specs.Open.{due_now, is_open}
 use Rattle.interrupt_machine.specs.Turn.{gate_note, own_notes, leave_note}
+use Rattle.interrupt_machine.proofs.OpenKinds.{number_same}
 use Rattle.esc_core.specs.declared.state.CapAt.{CapAt}
 use Rattle.esc_core.specs.declared.state.CapAt.TheVariants as cap
 use Rattle.esc_core.specs.declared.state.TickAt.{TickAt}
@@ -26,10 +28,6 @@ use Rattle.esc_core.specs.declared.state.MainAt.TheVariants as main
 use Rattle.esc_core.specs.Cap.{edge_of, tick_at}
 use Rattle.esc_core.specs.Firmware.{cap_left, tick_left, main_left}
 use Rattle.esc_laws.specs.Tied.{IsBuilt}
-
-pub by_bool : (v : Bool) → (v ≡ true) ⊎ (v ≡ false)
-by_bool true = inl refl
-by_bool false = inr refl
 
 -- ---- an access leaves the gates and the time
 
@@ -52,22 +50,8 @@ same_gates b NoAccess = record { hi = refl; lo = refl; time = refl; level = refl
 same_gates b (Reads r) = read_gates b r
 same_gates b (Writes r v) = write_gates b r v
 
-entry_gates : (b : Bank) (k : Kind) → SameGates b (after_entry b k)
-entry_gates b kind.Cap = record { hi = refl; lo = refl; time = refl; level = refl }
-entry_gates b k = record { hi = refl; lo = refl; time = refl; level = refl }
-
-pub entry_time : (b : Bank) (k : Kind) → (after_entry b k).time ≡ b.time
-entry_time b k = (entry_gates b k).time
-
 no_gate : (m n : ℕ) (g : List Note) → (if (m == m) && (n == n) then [] else g) ≡ []
-no_gate m n g = by_test ((m == m) && (n == n)) g (same m n)
-  where
-    same : (m n : ℕ) → ((m == m) && (n == n)) ≡ true
-    same m n = grind (arith, nat_tests)
-
-    by_test : (v : Bool) (g : List Note) → v ≡ true → (if v then [] else g) ≡ []
-    by_test true g e = refl
-    by_test false g e = cc
+no_gate m n g = rw (eq-eqb m m refl, eq-eqb n n refl) refl
 
 -- so a step gives its own notes, and its return
 pub plain_notes : (b b' : Bank) (k : Kind) (did : Did) → SameGates b b' → own_notes b.hi b.lo b' k did ≡ notes_of did ++ leave_note b' k did
@@ -87,10 +71,7 @@ due_built w b kind.Pwm d = cc
 due_built w b kind.Comm d = cc
 
 pub tick_due : (w : Bool) (b : Bank) → b.number_read < b.time / 2400 → due_now w b kind.Tick ≡ true
-tick_due w b l = other (b.time / 2400) b.number_read l
-  where
-    other : (n m : ℕ) → m < n → not (n == m) ≡ true
-    other n m l = grind (arith, nat_tests)
+tick_due w b l = not_from_false (b.time / 2400 == b.number_read) (ne_eqb (b.time / 2400) b.number_read (λ e. omega arith))
 
 pub due_tick : (w : Bool) (b : Bank) → b.number_read ≤ b.time / 2400 → due_now w b kind.Tick ≡ true → b.number_read < b.time / 2400
 due_tick w b le d = less (b.time / 2400) b.number_read le d
@@ -98,34 +79,40 @@ due_tick w b le d = less (b.time / 2400) b.number_read le d
     less : (n m : ℕ) → m ≤ n → not (n == m) ≡ true → m < n
     less n m le e = grind (arith, nat_tests)
 
-pub or_left : (a b : Bool) → a ≡ true → (a || b) ≡ true
-or_left true b e = refl
-or_left false b e = cc
+-- ---- open kinds
 
-pub or_right : (a b : Bool) → b ≡ true → (a || b) ≡ true
-or_right true b e = refl
-or_right false b e = e
+pub of_self : (k : Kind) → (kind_number k == kind_number k) ≡ true
+of_self k = eq-eqb (kind_number k) (kind_number k) refl
 
-pub either : (a b : Bool) → (a || b) ≡ true → (a ≡ true) ⊎ (b ≡ true)
-either true b e = inl refl
-either false b e = inr e
+pub of_other : (j k : Kind) → j ≢ k → (kind_number j == kind_number k) ≡ false
+of_other j k ne = ne_eqb (kind_number j) (kind_number k) (λ e. ne (number_same j k e))
 
-pub both : (a b : Bool) → (a && b) ≡ true → (a ≡ true) × (b ≡ true)
-both true b e = (refl, e)
-both false b e = cc
+pub some_open : (stack : List Kind) (k : Kind) → is_open stack k ≡ true → stack ≢ []
+some_open [] k o = cc
+some_open (x ∷ outer) k o = λ e. cc
+
+-- a kind besides the innermost one is open where it is one of the outer ones
+pub outer_open : (k j : Kind) (outer : List Kind) → j ≢ k → is_open (k ∷ outer) j ≡ is_open outer j
+outer_open k j outer ne = ap (λ (v : Bool). v || is_open outer j) (of_other k j (λ e. ne (sym e)))
+
+pub not_open : (k j : Kind) (outer : List Kind) → is_open (k ∷ outer) j ≡ false → (j ≢ k) × (is_open outer j ≡ false)
+not_open k j outer f =
+    let parts = or_parts (kind_number k == kind_number j) (is_open outer j) f in
+    (λ s. eqb-false (kind_number k) (kind_number j) parts.0 (sym (ap kind_number s)), parts.1)
+
+-- a kind that is open after a step of the innermost one was open before
+pub left_open : (v : Bool) (k j : Kind) (outer : List Kind) → is_open (if v then outer else k ∷ outer) j ≡ true → is_open (k ∷ outer) j ≡ true
+left_open true k j outer o = or_right (kind_number k == kind_number j) (is_open outer j) o
+left_open false k j outer o = o
+
+-- ---- when CAP is due
 
 -- a closed window that wasn't taken, or a timer that was reached
 pub cap_due_window : (w : Bool) (b : Bank) → is_readable b ≡ true → b.taken ≡ false → due_now w b kind.Cap ≡ true
 cap_due_window w b r n = or_left (is_readable b && not b.taken) (is_reached b.timer b.time) (rw (r, n) refl)
 
-reached_by : (at t : ℕ) → at ≤ t → nat_le at t ≡ true
-reached_by at t le = grind (arith, nat_tests)
-
-pub reached_some : (o : Option ℕ) (at t : ℕ) → o ≡ Some at → at ≤ t → is_reached o t ≡ true
-reached_some o at t e le = rw e (reached_by at t le)
-
-pub reached_from : (at t : ℕ) → nat_le at t ≡ true → at ≤ t
-reached_from at t e = grind (arith, nat_tests)
+reached_some : (o : Option ℕ) (at t : ℕ) → o ≡ Some at → at ≤ t → is_reached o t ≡ true
+reached_some o at t e le = rw e (le-leb at t le)
 
 pub cap_due_timer : (w : Bool) (b : Bank) (at : ℕ) → b.timer ≡ Some at → at ≤ b.time → due_now w b kind.Cap ≡ true
 cap_due_timer w b at e le = or_right (is_readable b && not b.taken) (is_reached b.timer b.time) (reached_some b.timer at b.time e le)
@@ -138,7 +125,7 @@ due_window w b e d = window_at (is_readable b) b.taken (is_reached b.timer b.tim
     window_at false n t e d = (let z = sym e ∙ d in cc)
 
 pub due_timer : (w : Bool) (b : Bank) (at : ℕ) → b.timer ≡ Some at → b.taken ≡ true → due_now w b kind.Cap ≡ true → at ≤ b.time
-due_timer w b at e n d = reached_from at b.time (subst (λ (o : Option ℕ). is_reached o b.time ≡ true) e (timer_at (is_readable b) b.taken (is_reached b.timer b.time) n d))
+due_timer w b at e n d = leb-true at b.time (subst (λ (o : Option ℕ). is_reached o b.time ≡ true) e (timer_at (is_readable b) b.taken (is_reached b.timer b.time) n d))
   where
     timer_at : (r n t : Bool) → n ≡ true → ((r && not n) || t) ≡ true → t ≡ true
     timer_at true true t e d = d
@@ -183,27 +170,13 @@ abbrev at_level : ℕ → Bool → Edge
 at_level t level = record { t = tick_at t; level = level }
 
 falling_shown : (t : ℕ) → t < 2147483648 → (if nat_lt t 2147483648 then at_level t false else at_level (t - 2147483648) true) ≡ at_level t false
-falling_shown t l = by_test (nat_lt t 2147483648) t (small t l)
-  where
-    small : (t : ℕ) → t < 2147483648 → nat_lt t 2147483648 ≡ true
-    small t l = grind (arith, nat_tests)
-
-    by_test : (v : Bool) (t : ℕ) → v ≡ true → (if v then at_level t false else at_level (t - 2147483648) true) ≡ at_level t false
-    by_test true t e = refl
-    by_test false t e = cc
+falling_shown t l = rw (lt-ltb t 2147483648 l) refl
 
 rising_shown : (t : ℕ) → (if nat_lt (t + 2147483648) 2147483648 then at_level (t + 2147483648) false else at_level ((t + 2147483648) - 2147483648) true) ≡ at_level t true
-rising_shown t = by_test (nat_lt (t + 2147483648) 2147483648) t (large t)
+rising_shown t = rw (le-ltb (t + 2147483648) 2147483648 (omega arith)) (ap (λ (x : ℕ). at_level x true) (back t))
   where
-    large : (t : ℕ) → nat_lt (t + 2147483648) 2147483648 ≡ false
-    large t = grind (arith, nat_tests)
-
     back : (t : ℕ) → (t + 2147483648) - 2147483648 ≡ t
     back t = omega arith
-
-    by_test : (v : Bool) (t : ℕ) → v ≡ false → (if v then at_level (t + 2147483648) false else at_level ((t + 2147483648) - 2147483648) true) ≡ at_level t true
-    by_test true t e = cc
-    by_test false t e = ap (λ (x : ℕ). at_level x true) (back t)
 
 shown_at : (t : ℕ) (level : Bool) → t < 2147483648 → edge_of (if level then t + 2147483648 else t) ≡ at_level t level
 shown_at t true l = rising_shown t

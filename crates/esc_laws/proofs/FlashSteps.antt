@@ -1,5 +1,5 @@
 -- What a step of the machine does to the flash is what its notes say.
-use Rattle.std.proofs.Common.{◌≡◌, ◌≢◌, ℕ, Bool, true, false, if◌then◌else◌, List, [], ◌∷◌, ◌++◌, reverse, Option, Some, None, refl, sym, ◌∙◌, ap, subst, All, ◌⊎◌, inl, inr, append_assoc}
+use Rattle.std.proofs.Common.{◌≡◌, ◌≢◌, ℕ, Bool, true, false, List, [], ◌∷◌, ◌++◌, reverse, Some, refl, ◌∙◌, ap, subst, All, ◌⊎◌, inl, inr}
 use Rattle.std.proofs.lemmas.List.Elements.{All-nil, All-cons, All-head, All-tail, All-weaker}
 use Rattle.esc_base.specs.declared.kind.Kind.{Kind}
 use Rattle.esc_base.specs.declared.kind.Kind.TheVariants as kind
@@ -13,9 +13,9 @@ use Rattle.timer_regs.specs.Bank.{Bank}
 use Rattle.interrupt_machine.specs.declared.nest.Nest.{Nest}
 use Rattle.interrupt_machine.specs.declared.firmware.Did.{Did}
 use Rattle.interrupt_machine.specs.Turn.{own_notes}
+use Rattle.interrupt_machine.proofs.Waiting.{self_open}
 use Rattle.esc_core.specs.declared.state.MainAt.{MainAt}
 use Rattle.esc_core.specs.declared.state.MainAt.TheVariants as main
-use Rattle.esc_core.specs.declared.orders.Orders.{Orders}
 use Rattle.esc_core.specs.Brain.{Brain}
 use Rattle.esc_core.specs.Cap.{tick_at}
 use Rattle.esc_core.specs.Background.{result_of, main_step, main_saves}
@@ -27,12 +27,10 @@ use Rattle.esc_laws.specs.Saves.{FlashFits, settings_at}
 use Rattle.esc_laws.specs.Place.{place}
 use Rattle.esc_laws.specs.Steps.{Turned, journal}
 use Rattle.esc_laws.specs.Tied.{MainTied, IsBuilt}
-use Rattle.esc_laws.specs.Logged.{Logged, CoreTurn, turned}
-use Rattle.esc_laws.proofs.Pushes.{journal-push}
-use Rattle.esc_laws.proofs.Facts.{by_bool}
+use Rattle.esc_laws.specs.Logged.{Logged, CoreTurn}
 use Rattle.esc_laws.proofs.Saves.{is_save, fits_pushes, fits_saved, fits_spoilt}
 use Rattle.esc_laws.proofs.OwnTurns.{IsOwn, steady, own_are, step_notes, step_own}
-use Rattle.esc_laws.proofs.Stepping.{self_open, stepped_by}
+use Rattle.esc_laws.proofs.Stepping.{stepped_by}
 
 -- A step either leaves the flash, and has no P; or its one note is a P, and the flash is as that P says.
 abbrev pub Flashes : Loaded → Told → Told → Told → ℕ → List Note → List Note → Type 0

@@ -1,5 +1,6 @@
 -- Later events change nothing of what the notes and the steps before them said.
-use Rattle.std.proofs.Common.{◌≡◌, ◌≤◌, ◌<◌, ◌+◌, ℕ, Bool, true, false, not, ◌&&◌, ◌==◌, nat_le, nat_lt, if◌then◌else◌, List, [], ◌∷◌, ◌++◌, length, Some, None, refl, sym, ◌∙◌, ap, arith, All, ◌-◌, ◌/◌, max, reverse, length-append}
+use Rattle.std.proofs.Common.{◌≡◌, ◌≤◌, ◌<◌, ◌+◌, ℕ, Bool, true, false, not, ◌&&◌, ◌==◌, nat_le, nat_lt, if◌then◌else◌, List, [], ◌∷◌, ◌++◌, length, Some, None, refl, sym, ◌∙◌, ap, arith, All, ◌-◌, ◌/◌, max, reverse, length-append, true≢false}
+use Rattle.std.proofs.lemmas.Bool.{not-true, and_parts, false_from_ne_true, le-leb, leb-true, lt-ltb, ltb-true}
 use Rattle.std.proofs.lemmas.List.Elements.{All-head, All-tail}
 use Rattle.std.proofs.lemmas.List.{get_or_push}
 use Rattle.std.proofs.lemmas.Bool.Decides.{nat_tests}
@@ -24,8 +25,6 @@ use Rattle.arming.specs.ControlAt.{number_at}
 use Rattle.esc_laws.specs.Place.{Signal, Silent, Listens, Judged, Rests, place}
 use Rattle.esc_laws.specs.Windowed.{Answers, AnswersAt, WindowRule, Windowed}
 use Rattle.esc_laws.specs.Seen.{calls_cap, sees}
-use Rattle.esc_laws.specs.Steps.{past_stall, free}
-use Rattle.esc_laws.proofs.Pushes.{free-push}
 
 -- ---- windows
 
@@ -67,29 +66,6 @@ windowed_from loaded trace e before (n ∷ notes) past w =
 pub windowed_grows : (loaded : Loaded) (trace : List Event) (e : Event) (notes : List Note) → All (λ n. time_of n ≤ tick_of e) notes → Windowed loaded trace notes → Windowed loaded (trace ++ e ∷ []) notes
 windowed_grows loaded trace e notes past w = windowed_from loaded trace e [] notes past w
 
--- ---- stalls
-
-past_before : (e : Event) (t : ℕ) → t < tick_of e → past_stall t e ≡ t
-past_before (event.Stall at n) t l = not_in at.0 n t l
-  where
-    not_in : (at n t : ℕ) → t < at → (if nat_le at t && nat_lt t (at + n) then at + n else t) ≡ t
-    not_in at n t l = grind (arith, nat_tests)
-past_before (event.Edge at level) t l = refl
-past_before (event.Comp at level) t l = refl
-past_before (event.Serial at byte) t l = refl
-
-pub free_before : (trace : List Event) (e : Event) (t u : ℕ) → free trace t ≡ u → u < tick_of e → free (trace ++ e ∷ []) t ≡ u
-free_before trace e t u f l = rw (free-push trace e t, f) (past_before e u l)
-
-pub past_later : (e : Event) (t : ℕ) → t ≤ past_stall t e
-past_later (event.Stall at n) t = later at.0 n t
-  where
-    later : (at n t : ℕ) → t ≤ (if nat_le at t && nat_lt t (at + n) then at + n else t)
-    later at n t = grind (arith, nat_tests)
-past_later (event.Edge at level) t = omega arith
-past_later (event.Comp at level) t = omega arith
-past_later (event.Serial at byte) t = omega arith
-
 -- ---- what is seen due
 
 -- over numbers: a close is reached exactly where the window is closed
@@ -103,11 +79,8 @@ reached_at n l t = by_none (n == 0) l t
 pub reached_closed : (m : Mode) (heard : List Edge) (t : ℕ) → is_reached (close_of m heard) t ≡ is_closed m heard t
 reached_closed m heard t = reached_at (length heard) (last_at heard + wait m (length heard)) t
 
-pub last_at-push : (heard : List Edge) (x : Edge) → last_at (heard ++ x ∷ []) ≡ x.t.0
+last_at-push : (heard : List Edge) (x : Edge) → last_at (heard ++ x ∷ []) ≡ x.t.0
 last_at-push heard x = ap (λ (y : Edge). y.t.0) (get_or_push heard x blank (length (heard ++ x ∷ []) - 1) (sym (simp length-append (omega arith))))
-
-pub length-push : (heard : List Edge) (x : Edge) → length (heard ++ x ∷ []) ≡ length heard + 1
-length-push heard x = simp length-append (omega arith)
 
 open_at : (n l t : ℕ) → t < l → (not (n == 0) && nat_le l t) ≡ false
 open_at n l t lt = grind (arith, nat_tests)
@@ -117,25 +90,20 @@ open_before : (m : Mode) (heard : List Edge) (x : Edge) (t : ℕ) → t < x.t.0 
 open_before m heard x t lt =
     open_at (length (heard ++ x ∷ [])) (last_at (heard ++ x ∷ []) + wait m (length (heard ++ x ∷ []))) t (rw (last_at-push heard x) (omega arith))
 
-contra : (a b : Bool) → (a ≡ true → b ≡ true) → b ≡ false → a ≡ false
-contra true b f e = let g = f refl in (let z = sym g ∙ e in cc)
-contra false b f e = refl
-
-not_closed : (a c b : Bool) → (a && not c && b) ≡ true → c ≡ false
-not_closed true true true e = cc
-not_closed true true false e = cc
-not_closed true false b e = refl
-not_closed false c b e = cc
+pub heard_open : (m : Mode) (w : ℕ) (edges : List Edge) (x : Edge) → hears m w edges x ≡ true → is_closed m edges x.t.0 ≡ false
+heard_open m w edges x h =
+    let not_yet = and_parts (nat_lt w x.t.0 && not (is_closed m edges x.t.0)) _ h in
+    not-true (is_closed m edges x.t.0) (and_parts (nat_lt w x.t.0) (not (is_closed m edges x.t.0)) not_yet.0).1
 
 heard_before : (v : Bool) (m : Mode) (w : ℕ) (heard : List Edge) (x : Edge) (t : ℕ) → hears m w heard x ≡ v → t < x.t.0 → is_closed m (if v then heard ++ x ∷ [] else heard) t ≡ is_closed m heard t
 heard_before true m w heard x t h lt =
-    let shut : is_closed m heard x.t.0 ≡ false = not_closed (nat_lt w x.t.0) (is_closed m heard x.t.0) _ h in
-    open_before m heard x t lt ∙ sym (contra (is_closed m heard t) (is_closed m heard x.t.0) (closed_later m heard t x.t.0 (omega arith)) shut)
+    let shut : is_closed m heard x.t.0 ≡ false = heard_open m w heard x h in
+    open_before m heard x t lt ∙ sym (false_from_ne_true (is_closed m heard t) (λ c. true≢false (sym (closed_later m heard t x.t.0 (omega arith) c) ∙ shut)))
 heard_before false m w heard x t h lt = refl
 
 heard_at : (v : Bool) (m : Mode) (w : ℕ) (heard : List Edge) (x : Edge) (t : ℕ) → hears m w heard x ≡ v → t ≤ x.t.0 → is_closed m heard t ≡ true → is_closed m (if v then heard ++ x ∷ [] else heard) t ≡ true
 heard_at true m w heard x t h le c =
-    let shut : is_closed m heard x.t.0 ≡ false = not_closed (nat_lt w x.t.0) (is_closed m heard x.t.0) _ h in
+    let shut : is_closed m heard x.t.0 ≡ false = heard_open m w heard x h in
     let open_too = closed_later m heard t x.t.0 le c in (let z = sym open_too ∙ shut in cc)
 heard_at false m w heard x t h le c = c
 
@@ -148,13 +116,13 @@ edge_at_close true edges x w t m le c = rw (burst-push edges x w m) (heard_at (h
 edge_at_close false edges x w t m le c = c
 
 -- before a later event the window is closed exactly where it was
-pub closed_before : (trace : List Event) (e : Event) (w t : ℕ) (m : Mode) → t < tick_of e → is_closed m (burst (line (trace ++ e ∷ [])).edges w m) t ≡ is_closed m (burst (line trace).edges w m) t
+closed_before : (trace : List Event) (e : Event) (w t : ℕ) (m : Mode) → t < tick_of e → is_closed m (burst (line (trace ++ e ∷ [])).edges w m) t ≡ is_closed m (burst (line trace).edges w m) t
 closed_before trace (event.Edge at level) w t m lt = rw (line-push trace (event.Edge at level)) (edge_before (differ (line trace).level level) (line trace).edges (record { t = at; level = level }) w t m lt)
 closed_before trace (event.Comp at level) w t m lt = rw (line-push trace (event.Comp at level)) refl
 closed_before trace (event.Serial at byte) w t m lt = rw (line-push trace (event.Serial at byte)) refl
 closed_before trace (event.Stall at n) w t m lt = rw (line-push trace (event.Stall at n)) refl
 
-pub closed_still : (trace : List Event) (e : Event) (w t : ℕ) (m : Mode) → t ≤ tick_of e → is_closed m (burst (line trace).edges w m) t ≡ true → is_closed m (burst (line (trace ++ e ∷ [])).edges w m) t ≡ true
+closed_still : (trace : List Event) (e : Event) (w t : ℕ) (m : Mode) → t ≤ tick_of e → is_closed m (burst (line trace).edges w m) t ≡ true → is_closed m (burst (line (trace ++ e ∷ [])).edges w m) t ≡ true
 closed_still trace (event.Edge at level) w t m le c = rw (line-push trace (event.Edge at level)) (edge_at_close (differ (line trace).level level) (line trace).edges (record { t = at; level = level }) w t m le c)
 closed_still trace (event.Comp at level) w t m le c = rw (line-push trace (event.Comp at level)) c
 closed_still trace (event.Serial at byte) w t m le c = rw (line-push trace (event.Serial at byte)) c
@@ -204,16 +172,10 @@ cap_later trace (Listens w m) t u le c =
     let heard : List Edge = burst (line trace).edges w (mode_of m) in
     reached_closed (mode_of m) heard u ∙ closed_later (mode_of m) heard t u le (sym (reached_closed (mode_of m) heard t) ∙ c)
 cap_later trace (Judged f opens) t u le c = c
-cap_later trace (Rests f r) t u le c = rest_later (max (f + 1200) r) t u le c
-  where
-    rest_later : (a t u : ℕ) → t ≤ u → nat_le a t ≡ true → nat_le a u ≡ true
-    rest_later a t u le e = grind (arith, nat_tests)
+cap_later trace (Rests f r) t u le c = le-leb (max (f + 1200) r) u (let l = leb-true (max (f + 1200) r) t c in omega arith)
 
 number_later : (n t u : ℕ) → t ≤ u → nat_lt n (t / 2400) ≡ true → nat_lt n (u / 2400) ≡ true
-number_later n t u le e = let m : t / 2400 ≤ u / 2400 = omega arith in more n (t / 2400) (u / 2400) m e
-  where
-    more : (n a b : ℕ) → a ≤ b → nat_lt n a ≡ true → nat_lt n b ≡ true
-    more n a b le e = grind (arith, nat_tests)
+number_later n t u le e = lt-ltb n (u / 2400) (let l = ltb-true n (t / 2400) e in omega arith)
 
 pub sees_later : (trace : List Event) (notes : List Note) (t u : ℕ) (k : Kind) → t ≤ u → sees trace notes t k ≡ true → sees trace notes u k ≡ true
 sees_later trace notes t u kind.Cap le s = cap_later trace (place notes).signal t u le s

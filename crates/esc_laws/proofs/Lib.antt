@@ -1,4 +1,5 @@
 pub mod Pushes
+pub mod Stalls
 pub mod Growth
 pub mod StepGrowth
 pub mod Notes

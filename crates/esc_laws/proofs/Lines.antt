@@ -1,5 +1,6 @@
 -- What the ties become as the trace grows by an event.
-use Rattle.std.proofs.Common.{◌≡◌, ◌≤◌, ◌<◌, ◌+◌, ◌-◌, ℕ, Bool, true, false, not, ◌&&◌, ◌==◌, nat_le, nat_lt, if◌then◌else◌, List, [], ◌∷◌, ◌++◌, length, refl, sym, ◌∙◌, ap, subst, arith, lit≤, All, ◌⊎◌, inl, inr, length-append}
+use Rattle.std.proofs.Common.{◌≡◌, ◌≤◌, ◌<◌, ◌+◌, ◌-◌, ℕ, Bool, true, false, not, ◌&&◌, ◌==◌, nat_le, if◌then◌else◌, List, [], ◌∷◌, ◌++◌, length, refl, sym, ◌∙◌, ap, subst, arith, lit≤, All, inl, inr, length-append, true≢false}
+use Rattle.std.proofs.lemmas.Bool.{and_parts, and_right, cases_lt}
 use Rattle.std.proofs.lemmas.Bool.Decides.{nat_tests}
 use Rattle.std.proofs.lemmas.List.{get_or_push, get_or_append_left}
 use Rattle.std.proofs.lemmas.List.Elements.{All-push}
@@ -23,11 +24,10 @@ use Rattle.esc_core.specs.Cap.{tick_at}
 use Rattle.esc_laws.specs.Place.{Place, place}
 use Rattle.esc_laws.specs.Steps.{Turned, journal}
 use Rattle.esc_laws.specs.Tied.{CapView, cap_view, Hears, WindowSound}
-use Rattle.esc_laws.specs.Logged.{Ties}
+use Rattle.esc_laws.specs.Logged.{Ties, after_event}
 use Rattle.esc_laws.proofs.CapTies.{closing_closed}
 use Rattle.esc_laws.proofs.Dues.{Follows, signal_follows}
-use Rattle.esc_laws.proofs.Facts.{both}
-use Rattle.esc_laws.proofs.Growth.{close_grows}
+use Rattle.esc_laws.proofs.Growth.{close_grows, heard_open}
 
 -- ---- an event that isn't of the line
 
@@ -47,7 +47,7 @@ plain_follows trace e c b p same le = record {
   closes = λ w m at h l. close_grows trace e w at (mode_of m) h (omega arith);
 }
 
-pub plain_ties : (loaded : Loaded) (trace : List Event) (e : Event) (c : Brain) (b : Bank) (log : List Turned) → line (trace ++ e ∷ []) ≡ line trace → b.time ≤ tick_of e → Ties loaded trace c b log → Ties loaded (trace ++ e ∷ []) c b log
+plain_ties : (loaded : Loaded) (trace : List Event) (e : Event) (c : Brain) (b : Bank) (log : List Turned) → line (trace ++ e ∷ []) ≡ line trace → b.time ≤ tick_of e → Ties loaded trace c b log → Ties loaded (trace ++ e ∷ []) c b log
 plain_ties loaded trace e c b log same le t = record {
   signal = signal_follows (place (journal loaded log)).signal c.cap_at (cap_view trace c b (place (journal loaded log))) (cap_view (trace ++ e ∷ []) c b (place (journal loaded log)))
       (plain_follows trace e c b (place (journal loaded log)) same le) t.signal;
@@ -99,11 +99,7 @@ edge_hears v w m x h =
     ∙ ap (λ (es : List Edge). if hears (mode_of m) w (burst (line v.trace).edges w (mode_of m)) x then es ++ x ∷ [] else es) h.edges
 
 closed_deaf : (w : Window) (x : Edge) → window_closed w x.t.0 ≡ true → window_hears w x ≡ false
-closed_deaf w x c = unheard w.armed (hears w.mode w.opened w.edges x) (deaf w.mode w.opened w.edges x (both w.armed (is_closed w.mode w.edges x.t.0) c).1)
-  where
-    unheard : (a b : Bool) → b ≡ false → (a && b) ≡ false
-    unheard true b e = e
-    unheard false b e = refl
+closed_deaf w x c = and_right w.armed (hears w.mode w.opened w.edges x) (deaf w.mode w.opened w.edges x (and_parts w.armed (is_closed w.mode w.edges x.t.0) c).1)
 
 abbrev edge_bank : Bank → Bool → Bank
 edge_bank b level = record b { level = level; window = after_edge b.window (edge_now b level) }
@@ -147,67 +143,29 @@ most_some mode.Servo = lit≤ tt
 
 -- a window with the most edges is closed from the last one on
 full_closed : (n most last limit t : ℕ) → 1 ≤ most → most ≤ n → last ≤ t → (not (n == 0) && nat_le (last + (if nat_le most n then 0 else limit)) t) ≡ true
-full_closed n most last limit t some full past = by_full (nat_le most n) n last limit t (is_full most n full) (omega arith) past
-  where
-    is_full : (most n : ℕ) → most ≤ n → nat_le most n ≡ true
-    is_full most n l = grind (arith, nat_tests)
-
-    now : (n last t : ℕ) → 1 ≤ n → last ≤ t → (not (n == 0) && nat_le (last + 0) t) ≡ true
-    now n last t some past = grind (arith, nat_tests)
-
-    by_full : (v : Bool) (n last limit t : ℕ) → v ≡ true → 1 ≤ n → last ≤ t → (not (n == 0) && nat_le (last + (if v then 0 else limit)) t) ≡ true
-    by_full true n last limit t e some past = now n last t some past
-    by_full false n last limit t e some past = cc
+full_closed n most last limit t some full past = grind (arith, nat_tests)
 
 last_past : (edges : List Edge) (t : ℕ) → All (λ e. e.t.0 ≤ t) edges → 1 ≤ length edges → last_at edges ≤ t
 last_past edges t past some = past (length edges - 1) blank (omega arith)
 
-heard_open : (m : Mode) (w : ℕ) (edges : List Edge) (x : Edge) → hears m w edges x ≡ true → is_closed m edges x.t.0 ≡ false
-heard_open m w edges x h = not_closed (nat_lt w x.t.0) (is_closed m edges x.t.0) _ h
-  where
-    not_closed : (a c b : Bool) → (a && not c && b) ≡ true → c ≡ false
-    not_closed true true true e = cc
-    not_closed true true false e = cc
-    not_closed true false b e = refl
-    not_closed false c b e = cc
-
 still_few : (w : Window) (x : Edge) → WindowSound w x.t.0 → hears w.mode w.opened w.edges x ≡ true → length w.edges + 1 ≤ most w.mode
-still_few w x s h = by_number (nat_le (most w.mode) (length w.edges)) refl
-  where
-    more : (a b : ℕ) → nat_le a b ≡ false → b + 1 ≤ a
-    more a b e = grind (arith, nat_tests)
-
-    le_from : (a b : ℕ) → nat_le a b ≡ true → a ≤ b
-    le_from a b e = grind (arith, nat_tests)
-
-    by_number : (v : Bool) → nat_le (most w.mode) (length w.edges) ≡ v → length w.edges + 1 ≤ most w.mode
-    by_number false e = more (most w.mode) (length w.edges) e
-    by_number true e =
-        let some = most_some w.mode in
-        let full = le_from (most w.mode) (length w.edges) e in
-        let past = last_past w.edges x.t.0 s.past (omega arith) in
-        let closed = full_closed (length w.edges) (most w.mode) (last_at w.edges) _ x.t.0 some full past in
-        let opened = heard_open w.mode w.opened w.edges x h in
-        absurd (let z : true ≡ false = sym closed ∙ opened in cc)
+still_few w x s h = elim (cases_lt (length w.edges) (most w.mode)) [
+  | inl few ↦ omega arith
+  | inr full ↦ (
+      let some = most_some w.mode in
+      let past = last_past w.edges x.t.0 s.past (omega arith) in
+      let closed = full_closed (length w.edges) (most w.mode) (last_at w.edges) _ x.t.0 some full past in
+      absurd (true≢false (sym closed ∙ heard_open w.mode w.opened w.edges x h)))
+]
 
 front_edge : (edges : List Edge) (x : Edge) (i : ℕ) → i < length edges → edge_at (edges ++ x ∷ []) i ≡ edge_at edges i
 front_edge edges x i l = get_or_append_left edges (x ∷ []) blank i l
 
 in_order_push : (edges : List Edge) (x : Edge) → IsInOrder edges → All (λ e. e.t.0 ≤ x.t.0) edges → IsInOrder (edges ++ x ∷ [])
-in_order_push edges x o past i j le l = elim (by_place (nat_lt j (length edges)) refl) [
+in_order_push edges x o past i j le l = elim (cases_lt j (length edges)) [
   | inl inside ↦ rw (front_edge edges x i (omega arith), front_edge edges x j inside) (o i j le inside)
-  | inr last ↦ rw (get_or_push edges x blank j (sym last)) (All-push (λ e. e.t.0 ≤ x.t.0) edges x past (omega arith) i blank (omega arith))
+  | inr last ↦ rw (get_or_push edges x blank j (let len = length-append edges (x ∷ []) in omega arith)) (All-push (λ e. e.t.0 ≤ x.t.0) edges x past (omega arith) i blank (omega arith))
 ]
-  where
-    by_place : (v : Bool) → nat_lt j (length edges) ≡ v → (j < length edges) ⊎ (j ≡ length edges)
-    by_place true e = inl (lt_from j (length edges) e)
-      where
-        lt_from : (a b : ℕ) → nat_lt a b ≡ true → a < b
-        lt_from a b e = grind (arith, nat_tests)
-    by_place false e = inr (let more = ge_from j (length edges) e in let len = length-append edges (x ∷ []) in omega arith)
-      where
-        ge_from : (a b : ℕ) → nat_lt a b ≡ false → b ≤ a
-        ge_from a b e = grind (arith, nat_tests)
 
 edge_sound : (w : Window) (x : Edge) → WindowSound w x.t.0 → WindowSound (after_edge w x) x.t.0
 edge_sound w x s = by_test (window_hears w x) refl
@@ -216,7 +174,7 @@ edge_sound w x s = by_test (window_hears w x) refl
     by_test true e = record {
       past = All-push (λ y. y.t.0 ≤ x.t.0) w.edges x s.past (omega arith);
       order = in_order_push w.edges x s.order s.past;
-      few = (let len = length-append w.edges (x ∷ []) in let f = still_few w x s (both w.armed (hears w.mode w.opened w.edges x) e).1 in omega arith);
+      few = (let len = length-append w.edges (x ∷ []) in let f = still_few w x s (and_parts w.armed (hears w.mode w.opened w.edges x) e).1 in omega arith);
     }
     by_test false e = s
 
@@ -249,5 +207,11 @@ edge_ties loaded false trace c b log level d t =
     let same : line (trace ++ e ∷ []) ≡ line trace = new ∙ ap (λ (l : Bool). record { level = l; edges = (line trace).edges }) (sym (same_level (line trace).level level d')) in
     plain_ties loaded trace e c b log same (omega arith) t
 
-pub line_ties : (loaded : Loaded) (trace : List Event) (c : Brain) (b : Bank) (log : List Turned) (level : Bool) → Ties loaded trace c b log → Ties loaded (trace ++ event.Edge (tick_at b.time) level ∷ []) c (after_line b level) log
-line_ties loaded trace c b log level t = edge_ties loaded (differ b.level level) trace c b log level refl t
+-- ---- the ties after any event
+
+pub event_ties : (loaded : Loaded) (trace : List Event) (e : Event) (c : Brain) (b : Bank) (log : List Turned) → tick_of e ≡ b.time → Ties loaded trace c b log → Ties loaded (trace ++ e ∷ []) c (after_event b e) log
+event_ties loaded trace (event.Edge at level) c b log is t =
+    subst (λ (n : ℕ). Ties loaded (trace ++ event.Edge (tick_at n) level ∷ []) c (after_line b level) log) (sym is) (edge_ties loaded (differ b.level level) trace c b log level refl t)
+event_ties loaded trace (event.Comp at level) c b log is t = plain_ties loaded trace (event.Comp at level) c b log (line-push trace (event.Comp at level)) (omega arith) t
+event_ties loaded trace (event.Serial at byte) c b log is t = plain_ties loaded trace (event.Serial at byte) c b log (line-push trace (event.Serial at byte)) (omega arith) t
+event_ties loaded trace (event.Stall at n) c b log is t = plain_ties loaded trace (event.Stall at n) c b log (line-push trace (event.Stall at n)) (omega arith) t

@@ -1,6 +1,5 @@
 -- What an own step of MAIN keeps.
-use Rattle.std.proofs.Common.{◌≡◌, ◌≢◌, ◌+◌, ℕ, Bool, true, false, if◌then◌else◌, List, [], ◌∷◌, ◌++◌, reverse, Some, refl, sym, ◌∙◌, ap, subst}
-use Rattle.esc_base.specs.declared.kind.Kind.{Kind}
+use Rattle.std.proofs.Common.{◌≡◌, ◌≢◌, ◌+◌, ℕ, Bool, true, List, [], ◌∷◌, ◌++◌, reverse, refl, sym, ◌∙◌, ap, subst}
 use Rattle.esc_base.specs.declared.kind.Kind.TheVariants as kind
 use Rattle.esc_base.specs.declared.event.Event.{Event}
 use Rattle.esc_base.specs.declared.note.Note.{Note}
@@ -8,14 +7,11 @@ use Rattle.esc_base.specs.declared.note.Note.TheVariants as note
 use Rattle.settings_block.specs.declared.stored.Loaded.{Loaded}
 use Rattle.timer_regs.specs.Bank.{Bank}
 use Rattle.interrupt_machine.specs.declared.nest.Nest.{Nest}
-use Rattle.interrupt_machine.specs.Did.{NoAccess}
-use Rattle.interrupt_machine.specs.Open.{innermost, outer_ones}
 use Rattle.arming.proofs.InOrder.{reverse-push}
 use Rattle.arming.proofs.FrameTies.{other_stands}
 use Rattle.esc_core.specs.declared.state.MainAt.{MainAt}
 use Rattle.esc_core.specs.declared.state.MainAt.TheVariants as main
 use Rattle.esc_core.specs.Brain.{Brain}
-use Rattle.esc_core.specs.Stepped.{Stepped, goes_on}
 use Rattle.esc_core.specs.Cap.{tick_at}
 use Rattle.esc_core.specs.Background.{result_of, saving_step, main_step}
 use Rattle.esc_laws.specs.Place.{Place, next, place}
@@ -47,17 +43,12 @@ saving_out loaded nest trace c b rest saved i inside asked none =
       stack_is = ap (λ (q : Place). q.stack) at;
     }
 
-pick_then : (P : Stepped → Type 0) (v : Bool) (x y : Stepped) → v ≡ true → P x → P (if v then x else y)
-pick_then P true x y e h = h
-pick_then P false x y e h = cc
-
 main_place : (loaded : Loaded) (at : MainAt) (nest : Nest) (trace : List Event) (c : Brain) (b : Bank) (rest : List Note) (saved : Bool) → at ≢ main.Back → at ≢ main.Shut → OwnIn loaded nest trace c b rest
     → MainTied at c.orders.save (place (opening loaded ++ rest)).saves → IsIn kind.Main (place (opening loaded ++ rest))
     → StepOut loaded nest trace b rest (main_step saved at c b) (place (opening loaded ++ rest)).stack
 main_place loaded main.Shut nest trace c b rest saved nb ns i m inside = absurd (ns refl)
 main_place loaded main.Work nest trace c b rest saved nb ns i m inside =
-    pick_then (λ (s : Stepped). StepOut loaded nest trace b rest s (place (opening loaded ++ rest)).stack) c.orders.save (saving_step saved (record c { main_at = main.Back }) b)
-    (goes_on (record c { main_at = main.Back }) NoAccess) m.0 (saving_out loaded nest trace c b rest saved i inside m.0 m.1)
+    rw m.0 (saving_out loaded nest trace c b rest saved i inside m.0 m.1)
 main_place loaded main.Back nest trace c b rest saved nb ns i m inside = absurd (nb refl)
 
 pub main_out : (loaded : Loaded) (nest : Nest) (trace : List Event) (c : Brain) (b : Bank) (rest : List Note) (saved : Bool) → c.main_at ≢ main.Back → c.main_at ≢ main.Shut → OwnIn loaded nest trace c b rest → IsIn kind.Main (place (opening loaded ++ rest))

@@ -1,5 +1,5 @@
 -- The journal after one more note.
-use Rattle.std.proofs.Common.{◌≡◌, ◌≤◌, ℕ, List, [], ◌∷◌, ◌++◌, arith, All, slice_index_or}
+use Rattle.std.proofs.Common.{◌≡◌, ◌≤◌, ℕ, List, [], ◌∷◌, ◌++◌, arith, All}
 use Rattle.std.proofs.lemmas.List.Elements.{All-push}
 use Rattle.std.proofs.lemmas.List.Sums.{fold-append}
 use Rattle.std.specs.List.{fold}
@@ -38,11 +38,3 @@ said_push loaded nest trace t rest n s at w r =
       nested = each_push (NestRule nest) (opening loaded) rest n s.nested r;
       past = All-push (λ x. time_of x ≤ t) (opening loaded ++ rest) n s.past (rw at (omega arith));
     }
-
-pub said_later : (loaded : Loaded) (nest : Nest) (trace : List Event) (t u : ℕ) (rest : List Note) → t ≤ u → Said loaded nest trace t rest → Said loaded nest trace u rest
-said_later loaded nest trace t u rest le s = record {
-  in_time = s.in_time;
-  windowed = s.windowed;
-  nested = s.nested;
-  past = λ k d l. (let h : time_of (slice_index_or (opening loaded ++ rest) k d) ≤ t = s.past k d l in omega arith);
-}

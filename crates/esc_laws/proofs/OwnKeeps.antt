@@ -1,11 +1,10 @@
 -- What holds between any two steps holds after a step of the innermost handler, and so do the ties.
-use Rattle.std.proofs.Common.{◌≡◌, ◌≢◌, ◌≤◌, ◌<◌, ◌+◌, ◌-◌, ℕ, Bool, true, false, ◌||◌, ◌==◌, nat_lt, if◌then◌else◌, List, ◌∷◌, ◌++◌, Some, refl, sym, ◌∙◌, ap, subst, arith, lit≤, inl, inr}
-use Rattle.std.proofs.lemmas.Bool.Decides.{nat_tests}
+use Rattle.std.proofs.Common.{◌≡◌, ◌≢◌, ◌≤◌, ◌<◌, ◌-◌, ℕ, Bool, true, false, nat_lt, if◌then◌else◌, List, ◌∷◌, ◌++◌, Some, refl, sym, ◌∙◌, ap, subst, arith, lit≤, inl, inr}
+use Rattle.std.proofs.lemmas.Bool.{cond_both, true≢false}
 use Rattle.esc_base.specs.declared.kind.Kind.{Kind}
 use Rattle.esc_base.specs.declared.kind.Kind.TheVariants as kind
 use Rattle.esc_base.specs.declared.event.Event.{Event}
 use Rattle.esc_base.specs.declared.note.Note.{Note}
-use Rattle.esc_base.specs.Numbers.{kind_number}
 use Rattle.settings_block.specs.declared.stored.Loaded.{Loaded}
 use Rattle.timer_regs.specs.Bank.{Bank}
 use Rattle.timer_regs.specs.Effects.{read_value}
@@ -13,7 +12,7 @@ use Rattle.timer_regs.specs.declared.regs.Reg.TheVariants as reg
 use Rattle.interrupt_machine.specs.declared.nest.Nest.{Nest}
 use Rattle.interrupt_machine.specs.Did.{Reads, accessed}
 use Rattle.interrupt_machine.specs.Open.{innermost, is_open, IsStack}
-use Rattle.interrupt_machine.proofs.OpenKinds.{live_more, live_less, number_same, same_kind}
+use Rattle.interrupt_machine.proofs.OpenKinds.{live_more, live_less, same_kind}
 use Rattle.arming.specs.Decide.{decide}
 use Rattle.arming.specs.Kept.{after_tick, view_of}
 use Rattle.esc_core.specs.declared.state.CapAt.{CapAt}
@@ -30,7 +29,7 @@ use Rattle.esc_core.proofs.Bounds.{CapMoves, cap_moves, MainMoves, main_moves, B
 use Rattle.esc_laws.specs.Place.{place}
 use Rattle.esc_laws.specs.Steps.{opening}
 use Rattle.esc_laws.specs.Tied.{Keeps, SignalTied, cap_view, TickTied, MainTied, IsBuilt}
-use Rattle.esc_laws.proofs.Facts.{or_right}
+use Rattle.esc_laws.proofs.Facts.{outer_open, not_open, left_open}
 use Rattle.esc_laws.proofs.OwnSteps.{OwnIn, OwnOut, StepOut, cap_out}
 use Rattle.esc_laws.proofs.TickSteps.{tick_out}
 use Rattle.esc_laws.proofs.MainSteps.{main_out}
@@ -42,10 +41,6 @@ use Rattle.esc_laws.proofs.OwnTurns.{step_notes, open_left, cap_goes, tick_goes,
 pub record TickMask (b : Bank) (s : Stepped) : Type 0 where
   pub enough : (accessed b s.access).masked ≡ true → (tick_need s.core.tick_at ≤ s.core.hold) × (s.over ≡ false)
   pub stands : tick_need s.core.tick_at ≤ 8 → ((accessed b s.access).masked ≡ true) × (s.over ≡ false)
-
-counted_some : (m : Bool) (h n : ℕ) → (m ≡ true → n + 1 ≤ h) → m ≡ true → n ≤ (if m then h - 1 else h)
-counted_some true h n f e = let l = f refl in omega arith
-counted_some false h n f e = cc
 
 counted_most : (m : Bool) (h : ℕ) → h ≤ 8 → (if m then h - 1 else h) ≤ 8
 counted_most true h l = omega arith
@@ -66,7 +61,7 @@ tick_mask tick.Shut c b l le enough up = absurd (omega arith)
 tick_mask tick.Raise c b l le enough up = record { enough = λ m. (lit≤ tt, refl); stands = λ n. (refl, refl) }
 tick_mask tick.Read c b l le enough up =
     read_mask (nat_lt c.control.number (read_value b reg.TickState)) (read_value b reg.TickState) (counted_down c b) b
-    (counted_some b.masked c.hold 1 enough) (up (lit≤ tt))
+    (λ m. cond_both b.masked (c.hold - 1) c.hold (λ n. 1 ≤ n) (λ on. (let h = enough on in omega arith)) (λ off. absurd (true≢false (sym m ∙ off)))) (up (lit≤ tt))
 tick_mask tick.Lower c b l le enough up = record { enough = λ m. cc; stands = λ n. absurd (omega arith) }
 tick_mask tick.Back c b l le enough up = record { enough = λ m. absurd (let n = enough m in omega arith); stands = λ n. absurd (omega arith) }
 
@@ -172,22 +167,12 @@ shut_left : (v : Bool) (k : Kind) (c c' : Brain) (outer : List Kind) → ((j : K
     → (v ≡ true → left_of c' k ≡ 0) → (j : Kind) → is_open (if v then outer else k ∷ outer) j ≡ false → left_of c' j ≡ 0
 shut_left true k c c' outer shut others none j f = elim (same_kind j k) [
   | inl s ↦ subst (λ (x : Kind). left_of c' x ≡ 0) (sym s) (none refl)
-  | inr ne ↦ others j ne ∙ shut j (or_none k j outer ne f)
+  | inr ne ↦ others j ne ∙ shut j (outer_open k j outer ne ∙ f)
 ]
-  where
-    none_by : (m n : ℕ) (b : Bool) → (m ≡ n → ⊥) → b ≡ false → ((m == n) || b) ≡ false
-    none_by m n b ne f = grind (arith, nat_tests)
-
-    or_none : (k j : Kind) (outer : List Kind) → j ≢ k → is_open outer j ≡ false → is_open (k ∷ outer) j ≡ false
-    or_none k j outer ne f = none_by (kind_number k) (kind_number j) (is_open outer j) (λ e. ne (sym (number_same k j e))) f
-shut_left false k c c' outer shut others none j f = others j (λ s. absurd (self_not (kind_number k) (kind_number j) (is_open outer j) f (sym (ap kind_number s)))) ∙ shut j f
-  where
-    self_not : (m n : ℕ) (b : Bool) → ((m == n) || b) ≡ false → m ≡ n → ⊥
-    self_not m n b f e = grind (arith, nat_tests)
+shut_left false k c c' outer shut others none j f = others j (not_open k j outer f).0 ∙ shut j f
 
 built_left : (v : Bool) (k : Kind) (outer : List Kind) → ((j : Kind) → is_open (k ∷ outer) j ≡ true → IsBuilt j) → (j : Kind) → is_open (if v then outer else k ∷ outer) j ≡ true → IsBuilt j
-built_left true k outer built j o = built j (or_right (kind_number k == kind_number j) (is_open outer j) o)
-built_left false k outer built j o = built j o
+built_left v k outer built j o = built j (left_open v k j outer o)
 
 pub keeps_own : (k : Kind) (saved : Bool) (c : Brain) (b : Bank) (outer : List Kind) → IsBuilt k → IsStack (k ∷ outer) → Keeps c b (k ∷ outer) → 0 < left_of c k → Bounds k c b (kind_step k saved (counted_down c b) b)
     → Keeps (kind_step k saved (counted_down c b) b).core (accessed b (kind_step k saved (counted_down c b) b).access) (open_left k outer (kind_step k saved (counted_down c b) b))
@@ -225,33 +210,24 @@ cap_turn : (loaded : Loaded) (nest : Nest) (trace : List Event) (c : Brain) (b :
 cap_turn loaded nest trace c b rest outer i same l = elim (cap_goes c.cap_at c b l) [
   | inl back ↦ rw back (cap_back loaded nest trace c b rest outer i same (subst (λ (at : CapAt). SignalTied (place (opening loaded ++ rest)).signal at (cap_view trace c b (place (opening loaded ++ rest)))) back i.signal))
   | inr on ↦ goes_out loaded nest trace b rest (cap_step c.cap_at c b) kind.Cap outer on.2
-      (subst (λ (st : List Kind). StepOut loaded nest trace b rest (cap_step c.cap_at c b) st) same (cap_out loaded nest trace c b rest on.0 on.1 i (inside (place (opening loaded ++ rest)).stack kind.Cap outer same)))
+      (subst (λ (st : List Kind). StepOut loaded nest trace b rest (cap_step c.cap_at c b) st) same (cap_out loaded nest trace c b rest on.0 on.1 i (ap innermost same)))
 ]
-  where
-    inside : (stack : List Kind) (k : Kind) (outer : List Kind) → stack ≡ k ∷ outer → innermost stack ≡ Some k
-    inside stack k outer e = rw e refl
 
 tick_turn : (loaded : Loaded) (nest : Nest) (trace : List Event) (c : Brain) (b : Bank) (rest : List Note) (outer : List Kind) → OwnIn loaded nest trace c b rest → (place (opening loaded ++ rest)).stack ≡ kind.Tick ∷ outer → 0 < tick_left c.tick_at
     → OwnOut loaded nest trace (tick_step c.tick_at c b).core b (accessed b (tick_step c.tick_at c b).access) (rest ++ step_notes b.time kind.Tick (tick_step c.tick_at c b)) (open_left kind.Tick outer (tick_step c.tick_at c b))
 tick_turn loaded nest trace c b rest outer i same l = elim (tick_goes c.tick_at c b l) [
   | inl back ↦ rw back (tick_back loaded nest trace c b rest outer i same (subst (λ (at : TickAt). TickTied at b.number_read b.time (place (opening loaded ++ rest)).ticks) back i.tick))
   | inr on ↦ goes_out loaded nest trace b rest (tick_step c.tick_at c b) kind.Tick outer on.2
-      (subst (λ (st : List Kind). StepOut loaded nest trace b rest (tick_step c.tick_at c b) st) same (tick_out loaded nest trace c b rest on.0 on.1 i (inside (place (opening loaded ++ rest)).stack kind.Tick outer same)))
+      (subst (λ (st : List Kind). StepOut loaded nest trace b rest (tick_step c.tick_at c b) st) same (tick_out loaded nest trace c b rest on.0 on.1 i (ap innermost same)))
 ]
-  where
-    inside : (stack : List Kind) (k : Kind) (outer : List Kind) → stack ≡ k ∷ outer → innermost stack ≡ Some k
-    inside stack k outer e = rw e refl
 
 main_turn : (loaded : Loaded) (nest : Nest) (trace : List Event) (saved : Bool) (c : Brain) (b : Bank) (rest : List Note) (outer : List Kind) → OwnIn loaded nest trace c b rest → (place (opening loaded ++ rest)).stack ≡ kind.Main ∷ outer → 0 < main_left c.main_at
     → OwnOut loaded nest trace (main_step saved c.main_at c b).core b (accessed b (main_step saved c.main_at c b).access) (rest ++ step_notes b.time kind.Main (main_step saved c.main_at c b)) (open_left kind.Main outer (main_step saved c.main_at c b))
 main_turn loaded nest trace saved c b rest outer i same l = elim (main_goes c.main_at saved c b l) [
   | inl back ↦ rw back (main_back loaded nest trace c b rest outer i same (subst (λ (at : MainAt). MainTied at c.orders.save (place (opening loaded ++ rest)).saves) back i.main))
   | inr on ↦ goes_out loaded nest trace b rest (main_step saved c.main_at c b) kind.Main outer on.2
-      (subst (λ (st : List Kind). StepOut loaded nest trace b rest (main_step saved c.main_at c b) st) same (main_out loaded nest trace c b rest saved on.0 on.1 i (inside (place (opening loaded ++ rest)).stack kind.Main outer same)))
+      (subst (λ (st : List Kind). StepOut loaded nest trace b rest (main_step saved c.main_at c b) st) same (main_out loaded nest trace c b rest saved on.0 on.1 i (ap innermost same)))
 ]
-  where
-    inside : (stack : List Kind) (k : Kind) (outer : List Kind) → stack ≡ k ∷ outer → innermost stack ≡ Some k
-    inside stack k outer e = rw e refl
 
 pub own_out : (loaded : Loaded) (k : Kind) → IsBuilt k → (saved : Bool) (nest : Nest) (trace : List Event) (c : Brain) (b : Bank) (rest : List Note) (outer : List Kind) → OwnIn loaded nest trace c b rest → (place (opening loaded ++ rest)).stack ≡ k ∷ outer → 0 < left_of c k
     → OwnOut loaded nest trace (kind_step k saved (counted_down c b) b).core b (accessed b (kind_step k saved (counted_down c b) b).access) (rest ++ step_notes b.time k (kind_step k saved (counted_down c b) b)) (open_left k outer (kind_step k saved (counted_down c b) b))

@@ -1,5 +1,6 @@
 -- What an own step of CAP or TICK keeps, place by place: its notes fit, control stands for them, and the ties hold again.
 use Rattle.std.proofs.Common.{◌≡◌, ◌≢◌, ◌≤◌, ◌<◌, ◌+◌, ◌/◌, ℕ, Bool, true, false, if◌then◌else◌, List, [], ◌∷◌, ◌++◌, length, reverse, Option, Some, None, refl, sym, ◌∙◌, ap, subst, arith, All, ◌⊎◌, inl, inr, append-nil, append_assoc}
+use Rattle.std.proofs.lemmas.Bool.{cond-false}
 use Rattle.std.specs.List.{fold}
 use Rattle.esc_base.specs.declared.kind.Kind.{Kind}
 use Rattle.esc_base.specs.declared.kind.Kind.TheVariants as kind
@@ -336,17 +337,14 @@ judge_out loaded nest trace c b rest w m i e k copied inside =
 
 -- ---- CAP as a whole, but for its return
 
-pick_else : (P : Stepped → Type 0) (v : Bool) (x y : Stepped) → v ≡ false → P y → P (if v then x else y)
-pick_else P true x y e h = cc
-pick_else P false x y e h = h
-
 cap_listens : (loaded : Loaded) (nest : Nest) (trace : List Event) (c : Brain) (b : Bank) (rest : List Note) (w m : ℕ) (at : CapAt) → at ≢ cap.Back → at ≢ cap.Shut → OwnIn loaded nest trace c b rest
     → (place (opening loaded ++ rest)).signal ≡ Listens w m → SignalTied (Listens w m) at (cap_view trace c b (place (opening loaded ++ rest))) → IsIn kind.Cap (place (opening loaded ++ rest))
     → StepOut loaded nest trace b rest (cap_step at c b) (place (opening loaded ++ rest)).stack
 cap_listens loaded nest trace c b rest w m cap.Shut nb ns i e k inside = absurd (ns refl)
 cap_listens loaded nest trace c b rest w m cap.Start nb ns i e k inside =
-    pick_else (λ (s : Stepped). StepOut loaded nest trace b rest s (place (opening loaded ++ rest)).stack) c.paused (opens c b) (goes_on (record c { burst = []; cap_at = after_edges (read_value b reg.CapState) }) (Reads reg.CapState))
-    k.hears.running (start_out loaded nest trace c b rest w m i e k)
+    subst (λ (s : Stepped). StepOut loaded nest trace b rest s (place (opening loaded ++ rest)).stack)
+    (sym (cond-false c.paused (opens c b) (goes_on (record c { burst = []; cap_at = after_edges (read_value b reg.CapState) }) (Reads reg.CapState)) k.hears.running))
+    (start_out loaded nest trace c b rest w m i e k)
 cap_listens loaded nest trace c b rest w m (cap.Copy left) nb ns i e k inside = copy_out loaded nest trace c b rest w m left i e k
 cap_listens loaded nest trace c b rest w m cap.Judge nb ns i e k inside = judge_out loaded nest trace c b rest w m i e k.0 k.1 inside
 cap_listens loaded nest trace c b rest w m cap.Open nb ns i e k inside = absurd k

@@ -1,6 +1,6 @@
 -- A whole step of the innermost handler, its return too: which notes it has, what holds after it, and which ties.
 use Rattle.std.proofs.Common.{◌≡◌, ◌≢◌, ◌≤◌, ◌<◌, ℕ, Bool, true, false, ◌&&◌, nat_lt, if◌then◌else◌, List, [], ◌∷◌, ◌++◌, reverse, Option, Some, None, refl, sym, ◌∙◌, ap, subst, arith, All, ◌⊎◌, inl, inr, append-nil}
-use Rattle.std.proofs.lemmas.Bool.Decides.{nat_tests}
+use Rattle.std.proofs.lemmas.Bool.{le-ltb}
 use Rattle.std.proofs.lemmas.List.Elements.{All-nil, All-cons, All-append}
 use Rattle.esc_base.specs.declared.kind.Kind.{Kind}
 use Rattle.esc_base.specs.declared.kind.Kind.TheVariants as kind
@@ -22,7 +22,7 @@ use Rattle.interrupt_machine.specs.Open.{innermost, outer_ones}
 use Rattle.interrupt_machine.specs.Turn.{leave_note, own_notes}
 use Rattle.dshot_commands.specs.declared.act.Act.{Act}
 use Rattle.arming.specs.Decide.{decide}
-use Rattle.arming.specs.Kept.{after_frame, after_tick, view_of}
+use Rattle.arming.specs.Kept.{after_tick, view_of}
 use Rattle.arming.proofs.InOrder.{reverse-push}
 use Rattle.arming.proofs.FrameTies.{other_stands}
 use Rattle.esc_core.specs.declared.state.CapAt.{CapAt}
@@ -55,11 +55,8 @@ use Rattle.esc_laws.proofs.OwnSteps.{OwnIn, OwnOut, StepOut}
 pub steady : (k : Kind) (c : Brain) (b : Bank) (stack : List Kind) → Keeps c b stack → innermost stack ≡ Some k → is_stray k c b ≡ false
 steady k c b stack keeps i = by_mask b.masked c.hold (need_of c k) (λ m. keeps.enough m k i)
   where
-    not_less : (h n : ℕ) → n ≤ h → nat_lt h n ≡ false
-    not_less h n l = grind (arith, nat_tests)
-
     by_mask : (m : Bool) (h n : ℕ) → (m ≡ true → n ≤ h) → (m && nat_lt h n) ≡ false
-    by_mask true h n f = not_less h n (f refl)
+    by_mask true h n f = le-ltb h n (f refl)
     by_mask false h n f = refl
 
 -- ---- its notes

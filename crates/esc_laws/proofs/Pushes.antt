@@ -1,23 +1,18 @@
 -- One more note, one more step, one more event.
 use Rattle.std.proofs.Common.{◌≡◌, ◌≤◌, ◌+◌, ℕ, List, [], ◌∷◌, ◌++◌, refl, sym, ◌∙◌, ap, subst, append-nil, append_assoc, arith, add-one, All, slice_index_or}
+use Rattle.std.proofs.lemmas.List.Concat.{flat_map-append}
 use Rattle.std.proofs.lemmas.List.Sums.{fold_push}
 use Rattle.esc_base.specs.declared.kind.Kind.{Kind}
 use Rattle.esc_base.specs.declared.event.Event.{Event}
 use Rattle.esc_base.specs.declared.note.Note.{Note}
-use Rattle.esc_base.specs.Journal.{IsLater, Journal, time_of}
 use Rattle.settings_block.specs.declared.stored.Loaded.{Loaded}
 use Rattle.interrupt_machine.specs.declared.nest.Nest.{Nest}
-use Rattle.arming.proofs.InOrder.{each_push}
 use Rattle.esc_laws.specs.Place.{next, nowhere, place}
 use Rattle.esc_laws.specs.Steps.{Turned, opening, notes_in, journal, past_stall, free, next_step, after, uses, own_next, own_steps, entered_next, entered_at, since_next, steps_since, called_next, called_from, called, EachStep}
 
 pub place-push : (notes : List Note) (n : Note) → place (notes ++ n ∷ []) ≡ next (place notes) n
 unfolding place
 place-push notes n = fold_push next nowhere notes n
-
-pub place-none : place [] ≡ nowhere
-unfolding place
-place-none = refl
 
 pub free-push : (trace : List Event) (e : Event) (t : ℕ) → free (trace ++ e ∷ []) t ≡ past_stall (free trace t) e
 unfolding free
@@ -28,8 +23,7 @@ unfolding free
 free-none t = refl
 
 pub notes-push : (log : List Turned) (e : Turned) → notes_in (log ++ e ∷ []) ≡ notes_in log ++ e.notes
-notes-push [] e = append-nil e.notes
-notes-push (x ∷ log) e = ap (λ (ns : List Note). x.notes ++ ns) (notes-push log e) ∙ sym (append_assoc x.notes (notes_in log) e.notes)
+notes-push log e = flat_map-append (λ x. x.notes) log (e ∷ []) ∙ ap (λ (ns : List Note). notes_in log ++ ns) (append-nil e.notes)
 
 pub journal-push : (loaded : Loaded) (log : List Turned) (e : Turned) → journal loaded (log ++ e ∷ []) ≡ journal loaded log ++ e.notes
 journal-push loaded log e = ap (λ (ns : List Note). opening loaded ++ ns) (notes-push log e) ∙ sym (append_assoc (opening loaded) (notes_in log) e.notes)
@@ -76,10 +70,6 @@ step-push P before (x ∷ log) e w h = (w.0, step-push P (before ++ x ∷ []) lo
 -- a use of `next_step` more
 pub uses-more : (cost : ℕ) (trace : List Event) (m t : ℕ) → uses cost trace (m + 1) t ≡ next_step cost trace (uses cost trace m t)
 uses-more cost trace m t = rw add-one refl
-
--- a note that isn't before any other
-pub later_push : (notes : List Note) (n : Note) → Journal notes → All (λ b. time_of b ≤ time_of n) notes → Journal (notes ++ n ∷ [])
-later_push notes n j past = each_push IsLater [] notes n j past
 
 -- all notes are past, and stay so as time goes on
 pub All-later : {X : Type 0} (time : X → ℕ) (xs : List X) (t u : ℕ) → t ≤ u → All (λ x. time x ≤ t) xs → All (λ x. time x ≤ u) xs

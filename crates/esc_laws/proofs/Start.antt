@@ -22,7 +22,7 @@ use Rattle.esc_laws.specs.Seen.{sees}
 use Rattle.esc_laws.specs.Steps.{load_number, opening, journal, after, called}
 use Rattle.esc_laws.specs.Windowed.{Windowed}
 use Rattle.esc_laws.specs.Tied.{Keeps}
-use Rattle.esc_laws.specs.Logged.{Marks, Ties, EndsBy, Logged, first_bank}
+use Rattle.esc_laws.specs.Logged.{Marks, Ties, Logged, stall_end, first_bank}
 use Rattle.esc_laws.proofs.Pushes.{after-none, free-none, called-none}
 
 place-opening : (loaded : Loaded) → place (opening loaded) ≡ record nowhere { signal = Listens 0 0; windows = 1; last = 0 }
@@ -125,6 +125,6 @@ logged_start loaded nest cost =
       awaits = record { open_step = λ o. omega arith; idle = λ o t from below f k. absurd (omega arith) };
       time = omega arith;
       put_off = λ u from below. absurd (omega arith);
-      stalls = All-nil (EndsBy 0);
+      stalls = All-nil (λ e. stall_end e ≤ 0);
       at_next = λ o. absurd (o refl);
     }

@@ -1,13 +1,12 @@
 -- An entry and an own step carry the log on.
-use Rattle.std.proofs.Common.{◌≡◌, nat_lt, ◌≢◌, ◌≤◌, ◌<◌, ◌+◌, ◌/◌, ℕ, Bool, true, false, not, ◌||◌, ◌==◌, if◌then◌else◌, List, [], ◌∷◌, ◌++◌, reverse, Some, None, refl, sym, ◌∙◌, subst, arith, All, ◌⊎◌, inl, inr}
-use Rattle.std.proofs.lemmas.Bool.Decides.{nat_tests}
+use Rattle.std.proofs.Common.{◌≡◌, ◌≢◌, ◌≤◌, ◌<◌, ◌+◌, ◌/◌, ℕ, Bool, true, false, not, if◌then◌else◌, List, [], ◌∷◌, ◌++◌, reverse, Some, None, refl, sym, ◌∙◌, subst, arith, All, ◌⊎◌, inl, inr}
+use Rattle.std.proofs.lemmas.Bool.{not-true, ltb-true, and_parts}
 use Rattle.std.proofs.lemmas.List.Elements.{All-nil, All-cons, All-weaker}
 use Rattle.esc_base.specs.declared.kind.Kind.{Kind}
 use Rattle.esc_base.specs.declared.kind.Kind.TheVariants as kind
 use Rattle.esc_base.specs.declared.event.Event.{Event}
 use Rattle.esc_base.specs.declared.note.Note.{Note}
 use Rattle.esc_base.specs.Journal.{time_of}
-use Rattle.esc_base.specs.Numbers.{kind_number}
 use Rattle.settings_block.specs.declared.stored.Loaded.{Loaded}
 use Rattle.timer_regs.specs.Bank.{Bank}
 use Rattle.timer_regs.specs.Effects.{after_entry}
@@ -19,7 +18,7 @@ use Rattle.interrupt_machine.specs.Open.{is_open, due_now, next_entry, IsStack}
 use Rattle.interrupt_machine.specs.Response.{is_waiting}
 use Rattle.interrupt_machine.specs.Turn.{open_after}
 use Rattle.interrupt_machine.proofs.OpenKinds.{entry_above, same_kind}
-use Rattle.interrupt_machine.proofs.Waiting.{entry_patient, own_patient, entry_highest, entry_masked, highest_is_due, highest_most}
+use Rattle.interrupt_machine.proofs.Waiting.{entry_patient, own_patient, entry_highest, entry_masked, highest_is_due, highest_most, self_open}
 use Rattle.arming.specs.ControlAt.{number_at}
 use Rattle.esc_core.specs.declared.state.CapAt.{CapAt}
 use Rattle.esc_core.specs.declared.state.TickAt.{TickAt}
@@ -34,26 +33,20 @@ use Rattle.esc_laws.specs.Steps.{Turned, notes_in, journal, after, uses, is_of, 
 use Rattle.esc_laws.specs.Tied.{Keeps, SignalTied, cap_view, IsBuilt}
 use Rattle.esc_laws.specs.Logged.{Marks, Ties, Logged}
 use Rattle.esc_laws.proofs.Pushes.{own-push, since-push}
-use Rattle.esc_laws.proofs.Facts.{both, same_gates, due_built, tick_due, cap_shut, or_right}
+use Rattle.esc_laws.proofs.Stalls.{free_ended}
+use Rattle.esc_laws.proofs.Facts.{of_self, of_other, some_open, outer_open, left_open, same_gates, due_built, tick_due, cap_shut}
 use Rattle.esc_laws.proofs.Dues.{cap_called}
 use Rattle.esc_laws.proofs.Entries.{enters, entry_same, entered_others, entry_out, keeps_entry}
 use Rattle.esc_laws.proofs.OwnTurns.{IsOwn, steady, step_notes, step_own, open_left}
 use Rattle.esc_laws.proofs.OwnKeeps.{keeps_own, own_out}
-use Rattle.esc_laws.proofs.Turns.{of_self, of_other, some_open, free_ended, reached_on, reached_new, by_on, by_new, own_in, logged_after}
+use Rattle.esc_laws.proofs.Turns.{reached_on, reached_new, by_on, by_new, own_in, logged_after}
 
 -- ---- what is seen due, and isn't open, is due
-
-not_false : (a : Bool) → not a ≡ true → a ≡ false
-not_false true e = cc
-not_false false e = refl
-
-less_from : (m n : ℕ) → nat_lt m n ≡ true → m < n
-less_from m n e = grind (arith, nat_tests)
 
 waits_due : (loaded : Loaded) (nest : Nest) (trace : List Event) (c : Brain) (b : Bank) (stack : List Kind) (log : List Turned) → Keeps c b stack → Marks loaded nest trace c b stack log → Ties loaded trace c b log
     → (k : Kind) → sees trace (journal loaded log) b.time k ≡ true → is_open stack k ≡ false → due_now c.orders.save b k ≡ true
 waits_due loaded nest trace c b stack log keeps m t kind.Tick s f =
-    tick_due c.orders.save b (rw (t.number, m.control.ties.number_is) (less_from (number_at (reverse (journal loaded log))) (b.time / 2400) s))
+    tick_due c.orders.save b (rw (t.number, m.control.ties.number_is) (ltb-true (number_at (reverse (journal loaded log))) (b.time / 2400) s))
 waits_due loaded nest trace c b stack log keeps m t kind.Cap s f =
     cap_called c.orders.save (place (journal loaded log)).signal trace c b (place (journal loaded log))
     (subst (λ (at : CapAt). SignalTied (place (journal loaded log)).signal at (cap_view trace c b (place (journal loaded log)))) (cap_shut c.cap_at (keeps.shut kind.Cap f)) t.signal) s
@@ -66,8 +59,8 @@ waits_due loaded nest trace c b stack log keeps m t kind.Comm s f = cc
 pub sees_due : (loaded : Loaded) (nest : Nest) (trace : List Event) (c : Brain) (b : Bank) (stack : List Kind) (log : List Turned) → Keeps c b stack → Marks loaded nest trace c b stack log → Ties loaded trace c b log
     → (k : Kind) → is_waiting (sees trace (journal loaded log) b.time) stack k ≡ true → due_now c.orders.save b k ≡ true
 sees_due loaded nest trace c b stack log keeps m t k e =
-    let parts = both (sees trace (journal loaded log) b.time k) (not (is_open stack k)) e in
-    waits_due loaded nest trace c b stack log keeps m t k parts.0 (not_false (is_open stack k) parts.1)
+    let parts = and_parts (sees trace (journal loaded log) b.time k) (not (is_open stack k)) e in
+    waits_due loaded nest trace c b stack log keeps m t k parts.0 (not-true (is_open stack k) parts.1)
 
 -- ---- an entry
 
@@ -100,11 +93,7 @@ entry_fits loaded nest cost trace c b stack log k l chosen calls = record {
 }
 
 other_open : (k j : Kind) (stack : List Kind) → j ≢ k → is_open (k ∷ stack) j ≡ true → is_open stack j ≡ true
-other_open k j stack ne o = rest_open (kind_number k == kind_number j) (is_open stack j) (of_other k j (λ e. ne (sym e))) o
-  where
-    rest_open : (a b : Bool) → a ≡ false → (a || b) ≡ true → b ≡ true
-    rest_open true b e o = cc
-    rest_open false b e o = o
+other_open k j stack ne o = sym (outer_open k j stack ne) ∙ o
 
 -- an open kind has as many steps left as its places show
 entry_owes : (c : Brain) (b : Bank) (stack : List Kind) (log : List Turned) (k : Kind) → ((j : Kind) → is_open stack j ≡ true → own_steps j log + left_of c j ≤ most j) → IsBuilt k
@@ -185,13 +174,6 @@ need_some kind.Comm c = omega arith
 
 abbrev own_of : ℕ → Kind → List Note → Turned
 own_of t k notes = record { tick = t; kind = k; enters = false; notes = notes }
-
-left_open : (v : Bool) (k j : Kind) (outer : List Kind) → is_open (if v then outer else k ∷ outer) j ≡ true → is_open (k ∷ outer) j ≡ true
-left_open true k j outer o = or_right (kind_number k == kind_number j) (is_open outer j) o
-left_open false k j outer o = o
-
-pub self_open : (k : Kind) (outer : List Kind) → is_open (k ∷ outer) k ≡ true
-self_open k outer = rw (of_self k) refl
 
 left_stack : (v : Bool) (k : Kind) (outer : List Kind) → IsStack (k ∷ outer) → IsStack (if v then outer else k ∷ outer)
 left_stack true k outer s = s.1

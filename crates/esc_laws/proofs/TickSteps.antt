@@ -1,7 +1,7 @@
 -- What an own step of TICK keeps.
-use Rattle.std.proofs.Common.{◌≡◌, ◌≢◌, ◌<◌, ◌+◌, ◌/◌, ℕ, Bool, true, false, nat_lt, if◌then◌else◌, List, [], ◌∷◌, ◌++◌, reverse, Option, Some, None, refl, sym, ◌∙◌, ap, subst, arith, append_assoc}
+use Rattle.std.proofs.Common.{◌≡◌, ◌≢◌, ◌<◌, ◌+◌, ◌/◌, ℕ, Bool, true, false, List, [], ◌∷◌, ◌++◌, reverse, Option, Some, None, refl, sym, ◌∙◌, ap, subst, arith, append_assoc}
+use Rattle.std.proofs.lemmas.Bool.{lt-ltb}
 use Rattle.std.specs.List.{fold}
-use Rattle.std.proofs.lemmas.Bool.Decides.{nat_tests}
 use Rattle.esc_base.specs.declared.kind.Kind.TheVariants as kind
 use Rattle.esc_base.specs.declared.event.Event.{Event}
 use Rattle.esc_base.specs.declared.note.Note.{Note}
@@ -24,7 +24,7 @@ use Rattle.esc_core.specs.declared.state.TickAt.{TickAt}
 use Rattle.esc_core.specs.declared.state.TickAt.TheVariants as tick
 use Rattle.esc_core.specs.declared.orders.Orders.{Orders}
 use Rattle.esc_core.specs.Brain.{Brain}
-use Rattle.esc_core.specs.Stepped.{Stepped, goes_on}
+use Rattle.esc_core.specs.Stepped.{Stepped}
 use Rattle.esc_core.specs.Cap.{tick_at}
 use Rattle.esc_core.specs.Tick.{outcome_note, tick_notes, ticked, tick_step}
 use Rattle.esc_laws.specs.Place.{Place, next, place}
@@ -117,7 +117,7 @@ asked_out loaded nest trace c b rest i inside less none =
     let first = said_push loaded nest trace b.time rest k i.said refl tt inside in
     let still : IsIn kind.Tick (place (opening loaded ++ (rest ++ k ∷ []))) = subst (λ (q : Place). IsIn kind.Tick q) (sym (place-push (opening loaded ++ rest) k)) inside in
     let o = outcome_out loaded answer.lost answer.armed_now nest trace (after_tick c.control n (decide (view_of c.control) n 0)) c.orders b.time rest k first still st
-        (orders_other loaded c.orders k (reverse (opening loaded ++ rest)) refl i.orders) in
+    (orders_other loaded c.orders k (reverse (opening loaded ++ rest)) refl i.orders) in
     let at : place (opening loaded ++ (rest ++ tick_notes b.time n 0 answer)) ≡ fold next p (tick_notes b.time n 0 answer) = place-append (opening loaded ++ rest) (tick_notes b.time n 0 answer) in
     let number : (after_tick c.control n (decide (view_of c.control) n 0)).number ≡ n =
     st.ties.number_is ∙ outcome_number answer.lost answer.armed_now b.time n 0 answer.demand (reverse (opening loaded ++ rest)) in
@@ -134,13 +134,6 @@ asked_out loaded nest trace c b rest i inside less none =
       read = omega arith;
       stack_is = ap (λ (q : Place). q.stack) at ∙ outcome_stack answer.lost answer.armed_now (next p k) b.time;
     }
-
-pick_then : (P : Stepped → Type 0) (v : Bool) (x y : Stepped) → v ≡ true → P x → P (if v then x else y)
-pick_then P true x y e h = h
-pick_then P false x y e h = cc
-
-less_test : (m n : ℕ) → m < n → nat_lt m n ≡ true
-less_test m n l = grind (arith, nat_tests)
 
 tick_place : (loaded : Loaded) (at : TickAt) (nest : Nest) (trace : List Event) (c : Brain) (b : Bank) (rest : List Note) → at ≢ tick.Back → at ≢ tick.Shut → OwnIn loaded nest trace c b rest
     → TickTied at b.number_read b.time (place (opening loaded ++ rest)).ticks → IsIn kind.Tick (place (opening loaded ++ rest))
@@ -161,9 +154,7 @@ tick_place loaded tick.Raise nest trace c b rest nb ns i t inside =
     })
 tick_place loaded tick.Read nest trace c b rest nb ns i t inside =
     let less : c.control.number < b.time / 2400 = (let a = i.number in let l : b.number_read < b.time / 2400 = t.0 in omega arith) in
-    pick_then (λ (s : Stepped). StepOut loaded nest trace b rest s (place (opening loaded ++ rest)).stack) (nat_lt c.control.number (b.time / 2400)) (asked c b (b.time / 2400))
-    (goes_on (record c { tick_at = tick.Lower }) (Reads reg.TickState)) (less_test c.control.number (b.time / 2400) less)
-    (asked_out loaded nest trace c b rest i inside less t.1)
+    rw (lt-ltb c.control.number (b.time / 2400) less) (asked_out loaded nest trace c b rest i inside less t.1)
 tick_place loaded tick.Lower nest trace c b rest nb ns i t inside =
     quiet loaded nest trace b rest (record c { tick_at = tick.Back }) (Writes reg.Mask 0) false (record {
       said = i.said;

@@ -1,14 +1,10 @@
 -- One step more: the log, the journal, the core and the registers after it.
-use Rattle.std.proofs.Common.{◌≡◌, ◌≢◌, ◌≤◌, ◌<◌, ◌+◌, ℕ, Bool, true, false, ◌&&◌, ◌==◌, nat_le, nat_lt, if◌then◌else◌, List, [], ◌∷◌, ◌++◌, Option, Some, refl, sym, ◌∙◌, ap, subst, arith, All}
-use Rattle.std.specs.List.{fold}
-use Rattle.std.proofs.lemmas.Bool.Decides.{nat_tests}
-use Rattle.std.proofs.lemmas.List.Elements.{All-head, All-tail, All-weaker}
+use Rattle.std.proofs.Common.{◌≡◌, ◌≤◌, ◌<◌, ◌+◌, ℕ, Bool, true, false, ◌&&◌, List, [], ◌∷◌, ◌++◌, Option, Some, refl, sym, ◌∙◌, ap, subst, arith, All}
+use Rattle.std.proofs.lemmas.List.Elements.{All-head, All-tail}
 use Rattle.esc_base.specs.declared.kind.Kind.{Kind}
 use Rattle.esc_base.specs.declared.event.Event.{Event}
-use Rattle.esc_base.specs.declared.event.Event.TheVariants as event
 use Rattle.esc_base.specs.declared.note.Note.{Note}
 use Rattle.esc_base.specs.Journal.{time_of}
-use Rattle.esc_base.specs.Numbers.{kind_number}
 use Rattle.esc_base.specs.Trace.{line}
 use Rattle.settings_block.specs.declared.stored.Loaded.{Loaded}
 use Rattle.timer_regs.specs.Bank.{Bank}
@@ -16,70 +12,16 @@ use Rattle.interrupt_machine.specs.declared.nest.Nest.{Nest}
 use Rattle.interrupt_machine.specs.Did.{most}
 use Rattle.interrupt_machine.specs.Open.{is_open, IsStack}
 use Rattle.interrupt_machine.specs.Response.{is_waiting, wait_next, Patient}
-use Rattle.interrupt_machine.proofs.OpenKinds.{number_same}
 use Rattle.interrupt_machine.proofs.Waiting.{same_patient, patient_most}
 use Rattle.esc_core.specs.Brain.{Brain}
 use Rattle.esc_core.specs.Firmware.{left_of}
 use Rattle.esc_laws.specs.Seen.{sees}
-use Rattle.esc_laws.specs.Steps.{Turned, notes_in, journal, open_in, past_stall, free, next_step, after, uses, is_of, own_steps, steps_since, entered_at, called, StepFits, Below}
+use Rattle.esc_laws.specs.Steps.{Turned, notes_in, journal, open_in, next_step, after, uses, is_of, own_steps, steps_since, entered_at, called, StepFits, Below}
 use Rattle.esc_laws.specs.Tied.{Keeps, WindowSound}
-use Rattle.esc_laws.specs.Logged.{Marks, Ties, EndsBy, Logged}
-use Rattle.esc_laws.proofs.Pushes.{notes-push, after-push, entered-push, since-push, called-push, uses-more, step-push}
+use Rattle.esc_laws.specs.Logged.{Marks, Ties, stall_end, Logged}
+use Rattle.esc_laws.proofs.Pushes.{All-later, notes-push, after-push, entered-push, since-push, called-push, uses-more, step-push}
+use Rattle.esc_laws.proofs.Stalls.{free_ended}
 use Rattle.esc_laws.proofs.OwnSteps.{OwnIn, OwnOut}
-
--- ---- kinds
-
-pub of_self : (k : Kind) → (kind_number k == kind_number k) ≡ true
-of_self k = same (kind_number k)
-  where
-    same : (n : ℕ) → (n == n) ≡ true
-    same n = grind (arith, nat_tests)
-
-pub of_other : (j k : Kind) → j ≢ k → (kind_number j == kind_number k) ≡ false
-of_other j k ne = differ (kind_number j) (kind_number k) (λ e. ne (number_same j k e))
-  where
-    differ : (m n : ℕ) → (m ≡ n → ⊥) → (m == n) ≡ false
-    differ m n ne = grind (arith, nat_tests)
-
-pub some_open : (stack : List Kind) (k : Kind) → is_open stack k ≡ true → stack ≢ []
-some_open [] k o = cc
-some_open (x ∷ outer) k o = λ e. cc
-
--- ---- stalls that are over
-
-stall_over : (e : Event) (t u : ℕ) → EndsBy t e → t ≤ u → past_stall u e ≡ u
-stall_over (event.Stall at n) t u ends le = let l : at.0 + n ≤ u = (let h : at.0 + n ≤ t = ends in omega arith) in kept (nat_le at.0 u) (nat_lt u (at.0 + n)) (at.0 + n) u (late u (at.0 + n) l)
-  where
-    late : (u x : ℕ) → x ≤ u → nat_lt u x ≡ false
-    late u x l = grind (arith, nat_tests)
-
-    kept : (a b : Bool) (x u : ℕ) → b ≡ false → (if a && b then x else u) ≡ u
-    kept true true x u e = cc
-    kept true false x u e = refl
-    kept false b x u e = refl
-stall_over (event.Edge at level) t u ends le = refl
-stall_over (event.Comp at level) t u ends le = refl
-stall_over (event.Serial at byte) t u ends le = refl
-
-ended_from : (trace : List Event) (t u : ℕ) → All (EndsBy t) trace → t ≤ u → fold past_stall u trace ≡ u
-ended_from [] t u ends le = refl
-ended_from (e ∷ trace) t u ends le =
-    ap (λ (x : ℕ). fold past_stall x trace) (stall_over e t u (All-head (EndsBy t) e trace ends) le)
-    ∙ ended_from trace t u (All-tail (EndsBy t) e trace ends) le
-
--- from there on each tick is free
-pub free_ended : (trace : List Event) (t u : ℕ) → All (EndsBy t) trace → t ≤ u → free trace u ≡ u
-unfolding free
-free_ended trace t u ends le = ended_from trace t u ends le
-
-ends_later : (t u : ℕ) → t ≤ u → (e : Event) → EndsBy t e → EndsBy u e
-ends_later t u le (event.Stall at n) ends = let h : at.0 + n ≤ t = ends in omega arith
-ends_later t u le (event.Edge at level) ends = tt
-ends_later t u le (event.Comp at level) ends = tt
-ends_later t u le (event.Serial at byte) ends = tt
-
-pub all_end_later : (trace : List Event) (t u : ℕ) → t ≤ u → All (EndsBy t) trace → All (EndsBy u) trace
-all_end_later trace t u le ends = All-weaker (EndsBy t) (EndsBy u) (ends_later t u le) trace ends
 
 -- ---- counts of an open kind
 
@@ -180,7 +122,7 @@ pub logged_after : (loaded : Loaded) (nest : Nest) (cost : ℕ) (trace : List Ev
 logged_after loaded nest cost trace c c' b b' stack stack' log e some at l g =
     let out : OwnOut loaded nest trace c' b b' (notes_in (log ++ e ∷ [])) stack' = subst (λ (r : List Note). OwnOut loaded nest trace c' b b' r stack') (sym (notes-push log e)) g.out in
     let marks = marks_of loaded nest trace c' b b' stack' (log ++ e ∷ []) g.same out in
-    let ends : All (EndsBy (b.time + cost)) trace = all_end_later trace b.time (b.time + cost) (omega arith) l.stalls in
+    let ends : All (λ x. stall_end x ≤ b.time + cost) trace = All-later stall_end trace b.time (b.time + cost) (omega arith) l.stalls in
     let next : after cost trace (log ++ e ∷ []) ≡ b.time + cost = after-push cost trace log e ∙ ap (λ (t : ℕ). next_step cost trace t) at ∙ free_ended trace b.time (b.time + cost) l.stalls (omega arith) in
     let counts : (k : Kind) → called loaded nest trace (log ++ e ∷ []) k ≡ wait_next nest k (is_waiting (sees trace (journal loaded log) b.time) stack k) (is_waiting (sees trace (journal loaded (log ++ e ∷ [])) b.time) stack' k) (Some e.kind) (called loaded nest trace log k) =
     (λ k. called-push loaded nest trace log e k

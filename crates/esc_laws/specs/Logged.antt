@@ -10,7 +10,7 @@ use Rattle.esc_base.specs.Journal.{Journal, time_of}
 use Rattle.esc_base.specs.Trace.{line}
 use Rattle.settings_block.specs.declared.stored.Loaded.{Loaded}
 use Rattle.timer_regs.specs.Bank.{Bank}
-use Rattle.timer_regs.specs.Effects.{reset, written}
+use Rattle.timer_regs.specs.Effects.{after_line, reset, written}
 use Rattle.timer_regs.specs.declared.regs.Reg.TheVariants as reg
 use Rattle.interrupt_machine.specs.declared.nest.Nest.{Nest}
 use Rattle.interrupt_machine.specs.Did.{most}
@@ -31,6 +31,13 @@ use Rattle.esc_laws.specs.Tied.{Keeps, SignalTied, cap_view, WindowSound, TickTi
 -- the registers at the start of a run: the first window is open in mode 0
 abbrev pub first_bank : Bank
 first_bank = written reset reg.CapArm 0
+
+-- what an event at now leaves of the registers: an edge of the signal line changes them, others nothing
+abbrev pub after_event : Bank → Event → Bank
+after_event b (event.Edge at level) = after_line b level
+after_event b (event.Comp at level) = b
+after_event b (event.Serial at byte) = b
+after_event b (event.Stall at n) = b
 
 -- the journal keeps its laws, and is no later than now
 pub record Marks (loaded : Loaded) (nest : Nest) (trace : List Event) (c : Brain) (b : Bank) (stack : List Kind) (log : List Turned) : Type 0 where
@@ -54,11 +61,12 @@ pub record Ties (loaded : Loaded) (trace : List Event) (c : Brain) (b : Bank) (l
   pub edges : All (λ e. e.t.0 ≤ b.time) (line trace).edges
   pub small : b.time < 2147483648
 
-abbrev pub EndsBy : ℕ → Event → Type 0
-EndsBy t (event.Stall at n) = at.0 + n ≤ t
-EndsBy t (event.Edge at level) = Unit {0}
-EndsBy t (event.Comp at level) = Unit {0}
-EndsBy t (event.Serial at byte) = Unit {0}
+-- the tick at which an event's stall is over, 0 for one that is none
+abbrev pub stall_end : Event → ℕ
+stall_end (event.Stall at n) = at.0 + n
+stall_end (event.Edge at level) = 0
+stall_end (event.Comp at level) = 0
+stall_end (event.Serial at byte) = 0
 
 -- `next` is the tick of the next step, or earlier than it while nothing is due
 pub record Logged (loaded : Loaded) (nest : Nest) (cost : ℕ) (trace : List Event) (next : ℕ) (c : Brain) (b : Bank) (stack : List Kind) (log : List Turned) : Type 0 where
@@ -78,7 +86,7 @@ pub record Logged (loaded : Loaded) (nest : Nest) (cost : ℕ) (trace : List Eve
   -- from now to the next step there is no tick that a step could have
   pub put_off : (u : ℕ) → b.time ≤ u → u < next → after cost trace log ≤ u → free trace u ≢ u
   -- all stalls are over at the next step
-  pub stalls : All (EndsBy next) trace
+  pub stalls : All (λ e. stall_end e ≤ next) trace
   -- while a kind is open the next step stands at the next tick
   pub at_next : stack ≢ [] → next ≡ after cost trace log
 

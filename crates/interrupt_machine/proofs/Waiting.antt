@@ -1,5 +1,7 @@
 -- A due kind that waits is entered after at most 8 masked steps and one further step.
-use Rattle.std.proofs.Common.{◌≡◌, ◌≢◌, ◌<◌, ◌≤◌, ◌+◌, ℕ, Bool, true, false, not, ◌&&◌, ◌||◌, ◌==◌, nat_lt, nat_le, if◌then◌else◌, List, [], ◌∷◌, ◌++◌, length, Option, Some, None, refl, sym, ◌∙◌, ap, subst, arith, ◌⊎◌, inl, inr}
+use Rattle.std.proofs.Common.{◌≡◌, ◌≢◌, ◌<◌, ◌≤◌, ◌+◌, ℕ, Bool, true, false, not, ◌&&◌, ◌==◌, if◌then◌else◌, List, [], ◌∷◌, ◌++◌, length, Option, Some, None, refl, sym, ◌∙◌, ap, subst, arith, ◌⊎◌, inl, inr, pos_of_ne-zero}
+use Rattle.std.proofs.Math.Numerals.{lt_of_le_of_ne}
+use Rattle.std.proofs.lemmas.Bool.{cases_Bool, and_parts, not-true, leb-true, leb-false, lt-ltb, le-ltb, eqb-true, eqb-false, ne_eqb, lt-leb, or_left, or_parts, eq-eqb}
 use Rattle.std.proofs.lemmas.Bool.Decides.{nat_tests}
 use Rattle.std.proofs.lemmas.List.Sums.{fold_push}
 use Rattle.esc_base.specs.declared.kind.Kind.{Kind}
@@ -19,41 +21,8 @@ waited-push nest log m k = fold_push (waited_next nest k) 0 log m
 
 -- ---- tests
 
-by_bool : (v : Bool) → (v ≡ true) ⊎ (v ≡ false)
-by_bool true = inl refl
-by_bool false = inr refl
-
-both_true : (a b : Bool) → (a && b) ≡ true → (a ≡ true) × (b ≡ true)
-both_true true b e = (refl, e)
-both_true false b e = cc
-
-not_true : (a : Bool) → not a ≡ true → a ≡ false
-not_true true e = cc
-not_true false e = refl
-
 waits_parts : (due : Kind → Bool) (stack : List Kind) (k : Kind) → is_waiting due stack k ≡ true → (due k ≡ true) × (is_open stack k ≡ false)
-waits_parts due stack k e = let b = both_true (due k) (not (is_open stack k)) e in (b.0, not_true (is_open stack k) b.1)
-
-le_from : (m n : ℕ) → nat_le m n ≡ true → m ≤ n
-le_from m n e = grind (arith, nat_tests)
-
-gt_from : (m n : ℕ) → nat_le m n ≡ false → n < m
-gt_from m n e = grind (arith, nat_tests)
-
-lt_to : (m n : ℕ) → m < n → nat_lt m n ≡ true
-lt_to m n l = grind (arith, nat_tests)
-
-ge_to : (m n : ℕ) → n ≤ m → nat_lt m n ≡ false
-ge_to m n l = grind (arith, nat_tests)
-
-eq_from : (m n : ℕ) → (m == n) ≡ true → m ≡ n
-eq_from m n e = grind (arith, nat_tests)
-
-ne_from : (m n : ℕ) → (m == n) ≡ false → m ≡ n → ⊥
-ne_from m n e s = grind (arith, nat_tests)
-
-ne_to : (m n : ℕ) → (m ≡ n → ⊥) → (m == n) ≡ false
-ne_to m n ne = grind (arith, nat_tests)
+waits_parts due stack k e = let b = and_parts (due k) (not (is_open stack k)) e in (b.0, not-true (is_open stack k) b.1)
 
 -- ---- the highest due kind
 
@@ -138,44 +107,30 @@ entry_highest nest stack due j e = entry_at nest (innermost stack) (highest due)
 
 -- where none enters, the highest due kind may not
 none_at : (nest : Nest) (inner : Option Kind) (h : Kind) → enters_above nest inner (Some h) ≡ None → may_enter nest inner h ≡ false
-none_at nest inner h e = shut (may_enter nest inner h) h e
-  where
-    shut : (v : Bool) (h : Kind) → (if v then Some h else None) ≡ None → v ≡ false
-    shut true h e = cc
-    shut false h e = refl
+none_at nest inner h e = not_here (may_enter nest inner h) h None e
 
 -- ---- one step
 
 -- an entry of a kind that is the highest due one counts for no other kind that waits
 entry_uncounted : (nest : Nest) (k j : Kind) → kind_number k ≤ kind_number j → k ≢ j → counts nest k (Some j) ≡ false
-entry_uncounted Full k j le ne = let lt : kind_number k < kind_number j = apart (kind_number k) (kind_number j) le (λ s. ne (number_same k j s)) in above (kind_number j) (kind_number k) lt
-  where
-    apart : (m n : ℕ) → m ≤ n → (m ≡ n → ⊥) → m < n
-    apart m n le ne = grind (arith, nat_tests)
-
-    above : (m n : ℕ) → n < m → nat_le m n ≡ false
-    above m n l = grind (arith, nat_tests)
-entry_uncounted One k j le ne = ne_to (kind_number j) 0 (λ z. ne (number_same k j (omega arith)))
+entry_uncounted Full k j le ne = lt-leb (kind_number j) (kind_number k) (lt_of_le_of_ne le (λ s. ne (number_same k j s)))
+entry_uncounted One k j le ne = ne_eqb (kind_number j) 0 (λ z. ne (number_same k j (omega arith)))
 
 -- a counted step of the innermost kind: it isn't higher than the one that waits, which the rank doesn't keep out
 not_behind : (nest : Nest) (k j : Kind) → counts nest k (Some j) ≡ true → is_behind nest (Some j) k ≡ false
-not_behind Full k j e = ge_to (kind_number k) (kind_number j) (le_from (kind_number j) (kind_number k) e)
-not_behind One k j e = let z = eq_from (kind_number j) 0 e in ge_to 0 (kind_number j) (omega arith)
+not_behind Full k j e = le-ltb (kind_number k) (kind_number j) (leb-true (kind_number j) (kind_number k) e)
+not_behind One k j e = let z = eqb-true (kind_number j) 0 e in le-ltb 0 (kind_number j) (omega arith)
 
 -- a step that doesn't count is that of a kind that goes first
 behind_by : (nest : Nest) (k j : Kind) → counts nest k (Some j) ≡ false → is_behind nest (Some j) k ≡ true
-behind_by Full k j e = lt_to (kind_number k) (kind_number j) (gt_from (kind_number j) (kind_number k) e)
-behind_by One k j e = lt_to 0 (kind_number j) (some_of (kind_number j) (ne_from (kind_number j) 0 e))
-  where
-    some_of : (n : ℕ) → (n ≡ 0 → ⊥) → 0 < n
-    some_of n ne = grind (arith, nat_tests)
+behind_by Full k j e = lt-ltb (kind_number k) (kind_number j) (leb-false (kind_number j) (kind_number k) e)
+behind_by One k j e = lt-ltb 0 (kind_number j) (pos_of_ne-zero (eqb-false (kind_number j) 0 e))
 
 -- a due kind that the innermost one may be interrupted by
 may_above : (nest : Nest) (k j h : Kind) → counts nest k (Some j) ≡ true → k ≢ j → kind_number k ≤ kind_number h → may_enter nest (Some j) h ≡ true
-may_above Full k j h e ne le = lt_to (kind_number j) (kind_number h) (more (kind_number j) (kind_number k) (kind_number h) (le_from (kind_number j) (kind_number k) e) (λ s. ne (number_same k j (sym s))) le)
-  where
-    more : (j k h : ℕ) → j ≤ k → (j ≡ k → ⊥) → k ≤ h → j < h
-    more j k h a ne b = grind (arith, nat_tests)
+may_above Full k j h e ne le =
+    let below : kind_number j < kind_number k = lt_of_le_of_ne (leb-true (kind_number j) (kind_number k) e) (λ s. ne (number_same k j (sym s))) in
+    lt-ltb (kind_number j) (kind_number h) (omega arith)
 may_above One k j h e ne le = main_below (kind_number j) (kind_number k) (kind_number h) e (λ s. ne (number_same k j (sym s))) le
   where
     main_below : (j k h : ℕ) → (j == 0) ≡ true → (j ≡ k → ⊥) → k ≤ h → ((j == 0) && not (h == 0)) ≡ true
@@ -236,21 +191,18 @@ wait_uncounted nest k b a by w e f c = rw (e, f, c) refl
 wait_counted : (nest : Nest) (k : Kind) (b a : Bool) (by : Option Kind) (w : ℕ) → b ≡ true → a ≡ true → counts nest k by ≡ true → wait_next nest k b a by w ≡ w + 1
 wait_counted nest k b a by w e f c = rw (e, f, c) refl
 
-self_open : (j : Kind) (stack : List Kind) → is_open (j ∷ stack) j ≡ true
-self_open j stack = open_by (kind_number j) (is_open stack j)
-  where
-    open_by : (n : ℕ) (b : Bool) → ((n == n) || b) ≡ true
-    open_by n b = grind (arith, nat_tests)
+pub self_open : (j : Kind) (stack : List Kind) → is_open (j ∷ stack) j ≡ true
+self_open j stack = or_left (kind_number j == kind_number j) (is_open stack j) (eq-eqb (kind_number j) (kind_number j) refl)
 
 other_kind : (k j : Kind) (stack : List Kind) → is_open (j ∷ stack) k ≡ false → k ≢ j
-other_kind k j stack f s = let o : is_open (j ∷ stack) k ≡ true = subst (λ (x : Kind). is_open (j ∷ stack) x ≡ true) (sym s) (self_open j stack) in (let z = sym o ∙ f in cc)
+other_kind k j stack f s = eqb-false (kind_number j) (kind_number k) (or_parts (kind_number j == kind_number k) (is_open stack k) f).0 (sym (ap kind_number s))
 
 -- after an entry; what is seen due before it is due
 pub entry_patient : (nest : Nest) (stack : List Kind) (due seen seen' : Kind → Bool) (j : Kind) (hold hold' : ℕ) (w : Kind → ℕ)
     → ((k : Kind) → is_waiting seen stack k ≡ true → due k ≡ true) → next_entry nest stack due ≡ Some j → Patient nest hold false stack seen w
     → Patient nest hold' false (j ∷ stack) seen' (λ k. wait_next nest k (is_waiting seen stack k) (is_waiting seen' (j ∷ stack) k) (Some j) (w k))
 entry_patient nest stack due seen seen' j hold hold' w sees chosen p = record {
-  bound = λ k after. rest_zero (is_behind nest (Some j) k) false _ hold' refl (elim (by_bool (is_waiting seen stack k)) [
+  bound = λ k after. rest_zero (is_behind nest (Some j) k) false _ hold' refl (elim (cases_Bool (is_waiting seen stack k)) [
     | inl before ↦ (
         let ne = other_kind k j stack (waits_parts seen' (j ∷ stack) k after).1 in
         let le = highest_most due j k (sees k before) (entry_highest nest stack due j chosen) in
@@ -270,14 +222,14 @@ pub own_patient : (nest : Nest) (j : Kind) (outer stack' : List Kind) (due seen 
     → Patient nest hold masked (j ∷ outer) seen w
     → Patient nest hold' masked' stack' seen' (λ k. wait_next nest k (is_waiting seen (j ∷ outer) k) (is_waiting seen' stack' k) (Some j) (w k))
 own_patient nest j outer stack' due seen seen' masked masked' hold hold' w sees none goes some most less p = record {
-  bound = λ k after. elim (by_bool (is_waiting seen (j ∷ outer) k)) [
+  bound = λ k after. elim (cases_Bool (is_waiting seen (j ∷ outer) k)) [
     | inr fresh ↦ rw (wait_fresh nest k (is_waiting seen (j ∷ outer) k) (is_waiting seen' stack' k) (Some j) (w k) fresh)
         (rest_room (is_behind nest (innermost stack') k) masked' hold' most)
     | inl before ↦ (
         let parts = waits_parts seen (j ∷ outer) k before in
         let ne = other_kind k j outer parts.1 in
-        elim (by_bool (counts nest k (Some j))) [
-          | inl c ↦ rw (wait_counted nest k (is_waiting seen (j ∷ outer) k) (is_waiting seen' stack' k) (Some j) (w k) before after c) (elim (by_bool masked) [
+        elim (cases_Bool (counts nest k (Some j))) [
+          | inl c ↦ rw (wait_counted nest k (is_waiting seen (j ∷ outer) k) (is_waiting seen' stack' k) (Some j) (w k) before after c) (elim (cases_Bool masked) [
             | inl m ↦ rest_kept (is_behind nest (innermost stack') k) masked' (w k + 1) hold'
                 (less_room masked masked' hold hold' (w k) m (some m) (less m) (rw (not_behind nest k j c) at (p.bound k before)))
             | inr m ↦ absurd (none_kept nest j k outer due c ne (sees k before) (none m))
@@ -299,7 +251,7 @@ pub pass_patient : (nest : Nest) (stack : List Kind) (seen seen' : Kind → Bool
     → Patient nest hold masked stack seen w
     → Patient nest hold masked stack seen' (λ k. wait_next nest k (is_waiting seen stack k) (is_waiting seen' stack k) None (w k))
 pass_patient nest stack seen seen' masked hold w p = record {
-  bound = λ k after. elim (by_bool (is_waiting seen stack k)) [
+  bound = λ k after. elim (cases_Bool (is_waiting seen stack k)) [
     | inl before ↦ rw (wait_uncounted nest k (is_waiting seen stack k) (is_waiting seen' stack k) None (w k) before after refl) (p.bound k before)
     | inr fresh ↦ rw (wait_fresh nest k (is_waiting seen stack k) (is_waiting seen' stack k) None (w k) fresh) (rest_room (is_behind nest (innermost stack) k) masked hold p.held)
   ];
@@ -312,11 +264,11 @@ pub grow_patient : (nest : Nest) (stack : List Kind) (seen seen' : Kind → Bool
     → ((k : Kind) → is_waiting seen stack k ≡ true → is_waiting seen' stack k ≡ true)
     → Patient nest hold masked stack seen w → Patient nest hold masked stack seen' w
 grow_patient nest stack seen seen' masked hold w grows p = record {
-  bound = λ k after. elim (by_bool (is_waiting seen stack k)) [
+  bound = λ k after. elim (cases_Bool (is_waiting seen stack k)) [
     | inl before ↦ p.bound k before
     | inr fresh ↦ rw (p.calm k fresh) (rest_room (is_behind nest (innermost stack) k) masked hold p.held)
   ];
-  calm = λ k over. elim (by_bool (is_waiting seen stack k)) [
+  calm = λ k over. elim (cases_Bool (is_waiting seen stack k)) [
     | inl before ↦ absurd (let g = grows k before in (let z = sym g ∙ over in cc))
     | inr fresh ↦ p.calm k fresh
   ];
@@ -334,7 +286,7 @@ same_patient nest hold masked stack due w w' e p = record {
 -- ---- along a log
 
 pub patient_most : (nest : Nest) (hold : ℕ) (masked : Bool) (stack : List Kind) (due : Kind → Bool) (w : Kind → ℕ) → Patient nest hold masked stack due w → (k : Kind) → w k ≤ 8
-patient_most nest hold masked stack due w p k = elim (by_bool (is_waiting due stack k)) [
+patient_most nest hold masked stack due w p k = elim (cases_Bool (is_waiting due stack k)) [
   | inl b ↦ drop_rest (w k) _ (p.bound k b)
   | inr b ↦ rw (p.calm k b) (omega arith)
 ]
@@ -355,13 +307,13 @@ start_responds nest hold due = responds nest hold false [] due [] (record {
 })
 
 pub longer : (j : Kind) (stack : List Kind) → stepper stack (j ∷ stack) ≡ Some j
-longer j stack = rw (lt_to (length stack) (length (j ∷ stack)) (omega arith)) refl
+longer j stack = rw (lt-ltb (length stack) (length (j ∷ stack)) (omega arith)) refl
 
 pub same_long : (j : Kind) (outer : List Kind) → stepper (j ∷ outer) (j ∷ outer) ≡ Some j
-same_long j outer = rw (ge_to (length (j ∷ outer)) (length (j ∷ outer)) (omega arith)) refl
+same_long j outer = rw (le-ltb (length (j ∷ outer)) (length (j ∷ outer)) (omega arith)) refl
 
 pub shorter : (j : Kind) (outer : List Kind) → stepper (j ∷ outer) outer ≡ Some j
-shorter j outer = rw (ge_to (length (j ∷ outer)) (length outer) (omega arith)) refl
+shorter j outer = rw (le-ltb (length (j ∷ outer)) (length outer) (omega arith)) refl
 
 entry_responds : (nest : Nest) (hold hold' : ℕ) (stack : List Kind) (due due' : Kind → Bool) (j : Kind) (log : List Moment)
     → next_entry nest stack due ≡ Some j → Responds nest hold false stack due log

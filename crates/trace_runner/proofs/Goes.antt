@@ -1,5 +1,6 @@
 -- Calls one after the other.
 use Rattle.std.proofs.Common.{◌≡◌, ℕ, List, [], ◌∷◌, ◌++◌, refl, sym, ◌∙◌, ap, subst, append_assoc, append-nil, Option, Some, None}
+use Rattle.std.proofs.lemmas.List.Concat.{flat_map-append}
 use Rattle.std.specs.Io.KnownBytes.{append_known}
 use Rattle.esc_base.specs.declared.event.Event.{Event}
 use Rattle.esc_base.specs.declared.note.Note.{Note}
@@ -16,17 +17,9 @@ pub append_known-nil : (o : Option (List ℕ)) → append_known o [] ≡ o
 append_known-nil (Some bs) = ap (λ (x : List ℕ). Some x) (append-nil bs)
 append_known-nil None = refl
 
-pub Text-append : (xs ys : List Note) → Text (xs ++ ys) ≡ Text xs ++ Text ys
-Text-append [] ys = refl
-Text-append (x ∷ xs) ys = ap (λ (z : List ℕ). note_bytes x ++ z) (Text-append xs ys) ∙ sym (append_assoc (note_bytes x) (Text xs) (Text ys))
-
 lines-append : {K : Type 0} (took : K → List ℕ → K → Type 0) (xs ys : List Note) (a b c : K) → TookLines took a xs b → TookLines took b ys c → TookLines took a (xs ++ ys) c
 lines-append {K} took [] ys a b c e f = subst (λ (x : K). TookLines took x ys c) e f
 lines-append {K} took (x ∷ xs) ys a b c e f = (e.0, e.1, lines-append took xs ys e.0 b c e.2 f)
-
-pub notes_in-append : (xs ys : List Turned) → notes_in (xs ++ ys) ≡ notes_in xs ++ notes_in ys
-notes_in-append [] ys = refl
-notes_in-append (x ∷ xs) ys = ap (λ (ns : List Note). x.notes ++ ns) (notes_in-append xs ys) ∙ sym (append_assoc x.notes (notes_in xs) (notes_in ys))
 
 -- the notes of one step
 pub one_log : (e : Turned) (own : List Note) → e.notes ≡ own → notes_in (e ∷ []) ≡ own
@@ -34,7 +27,7 @@ one_log e own h = append-nil e.notes ∙ h
 
 regroup : (steps log : List Turned) (notes : List Note) (last : Note) → notes_in (steps ++ log) ++ (notes ++ last ∷ []) ≡ notes_in steps ++ ((notes_in log ++ notes) ++ last ∷ [])
 regroup steps log notes last =
-    ap (λ (ns : List Note). ns ++ (notes ++ last ∷ [])) (notes_in-append steps log)
+    ap (λ (ns : List Note). ns ++ (notes ++ last ∷ [])) (flat_map-append (λ e. e.notes) steps log)
     ∙ append_assoc (notes_in steps) (notes_in log) (notes ++ last ∷ [])
     ∙ ap (λ (ns : List Note). notes_in steps ++ ns) (sym (append_assoc (notes_in log) notes (last ∷ [])))
 
@@ -71,8 +64,8 @@ module _ {K : Type 0} (given : K → Option (List ℕ)) (took : K → List ℕ �
   goes_further old mid new es fs a b c r s = record {
     log = r.log ++ s.log;
     stands = λ trace steps st. rw (← append_assoc trace es fs, ← append_assoc steps r.log s.log) (s.stands (trace ++ es) (steps ++ r.log) (r.stands trace steps st));
-    given_is = rw (notes_in-append r.log s.log, Text-append (notes_in r.log) (notes_in s.log), append_known-twice (given a) (Text (notes_in r.log)) (Text (notes_in s.log)), ← r.given_is) s.given_is;
-    lines = rw (notes_in-append r.log s.log) (lines-append took (notes_in r.log) (notes_in s.log) a b c r.lines s.lines);
+    given_is = rw (flat_map-append (λ e. e.notes) r.log s.log, flat_map-append note_bytes (notes_in r.log) (notes_in s.log), append_known-twice (given a) (Text (notes_in r.log)) (Text (notes_in s.log)), ← r.given_is) s.given_is;
+    lines = rw (flat_map-append (λ e. e.notes) r.log s.log) (lines-append took (notes_in r.log) (notes_in s.log) a b c r.lines s.lines);
   }
 
 module _ {K : Type 0} (given : K → Option (List ℕ)) (took broke : K → List ℕ → K → Type 0) (loaded : Loaded) where
@@ -103,7 +96,7 @@ module _ {K : Type 0} (given : K → Option (List ℕ)) (took broke : K → List
         subst (λ (ns : List Note). leaves trace ns) (further loaded steps r.log s.notes s.last) (subst (λ (es : List Event). leaves es (journal loaded (steps ++ r.log) ++ (s.notes ++ s.last ∷ []))) (append-nil trace) l);
     mid = s.mid;
     lines = lines-append took (notes_in r.log) s.notes a b s.mid r.lines s.lines;
-    given_is = rw (Text-append (notes_in r.log) s.notes, append_known-twice (given a) (Text (notes_in r.log)) (Text s.notes), ← r.given_is) s.given_is;
+    given_is = rw (flat_map-append note_bytes (notes_in r.log) s.notes, append_known-twice (given a) (Text (notes_in r.log)) (Text s.notes), ← r.given_is) s.given_is;
     refused = s.refused;
     appended = s.appended;
   }

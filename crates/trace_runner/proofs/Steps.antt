@@ -1,6 +1,7 @@
 -- A step more, and what time and events do to the steps' places.
-use Rattle.std.proofs.Common.{◌≡◌, ◌<◌, ◌≤◌, ◌+◌, ℕ, Bool, false, List, [], ◌∷◌, ◌++◌, append-nil, append_assoc, length, All, Option, Some, None, inl, inr, max, refl, sym, ◌∙◌, ap, subst, arith}
-use Rattle.std.proofs.lemmas.List.Elements.{All-push, All-weaker, All-append, All-nil, All-cons, All-head, All-tail}
+use Rattle.std.proofs.Common.{◌≡◌, ◌<◌, ◌≤◌, ◌+◌, ℕ, false, List, [], ◌∷◌, ◌++◌, length, All, Option, Some, None, inl, inr, max, refl, sym, ◌∙◌, ap, subst, arith}
+use Rattle.std.proofs.lemmas.Bool.Decides.{nat_tests}
+use Rattle.std.proofs.lemmas.List.Elements.{All-push, All-weaker, All-append}
 use Rattle.esc_base.specs.declared.event.Event.{Event}
 use Rattle.esc_base.specs.declared.event.Event.TheVariants as event
 use Rattle.esc_base.specs.declared.tick.Tick.{Tick}
@@ -11,23 +12,23 @@ use Rattle.esc_base.specs.declared.kind.Kind.{Kind}
 use Rattle.esc_base.specs.declared.note.Note.{Note}
 use Rattle.settings_block.specs.declared.stored.Loaded.{Loaded}
 use Rattle.timer_regs.specs.Bank.{Bank}
-use Rattle.timer_regs.specs.Effects.{advanced, after_line}
+use Rattle.timer_regs.specs.Effects.{advanced}
 use Rattle.timer_regs.specs.NextDue.{tick_of, IsNext, IsNextDue}
 use Rattle.esc_core.specs.Cap.{tick_at}
 use Rattle.interrupt_machine.specs.declared.nest.Nest.{Nest}
 use Rattle.interrupt_machine.specs.Open.{due_now, is_idle}
 use Rattle.esc_core.specs.Brain.{Brain}
-use Rattle.esc_laws.specs.Steps.{Turned, journal, Below, EachStep, StepFits}
+use Rattle.esc_laws.specs.Steps.{Turned, journal, past_stall, Below, EachStep, StepFits}
 use Rattle.esc_laws.specs.Legal.{Legal}
-use Rattle.esc_laws.specs.Logged.{Logged, CoreTurn, turned}
+use Rattle.esc_laws.specs.Logged.{after_event, Logged, CoreTurn, turned}
 use Rattle.esc_laws.proofs.Pushes.{journal-push, step-push}
-use Rattle.trace_runner.specs.Run.{IsApart, StepBound, Outset, LeftBelow, StandsFor, nest_of, cost_of, newest}
+use Rattle.trace_runner.specs.Run.{IsApart, StepBound, Outset, Runs, LeftBelow, StandsFor, nest_of, cost_of, newest}
 use Rattle.trace_runner.specs.declared.state.Runner.{Runner}
 use Rattle.esc_laws.specs.Saves.{FlashFits}
 use Rattle.esc_laws.proofs.FlashSteps.{all_front, turn_flash, front_flash}
-use Rattle.esc_laws.proofs.Carried.{turn_logged, time_logged, edge_logged, comp_logged, serial_logged, stall_logged, legal_logged, front_logged, last_step}
+use Rattle.esc_laws.proofs.Carried.{turn_logged, time_logged, event_logged, legal_logged, front_logged, last_step}
 
-pub bound_push : (cost until : ℕ) (steps : List Turned) (e : Turned) → StepBound cost until steps → All (λ d. d.tick + cost ≤ e.tick) steps → e.tick < until → length e.notes ≤ 6 → StepBound cost until (steps ++ e ∷ [])
+bound_push : (cost until : ℕ) (steps : List Turned) (e : Turned) → StepBound cost until steps → All (λ d. d.tick + cost ≤ e.tick) steps → e.tick < until → length e.notes ≤ 6 → StepBound cost until (steps ++ e ∷ [])
 bound_push cost until steps e b s lt few = record {
   apart = step-push (IsApart cost) [] steps e b.apart s;
   below = All-push (λ d. d.tick < until) steps e b.below lt;
@@ -139,55 +140,21 @@ due_after o u limit e le d h = let f : u.0 ≡ d = tick_is o u d e h in omega ar
 pub none_due : (o : Option Tick) (limit : ℕ) → o ≡ None → (d : ℕ) → tick_of o ≡ Some d → limit ≤ d
 none_due o limit e d h = let f : None ≡ Some d = sym (ap (λ (x : Option Tick). tick_of x) e) ∙ h in absurd (cc)
 
--- ---- events, at the limit
+-- ---- an event, at the limit
 
-at_limit : (t : Tick) (n : ℕ) → n ≡ t.0 → t ≡ tick_at n
-at_limit t n e = rw e refl
+-- `e` is the event, and `x` shows what it is
+pub event_later : (r : Runner) (e x : Event) (b' : Bank) (next' : ℕ) → r.limit.0 ≡ tick_of_event e → r.limit.0 ≤ r.next.0 → e ≡ x → b' ≡ after_event (advanced r.regs r.limit.0) x → next' ≡ past_stall r.next.0 x
+    → (o : Outset) (now : Told) (trace : List Event) (steps : List Turned) → Runs r o now trace steps
+    → Logged o.loaded r.machine.nest r.cost (trace ++ e ∷ []) next' r.machine.firmware b' r.machine.open_kinds steps
+event_later r e x b' next' at reached is bank put_off o now trace steps st =
+    let small : r.limit.0 ≤ 1073741824 = r.limit_small in
+    rw (is, bank, put_off)
+    (event_logged o.loaded r.machine.nest r.cost trace x r.next.0 r.machine.firmware (advanced r.regs r.limit.0) r.machine.open_kinds steps (rw (← is) (sym at)) st.bound.below
+    (time_logged o.loaded r.machine.nest r.cost trace r.next.0 r.machine.firmware r.regs r.machine.open_kinds steps r.limit.0 r.before reached (omega arith) st.logged))
 
-with_event : (loaded : Loaded) (nest : Nest) (cost : ℕ) (trace : List Event) (e e' : Event) (next : ℕ) (c : Brain) (b b' : Bank) (stack : List Kind) (steps : List Turned) → e ≡ e' → b ≡ b'
-    → Logged loaded nest cost (trace ++ e' ∷ []) next c b' stack steps → Logged loaded nest cost (trace ++ e ∷ []) next c b stack steps
-with_event loaded nest cost trace e e' next c b b' stack steps same bank l = rw (same, bank) l
-
--- the runner's place before an event: all steps are below it
-pub record IsReady (loaded : Loaded) (nest : Nest) (cost : ℕ) (trace : List Event) (next : ℕ) (c : Brain) (b : Bank) (stack : List Kind) (steps : List Turned) (limit : ℕ) : Type 0 where
-  pub logged : Logged loaded nest cost trace next c b stack steps
-  pub below : Below limit steps
-  pub later : b.time ≤ limit
-  pub reached : limit ≤ next
-  pub small : limit < 2147483648
-
-module _ (loaded : Loaded) (nest : Nest) (cost : ℕ) (trace : List Event) (next : ℕ) (c : Brain) (b b' : Bank) (stack : List Kind) (steps : List Turned) (limit : ℕ) (e : Event) (t : Tick) where
-  at_event : IsReady loaded nest cost trace next c b stack steps limit → Logged loaded nest cost trace next c (advanced b limit) stack steps
-  at_event r = time_logged loaded nest cost trace next c b stack steps limit r.later r.reached r.small r.logged
-
-  pub edge_later : (level : Bool) → e ≡ event.Edge t level → limit ≡ tick_of_event e → b' ≡ after_line (advanced b limit) level → IsReady loaded nest cost trace next c b stack steps limit
-      → Logged loaded nest cost (trace ++ e ∷ []) next c b' stack steps
-  edge_later level is at bank r =
-      let n : limit ≡ t.0 = subst (λ (x : Event). limit ≡ tick_of_event x) is at in
-      with_event loaded nest cost trace e (event.Edge (tick_at limit) level) next c b' (after_line (advanced b limit) level) stack steps (is ∙ ap (λ (u : Tick). event.Edge u level) (at_limit t limit n)) bank
-      (edge_logged loaded nest cost trace next c (advanced b limit) stack steps level r.below (at_event r))
-
-  pub comp_later : (level : Bool) → e ≡ event.Comp t level → limit ≡ tick_of_event e → b' ≡ advanced b limit → IsReady loaded nest cost trace next c b stack steps limit
-      → Logged loaded nest cost (trace ++ e ∷ []) next c b' stack steps
-  comp_later level is at bank r =
-      let n : limit ≡ t.0 = subst (λ (x : Event). limit ≡ tick_of_event x) is at in
-      with_event loaded nest cost trace e (event.Comp (tick_at limit) level) next c b' (advanced b limit) stack steps (is ∙ ap (λ (u : Tick). event.Comp u level) (at_limit t limit n)) bank
-      (comp_logged loaded nest cost trace next c (advanced b limit) stack steps level r.below (at_event r))
-
-  pub serial_later : (byte : ℕ) → e ≡ event.Serial t byte → limit ≡ tick_of_event e → b' ≡ advanced b limit → IsReady loaded nest cost trace next c b stack steps limit
-      → Logged loaded nest cost (trace ++ e ∷ []) next c b' stack steps
-  serial_later byte is at bank r =
-      let n : limit ≡ t.0 = subst (λ (x : Event). limit ≡ tick_of_event x) is at in
-      with_event loaded nest cost trace e (event.Serial (tick_at limit) byte) next c b' (advanced b limit) stack steps (is ∙ ap (λ (u : Tick). event.Serial u byte) (at_limit t limit n)) bank
-      (serial_logged loaded nest cost trace next c (advanced b limit) stack steps byte r.below (at_event r))
-
-  pub stall_later : (n next' : ℕ) → e ≡ event.Stall t n → limit ≡ tick_of_event e → b' ≡ advanced b limit → next' ≡ max next (t.0 + n) → IsReady loaded nest cost trace next c b stack steps limit
-      → Logged loaded nest cost (trace ++ e ∷ []) next' c b' stack steps
-  stall_later n next' is at bank put_off r =
-      let u : limit ≡ t.0 = subst (λ (x : Event). limit ≡ tick_of_event x) is at in
-      subst (λ (k : ℕ). Logged loaded nest cost (trace ++ e ∷ []) k c b' stack steps) (ap (λ (k : ℕ). max next (k + n)) u ∙ sym put_off)
-      (with_event loaded nest cost trace e (event.Stall (tick_at limit) n) (max next (limit + n)) c b' (advanced b limit) stack steps (is ∙ ap (λ (x : Tick). event.Stall x n) (at_limit t limit u)) bank
-      (stall_logged loaded nest cost trace next c (advanced b limit) stack steps n r.below (at_event r)))
+-- a stall that begins by the next step puts it off to its end, if that is later
+pub stall_max : (at n next : ℕ) → at ≤ next → max next (at + n) ≡ past_stall next (event.Stall (tick_at at) n)
+stall_max at n next le = grind (arith, nat_tests)
 
 -- ---- what a runner that stands says
 

@@ -1,5 +1,6 @@
 -- One more line.
 use Rattle.std.proofs.Common.{◌≡◌, ℕ, List, [], ◌∷◌, ◌++◌, refl, sym, ◌∙◌, ap, subst, append_assoc, append-nil, Option, Some, None, ◌<◌, ◌+◌, length, take, drop, get_or, add-one, drop-cons, Result, Ok, Err, OnErr, OnOk}
+use Rattle.std.proofs.lemmas.List.Concat.{flat_map-append}
 use Rattle.std.proofs.lemmas.List.{take_more, take-append-drop}
 use Rattle.std.specs.Io.KnownBytes.{append_known}
 use Rattle.esc_base.specs.declared.note.Note.{Note}
@@ -12,8 +13,7 @@ TookLines-push {K} took [] n a b c e p = (c, subst (λ (x : K). took x (note_byt
 TookLines-push {K} took (m ∷ notes) n a b c e p = (e.0, e.1, TookLines-push took notes n e.0 b c e.2 p)
 
 Text-push : (notes : List Note) (n : Note) → Text (notes ++ n ∷ []) ≡ Text notes ++ note_bytes n
-Text-push [] n = append-nil (note_bytes n)
-Text-push (m ∷ notes) n = ap (λ (x : List ℕ). note_bytes m ++ x) (Text-push notes n) ∙ sym (append_assoc (note_bytes m) (Text notes) (note_bytes n))
+Text-push notes n = flat_map-append note_bytes notes (n ∷ []) ∙ ap (λ (x : List ℕ). Text notes ++ x) (append-nil (note_bytes n))
 
 pub append_known-twice : (o : Option (List ℕ)) (xs ys : List ℕ) → append_known o (xs ++ ys) ≡ append_known (append_known o xs) ys
 append_known-twice (Some bs) xs ys = ap (λ (x : List ℕ). Some x) (sym (append_assoc bs xs ys))

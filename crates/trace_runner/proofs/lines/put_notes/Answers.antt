@@ -1,4 +1,4 @@
-use Rattle.std.proofs.Common.{◌≡◌, ◌∙◌, ◌≤◌, ◌<◌, ℕ, List, length, arith}
+use Rattle.std.proofs.Common.{◌∙◌, ◌<◌, ℕ, List, length, arith}
 use Rattle.esc_base.specs.declared.note.Note.{Note}
 use Rattle.esc_base.specs.declared.note.Note.TheVariants.{Up}
 use Rattle.trace_runner.proofs.Written.{lines_more, given_more, broke_at, on_err}

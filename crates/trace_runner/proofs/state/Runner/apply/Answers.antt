@@ -1,29 +1,18 @@
-use Rattle.std.proofs.Common.{◌≡◌, ◌≤◌, ◌<◌, ℕ, List, max, ◌∙◌, ap, arith, ◌+◌}
+use Rattle.std.proofs.Common.{◌≡◌, ◌≤◌, max, refl, ◌∙◌, ap, subst, arith, ◌+◌}
 use Rattle.esc_base.specs.declared.event.Event.{Event}
-use Rattle.esc_base.specs.Flash.{Told}
+use Rattle.esc_base.specs.declared.event.Event.TheVariants as event
+use Rattle.esc_base.specs.Trace.{tick_of}
 use Rattle.timer_regs.specs.Bank.{Bank}
 use Rattle.timer_regs.specs.Effects.{after_line}
-use Rattle.esc_laws.specs.Steps.{Turned}
 use Rattle.trace_runner.specs.declared.state.Runner.{Runner}
-use Rattle.trace_runner.specs.Run.{Outset, Runs}
-use Rattle.trace_runner.proofs.Steps.{IsReady, edge_later, comp_later, serial_later, stall_later, spaced_later}
+use Rattle.trace_runner.proofs.Steps.{event_later, stall_max, spaced_later}
 use Rattle.trace_runner.proofs.state.Runner.apply.Goals as goal
-
-ready : (r : Runner) (o : Outset) (now : Told) (trace : List Event) (steps : List Turned) → r.limit.0 ≤ r.next.0 → Runs r o now trace steps → IsReady o.loaded r.machine.nest r.cost trace r.next.0 r.machine.firmware r.regs r.machine.open_kinds steps r.limit.0
-ready r o now trace steps reached st = record {
-  logged = st.logged;
-  below = st.bound.below;
-  later = r.before;
-  reached = reached;
-  small = let most : r.limit.0 ≤ 1073741824 = r.limit_small in omega arith;
-}
 
 pub returns-in-Edge-clause-runs : goal.returns-in-Edge-clause-runs
 returns-in-Edge-clause-runs c = λ o now trace steps st.
-    let r : Runner = c.args.self.now in
+    let bank = c.edge.ensures ∙ ap (λ (b : Bank). after_line b c.in-Edge.level) c.advance.ensures.regs in
     record {
-      logged = edge_later o.loaded r.machine.nest r.cost trace r.next.0 r.machine.firmware r.regs c.edge.new.self r.machine.open_kinds steps r.limit.0 c.args.e c.in-Edge.t c.in-Edge.level c.in-Edge.is c.requires.at
-          (c.edge.ensures ∙ ap (λ (b : Bank). after_line b c.in-Edge.level) c.advance.ensures.regs) (ready r o now trace steps c.requires.reached st);
+      logged = event_later c.args.self.now c.args.e (event.Edge c.in-Edge.t c.in-Edge.level) c.edge.new.self c.args.self.now.next.0 c.requires.at c.requires.reached c.in-Edge.is bank refl o now trace steps st;
       bound = st.bound;
       spaced = st.spaced;
       flash = st.flash;
@@ -31,10 +20,9 @@ returns-in-Edge-clause-runs c = λ o now trace steps st.
 
 pub returns-in-Comp-clause-runs : goal.returns-in-Comp-clause-runs
 returns-in-Comp-clause-runs c = λ o now trace steps st.
-    let r : Runner = c.args.self.now in
+    let bank = c.comp.ensures ∙ c.advance.ensures.regs in
     record {
-      logged = comp_later o.loaded r.machine.nest r.cost trace r.next.0 r.machine.firmware r.regs c.comp.new.self r.machine.open_kinds steps r.limit.0 c.args.e c.in-Comp.t c.in-Comp.level c.in-Comp.is c.requires.at
-          (c.comp.ensures ∙ c.advance.ensures.regs) (ready r o now trace steps c.requires.reached st);
+      logged = event_later c.args.self.now c.args.e (event.Comp c.in-Comp.t c.in-Comp.level) c.comp.new.self c.args.self.now.next.0 c.requires.at c.requires.reached c.in-Comp.is bank refl o now trace steps st;
       bound = st.bound;
       spaced = st.spaced;
       flash = st.flash;
@@ -42,10 +30,9 @@ returns-in-Comp-clause-runs c = λ o now trace steps st.
 
 pub returns-in-Serial-clause-runs : goal.returns-in-Serial-clause-runs
 returns-in-Serial-clause-runs c = λ o now trace steps st.
-    let r : Runner = c.args.self.now in
+    let bank = c.serial.ensures.same ∙ c.advance.ensures.regs in
     record {
-      logged = serial_later o.loaded r.machine.nest r.cost trace r.next.0 r.machine.firmware r.regs c.serial.new.self r.machine.open_kinds steps r.limit.0 c.args.e c.in-Serial.t c.in-Serial.byte c.in-Serial.is c.requires.at
-          (c.serial.ensures.same ∙ c.advance.ensures.regs) (ready r o now trace steps c.requires.reached st);
+      logged = event_later c.args.self.now c.args.e (event.Serial c.in-Serial.t c.in-Serial.byte) c.serial.new.self c.args.self.now.next.0 c.requires.at c.requires.reached c.in-Serial.is bank refl o now trace steps st;
       bound = st.bound;
       spaced = st.spaced;
       flash = st.flash;
@@ -56,9 +43,10 @@ returns-in-Stall-clause-runs c = λ o now trace steps st.
     let r : Runner = c.args.self.now in
     let m : c.max.result ≡ max r.next.0 (c.in-Stall.t.0 + c.in-Stall.n) = c.max.ensures in
     let le : r.next.0 ≤ c.max.result = omega arith in
+    let at : r.limit.0 ≡ c.in-Stall.t.0 = subst (λ (x : Event). r.limit.0 ≡ tick_of x) c.in-Stall.is c.requires.at in
+    let put_off = stall_max c.in-Stall.t.0 c.in-Stall.n r.next.0 (rw (← at) c.requires.reached) in
     record {
-      logged = stall_later o.loaded r.machine.nest r.cost trace r.next.0 r.machine.firmware r.regs c.advance.new.self r.machine.open_kinds steps r.limit.0 c.args.e c.in-Stall.t c.in-Stall.n c.max.result c.in-Stall.is c.requires.at
-          c.advance.ensures.regs m (ready r o now trace steps c.requires.reached st);
+      logged = event_later r c.args.e (event.Stall c.in-Stall.t c.in-Stall.n) c.advance.new.self c.max.result c.requires.at c.requires.reached c.in-Stall.is c.advance.ensures.regs (m ∙ put_off) o now trace steps st;
       bound = st.bound;
       spaced = spaced_later r.cost r.next.0 c.max.result steps le st.spaced;
       flash = st.flash;

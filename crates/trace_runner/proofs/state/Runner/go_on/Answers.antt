@@ -1,4 +1,4 @@
-use Rattle.std.proofs.Common.{◌≡◌, []}
+use Rattle.std.proofs.Common.{[]}
 use Rattle.esc_base.specs.Flash.{told}
 use Rattle.trace_runner.specs.Run.{Runs}
 use Rattle.trace_runner.proofs.Goes.{goes_none, goes_from, breaks_from, breaks_as}

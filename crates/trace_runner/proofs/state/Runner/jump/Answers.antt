@@ -1,4 +1,4 @@
-use Rattle.std.proofs.Common.{◌≡◌, ◌≤◌, ◌<◌, ℕ, arith, sym, subst, Option, Some, None}
+use Rattle.std.proofs.Common.{◌≡◌, ◌≤◌, ◌<◌, ℕ, arith, sym, subst, Option}
 use Rattle.esc_base.specs.declared.tick.Tick.{Tick}
 use Rattle.timer_regs.specs.NextDue.{tick_of}
 use Rattle.esc_laws.specs.Logged.{Logged}

@@ -1,4 +1,4 @@
-use Rattle.std.proofs.Common.{◌≡◌, ◌≤◌, ◌<◌, arith}
+use Rattle.std.proofs.Common.{◌≤◌, ◌<◌, arith}
 use Rattle.trace_runner.specs.declared.state.Runner.{Runner}
 use Rattle.esc_laws.proofs.Carried.{time_logged}
 use Rattle.trace_runner.proofs.state.Runner.pass.Goals as goal

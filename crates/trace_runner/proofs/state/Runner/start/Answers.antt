@@ -1,12 +1,9 @@
-use Rattle.std.proofs.Common.{◌≡◌, ◌≤◌, ◌<◌, ◌+◌, ℕ, Option, length, [], ◌∷◌, false, refl, arith}
-use Rattle.std.proofs.lemmas.List.Elements.{All-nil, All-cons}
-use Rattle.esc_base.specs.declared.note.Note.{Note}
-use Rattle.esc_base.specs.declared.note.Note.TheVariants as note
+use Rattle.std.proofs.Common.{◌≤◌, ◌<◌, ◌+◌, length, [], arith}
+use Rattle.std.proofs.lemmas.List.Elements.{All-nil}
 use Rattle.esc_base.specs.Flash.{Told}
 use Rattle.settings_block.specs.declared.stored.Loaded.{Loaded}
-use Rattle.esc_core.specs.Cap.{tick_at}
 use Rattle.esc_laws.specs.Saves.{FlashFits}
-use Rattle.esc_laws.specs.Steps.{Turned, load_number, journal}
+use Rattle.esc_laws.specs.Steps.{Turned, journal}
 use Rattle.esc_laws.proofs.Carried.{start_logged, legal_logged}
 use Rattle.esc_laws.proofs.Saves.{first_unsaved, fits_start}
 use Rattle.trace_runner.proofs.state.Runner.start.Goals as goal

@@ -1,13 +1,13 @@
-use Rattle.std.proofs.Common.{◌≡◌, ◌<◌, ◌≤◌, ◌+◌, ℕ, List, [], ◌∷◌, ◌++◌, length, subst, sym, ◌∙◌, append-nil, arith}
+use Rattle.std.proofs.Common.{◌≡◌, ◌<◌, ◌≤◌, ◌+◌, List, [], ◌∷◌, length, subst, sym, ◌∙◌, append-nil, arith}
 use Rattle.esc_base.specs.declared.note.Note.{Note}
 use Rattle.esc_base.specs.Flash.{Told, told}
-use Rattle.esc_laws.specs.Steps.{Turned, Below}
+use Rattle.esc_laws.specs.Steps.{Turned}
 use Rattle.esc_laws.specs.Logged.{CoreTurn, turned}
 use Rattle.trace_runner.specs.declared.state.Runner.{Runner}
 use Rattle.trace_runner.specs.Run.{Runs, LeftBelow}
 use Rattle.trace_runner.proofs.Goes.{breaks_in, one_log}
 use Rattle.trace_runner.proofs.Written.{on_ok_two, on_err_map}
-use Rattle.trace_runner.proofs.Steps.{turned-tick, turned-notes, step_logged, step_flash, step_breaks, bound_push, spaced_push, below_next, tick_bound}
+use Rattle.trace_runner.proofs.Steps.{turned-tick, turned-notes, step_logged, step_flash, step_breaks, spaced_push, below_next, tick_bound}
 use Rattle.trace_runner.proofs.state.Runner.step.Goals as goal
 
 pub returns-clause-goes : goal.returns-clause-goes
