@@ -1,5 +1,5 @@
 -- What carries `Logged` on: a step, time, an idle jump, an event; and what it says of the journal.
-use Rattle.std.proofs.Common.{◌≡◌, ◌≢◌, ◌<◌, ◌≤◌, ◌+◌, ℕ, Bool, true, false, not, ◌&&◌, List, [], ◌∷◌, ◌++◌, Option, Some, None, is_none, refl, sym, ◌∙◌, ap, subst, arith, inl, inr, append_assoc, append-nil, reverse}
+use Rattle.std.proofs.Common.{◌≡◌, ◌≢◌, ◌<◌, ◌≤◌, ◌+◌, ℕ, Bool, true, false, not, ◌&&◌, List, [], ◌∷◌, ◌++◌, Option, Some, None, All, is_none, refl, sym, ◌∙◌, ap, subst, arith, inl, inr, append_assoc, append-nil, reverse}
 use Rattle.std.proofs.lemmas.Bool.{cases_lt}
 use Rattle.std.proofs.lemmas.List.Elements.{All-push}
 use Rattle.esc_base.specs.declared.kind.Kind.{Kind}
@@ -8,6 +8,7 @@ use Rattle.esc_base.specs.declared.event.Event.{Event}
 use Rattle.esc_base.specs.declared.note.Note.{Note}
 use Rattle.esc_base.specs.Flash.{Told}
 use Rattle.esc_base.specs.Journal.{IsLater, Journal}
+use Rattle.esc_base.specs.Range.{InRange}
 use Rattle.esc_base.specs.Trace.{tick_of}
 use Rattle.settings_block.specs.declared.stored.Loaded.{Loaded}
 use Rattle.timer_regs.specs.Bank.{Bank}
@@ -225,10 +226,11 @@ module _ (loaded : Loaded) (nest : Nest) (cost : ℕ) (trace : List Event) (e : 
 
 -- a journal whose steps stand below T, and which awaits none below it, is legal up to T
 pub legal_logged : (loaded : Loaded) (nest : Nest) (cost : ℕ) (trace : List Event) (next : ℕ) (c : Brain) (b : Bank) (stack : List Kind) (log : List Turned) (until : ℕ)
-    → until ≤ next → Below until log → Logged loaded nest cost trace next c b stack log → Legal loaded nest cost trace until (journal loaded log)
-legal_logged loaded nest cost trace next c b stack log until le below l = record {
+    → until ≤ next → Below until log → All InRange (journal loaded log) → Logged loaded nest cost trace next c b stack log → Legal loaded nest cost trace until (journal loaded log)
+legal_logged loaded nest cost trace next c b stack log until le below range l = record {
   rest = notes_in log;
   begins = refl;
+  in_range = range;
   in_time = l.marks.in_time;
   windowed = l.marks.windowed;
   controlled = in_order (journal loaded log) l.marks.control.controlled;
@@ -252,10 +254,10 @@ last_step P before (x ∷ log) e each = rw (← append_assoc before (x ∷ []) l
 
 -- after a step whose notes were written in part
 pub front_logged : (loaded : Loaded) (nest : Nest) (cost : ℕ) (trace : List Event) (next : ℕ) (c : Brain) (b : Bank) (stack : List Kind) (log : List Turned) (broken : Turned) (front left_out : List Note)
-    → broken.notes ≡ front ++ left_out → Below broken.tick log
+    → broken.notes ≡ front ++ left_out → Below broken.tick log → All InRange (journal loaded log ++ front)
     → Logged loaded nest cost trace next c b stack (log ++ broken ∷ [])
     → LegalFront loaded nest cost trace (journal loaded log ++ front)
-front_logged loaded nest cost trace next c b stack log broken front left_out split below l =
+front_logged loaded nest cost trace next c b stack log broken front left_out split below range l =
     let whole : journal loaded (log ++ broken ∷ []) ≡ (journal loaded log ++ front) ++ left_out =
     journal-push loaded log broken ∙ ap (λ (ns : List Note). journal loaded log ++ ns) split ∙ sym (append_assoc (journal loaded log) front left_out) in
     let tail : notes_in (log ++ broken ∷ []) ≡ (notes_in log ++ front) ++ left_out =
@@ -268,6 +270,7 @@ front_logged loaded nest cost trace next c b stack log broken front left_out spl
       left_out = left_out;
       split = split;
       notes_are = refl;
+      in_range = range;
       in_time = each_front IsLater [] (journal loaded log ++ front) left_out (subst (λ (ns : List Note). Journal ns) whole l.marks.in_time);
       windowed = each_front (WindowRule loaded trace) [] (journal loaded log ++ front) left_out (subst (λ (ns : List Note). Windowed loaded trace ns) whole l.marks.windowed);
       controlled = each_front (λ before n. FitsControl (reverse before) n) [] (journal loaded log ++ front) left_out (subst (λ (ns : List Note). Controlled ns) whole (in_order (journal loaded (log ++ broken ∷ [])) l.marks.control.controlled));

@@ -28,6 +28,7 @@ use Rattle.esc_laws.specs.Place.{place}
 use Rattle.esc_laws.specs.Steps.{Turned, journal}
 use Rattle.esc_laws.specs.Tied.{MainTied, IsBuilt}
 use Rattle.esc_laws.specs.Logged.{Logged, CoreTurn}
+use Rattle.esc_laws.proofs.Notes.{all_front}
 use Rattle.esc_laws.proofs.Saves.{is_save, fits_pushes, fits_saved, fits_spoilt}
 use Rattle.esc_laws.proofs.OwnTurns.{IsOwn, steady, own_are, step_notes, step_own}
 use Rattle.esc_laws.proofs.Stepping.{stepped_by}
@@ -123,10 +124,6 @@ alone : (n last : Note) (front left_out : List Note) → (front ++ last ∷ []) 
 alone n last [] left_out e = cc
 alone n last (x ∷ []) left_out e = cc
 alone n last (x ∷ y ∷ front) left_out e = cc
-
-pub all_front : (P : Note → Type 0) (front left_out : List Note) → All P (front ++ left_out) → All P front
-all_front P [] left_out a = All-nil P
-all_front P (n ∷ front) left_out a = All-cons P n front (All-head P n (front ++ left_out) a) (all_front P front left_out (All-tail P n (front ++ left_out) a))
 
 -- after a step whose notes were written up to one of them
 pub front_flash : (loaded : Loaded) (nest : Nest) (cost : ℕ) (trace : List Event) (c c' : Brain) (b b' : Bank) (first flash flash' : Told) (stack stack' : List Kind) (log : List Turned) (notes front left_out : List Note) (last : Note)

@@ -1,6 +1,6 @@
 -- The journal after one more note.
 use Rattle.std.proofs.Common.{◌≡◌, ◌≤◌, ℕ, List, [], ◌∷◌, ◌++◌, arith, All}
-use Rattle.std.proofs.lemmas.List.Elements.{All-push}
+use Rattle.std.proofs.lemmas.List.Elements.{All-nil, All-cons, All-head, All-tail, All-push}
 use Rattle.std.proofs.lemmas.List.Sums.{fold-append}
 use Rattle.std.specs.List.{fold}
 use Rattle.esc_base.specs.declared.event.Event.{Event}
@@ -38,3 +38,8 @@ said_push loaded nest trace t rest n s at w r =
       nested = each_push (NestRule nest) (opening loaded) rest n s.nested r;
       past = All-push (λ x. time_of x ≤ t) (opening loaded ++ rest) n s.past (rw at (omega arith));
     }
+
+-- a fact of all notes is one of a front of them
+pub all_front : (P : Note → Type 0) (front left_out : List Note) → All P (front ++ left_out) → All P front
+all_front P [] left_out a = All-nil P
+all_front P (n ∷ front) left_out a = All-cons P n front (All-head P n (front ++ left_out) a) (all_front P front left_out (All-tail P n (front ++ left_out) a))

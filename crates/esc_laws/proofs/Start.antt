@@ -1,13 +1,16 @@
 -- The log of a run that has made no step.
-use Rattle.std.proofs.Common.{◌≡◌, ◌≤◌, ℕ, false, [], ◌∷◌, reverse, refl, sym, ◌∙◌, ap, arith, lit<}
+use Rattle.std.proofs.Common.{◌≡◌, ◌≤◌, ℕ, false, [], ◌∷◌, reverse, refl, sym, ◌∙◌, ap, arith, lit<, All, Option, Some, None}
 use Rattle.std.proofs.lemmas.List.Elements.{All-nil, All-cons}
 use Rattle.esc_base.specs.declared.kind.Kind.{Kind}
 use Rattle.esc_base.specs.declared.kind.Kind.TheVariants as kind
 use Rattle.esc_base.specs.declared.note.Note.TheVariants as note
+use Rattle.esc_base.specs.Range.{InRange}
 use Rattle.esc_base.specs.Journal.{Journal, time_of}
 use Rattle.esc_base.specs.Trace.{Line, line}
 use Rattle.edge_capture.proofs.Stable.{burst-nil}
 use Rattle.edge_capture.specs.Burst.{burst}
+use Rattle.settings_block.specs.declared.block.BlockFault.{BlockFault}
+use Rattle.settings_block.specs.declared.block.BlockFault.TheVariants.{Marker, Version, Range}
 use Rattle.settings_block.specs.declared.stored.Loaded.{Loaded}
 use Rattle.timer_regs.specs.Effects.{mode_of}
 use Rattle.interrupt_machine.specs.declared.nest.Nest.{Nest}
@@ -19,7 +22,7 @@ use Rattle.esc_core.specs.Cap.{tick_at}
 use Rattle.esc_core.specs.Firmware.{left_of, new_core}
 use Rattle.esc_laws.specs.Place.{Listens, Place, place, nowhere}
 use Rattle.esc_laws.specs.Seen.{sees}
-use Rattle.esc_laws.specs.Steps.{load_number, opening, journal, after, called}
+use Rattle.esc_laws.specs.Steps.{first_notes, load_number, opening, journal, after, called}
 use Rattle.esc_laws.specs.Windowed.{Windowed}
 use Rattle.esc_laws.specs.Tied.{Keeps}
 use Rattle.esc_laws.specs.Logged.{Marks, Ties, Logged, stall_end, first_bank}
@@ -36,6 +39,17 @@ place-up r = refl
 line-none : line [] ≡ record { level = false; edges = [] }
 unfolding line
 line-none = refl
+
+pub first_in_range : (fault : Option BlockFault) → All InRange (first_notes fault)
+first_in_range fault =
+    All-cons InRange (note.Up (tick_at 0) (load_number fault)) (note.Window (tick_at 0) 0 ∷ []) (refl, few_numbers fault)
+    (All-cons InRange (note.Window (tick_at 0) 0) [] (lit< tt, omega arith) (All-nil InRange))
+  where
+    few_numbers : (fault : Option BlockFault) → load_number fault ≤ 3
+    few_numbers None = omega arith
+    few_numbers (Some Marker) = omega arith
+    few_numbers (Some Version) = omega arith
+    few_numbers (Some (Range offset)) = omega arith
 
 opening_in_time : (loaded : Loaded) → Journal (opening loaded)
 opening_in_time loaded =

@@ -1,8 +1,9 @@
 -- Which journals are legal for a trace. Each part is a law of its own.
-use Rattle.std.specs.Prelude.{◌≡◌, ℕ, List, [], ◌∷◌, ◌++◌}
+use Rattle.std.specs.Prelude.{◌≡◌, ℕ, List, [], ◌∷◌, ◌++◌, All}
 use Rattle.esc_base.specs.declared.event.Event.{Event}
 use Rattle.esc_base.specs.declared.note.Note.{Note}
 use Rattle.esc_base.specs.Journal.{Journal}
+use Rattle.esc_base.specs.Range.{InRange}
 use Rattle.settings_block.specs.declared.stored.Loaded.{Loaded}
 use Rattle.interrupt_machine.specs.declared.nest.Nest.{Nest}
 use Rattle.arming.specs.Controlled.{Controlled}
@@ -11,12 +12,13 @@ use Rattle.esc_laws.specs.Nested.{NestedAfter}
 use Rattle.esc_laws.specs.Steps.{Turned, opening, journal, notes_in, EachStep, StepFits, Awaits, OpenFew, Below}
 
 -- The journal is legal up to tick T for the settings that were loaded, a trace, a step cost and a nesting: it begins with
--- the load and the first window; times never fall; windows, control and nesting keep their rules; and there is a log of
+-- the load and the first window; each note's numbers are in the range of its line, and times never fall; windows, control and nesting keep their rules; and there is a log of
 -- steps of which the other notes are the notes, whose steps stand at the ticks that the cost and the stalls give, each kind
 -- in time, below T, and which lacks no step that is due below T.
 pub record Legal (loaded : Loaded) (nest : Nest) (cost : ℕ) (trace : List Event) (until : ℕ) (notes : List Note) : Type 0 where
   pub rest : List Note
   pub begins : notes ≡ opening loaded ++ rest
+  pub in_range : All InRange notes
   pub in_time : Journal notes
   pub windowed : Windowed loaded trace notes
   pub controlled : Controlled notes
@@ -37,6 +39,7 @@ pub record LegalFront (loaded : Loaded) (nest : Nest) (cost : ℕ) (trace : List
   pub left_out : List Note
   pub split : broken.notes ≡ front ++ left_out
   pub notes_are : notes ≡ journal loaded log ++ front
+  pub in_range : All InRange notes
   pub in_time : Journal notes
   pub windowed : Windowed loaded trace notes
   pub controlled : Controlled notes

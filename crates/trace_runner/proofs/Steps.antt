@@ -7,6 +7,7 @@ use Rattle.esc_base.specs.declared.event.Event.TheVariants as event
 use Rattle.esc_base.specs.declared.tick.Tick.{Tick}
 use Rattle.esc_base.specs.Flash.{Told, IsWhole}
 use Rattle.esc_base.specs.Journal.{time_of}
+use Rattle.esc_base.specs.Range.{InRange}
 use Rattle.esc_base.specs.Trace.{tick_of as tick_of_event}
 use Rattle.esc_base.specs.declared.kind.Kind.{Kind}
 use Rattle.esc_base.specs.declared.note.Note.{Note}
@@ -25,7 +26,8 @@ use Rattle.esc_laws.proofs.Pushes.{journal-push, step-push}
 use Rattle.trace_runner.specs.Run.{IsApart, StepBound, Outset, Runs, LeftBelow, StandsFor, nest_of, cost_of, newest}
 use Rattle.trace_runner.specs.declared.state.Runner.{Runner}
 use Rattle.esc_laws.specs.Saves.{FlashFits}
-use Rattle.esc_laws.proofs.FlashSteps.{all_front, turn_flash, front_flash}
+use Rattle.esc_laws.proofs.FlashSteps.{turn_flash, front_flash}
+use Rattle.esc_laws.proofs.Notes.{all_front}
 use Rattle.esc_laws.proofs.Carried.{turn_logged, time_logged, event_logged, legal_logged, front_logged, last_step}
 
 bound_push : (cost until : ℕ) (steps : List Turned) (e : Turned) → StepBound cost until steps → All (λ d. d.tick + cost ≤ e.tick) steps → e.tick < until → length e.notes ≤ 6 → StepBound cost until (steps ++ e ∷ [])
@@ -83,6 +85,11 @@ own_below loaded nest cost until trace steps e front rest split lt fits =
     let at : All (λ n. time_of n ≡ e.tick) (front ++ rest) = subst (λ (ns : List Note). All (λ n. time_of n ≡ e.tick) ns) split f.at_tick in
     All-weaker (λ n. time_of n ≡ e.tick) (λ n. time_of n < until) (λ n is. omega arith) front (all_front (λ n. time_of n ≡ e.tick) front rest at)
 
+-- the notes' numbers after the step
+pub step_in_range : (loaded : Loaded) (steps : List Turned) (e : Turned) (own : List Note) → e.notes ≡ own → All InRange own → All InRange (journal loaded steps) → All InRange (journal loaded (steps ++ e ∷ []))
+step_in_range loaded steps e own is range before =
+    subst (λ (ns : List Note). All InRange ns) (sym (journal-push loaded steps e ∙ ap (λ (ns : List Note). journal loaded steps ++ ns) is)) (All-append InRange (journal loaded steps) own before range)
+
 -- the flash after the step
 pub step_flash : (o : Outset) (nest : Nest) (cost next : ℕ) (trace : List Event) (c c' : Brain) (b b' : Bank) (flash flash' : Told) (stack stack' : List Kind) (steps : List Turned) (notes : List Note)
     → b.time ≡ next → Logged o.loaded nest cost trace next c b stack steps → IsWhole flash.bytes → IsWhole flash'.bytes
@@ -95,15 +102,16 @@ step_flash o nest cost next trace c c' b b' flash flash' stack stack' steps note
 -- what is left where the notes of a step were written up to one of them
 pub step_breaks : (o : Outset) (nest : Nest) (cost next until : ℕ) (trace : List Event) (c c' : Brain) (b b' : Bank) (flash flash' : Told) (stack stack' : List Kind) (steps : List Turned) (notes front rest : List Note) (last : Note)
     → b.time ≡ next → next < until → 1 ≤ cost → next + cost < 2147483648 → Logged o.loaded nest cost trace next c b stack steps → is_idle stack (due_now c.orders.save b) ≡ false
-    → CoreTurn nest c stack b flash notes c' stack' b' flash' → Below next steps → notes ≡ (front ++ last ∷ []) ++ rest → IsWhole flash.bytes → IsWhole flash'.bytes → FlashFits o.loaded o.flash flash (journal o.loaded steps)
+    → CoreTurn nest c stack b flash notes c' stack' b' flash' → Below next steps → notes ≡ (front ++ last ∷ []) ++ rest → All InRange notes → All InRange (journal o.loaded steps) → IsWhole flash.bytes → IsWhole flash'.bytes → FlashFits o.loaded o.flash flash (journal o.loaded steps)
     → LeftBelow o flash' nest cost until trace (journal o.loaded steps ++ (front ++ last ∷ []))
-step_breaks o nest cost next until trace c c' b b' flash flash' stack stack' steps notes front rest last at lt some small l busy t below split whole whole' fits =
+step_breaks o nest cost next until trace c c' b b' flash flash' stack stack' steps notes front rest last at lt some small l busy t below split range before whole whole' fits =
     let e : Turned = turned b.time notes t in
     let tick : e.tick ≡ next = turned-tick b.time notes t ∙ at in
     let own : e.notes ≡ (front ++ last ∷ []) ++ rest = turned-notes b.time notes t ∙ split in
     let after : Logged o.loaded nest cost trace (next + cost) c' b' stack' (steps ++ e ∷ []) = step_logged o.loaded nest nest cost next trace c c' b b' flash flash' stack stack' steps notes refl at some small l busy t in
     record {
-      legal = front_logged o.loaded nest cost trace (next + cost) c' b' stack' steps e (front ++ last ∷ []) rest own (subst (λ (n : ℕ). Below n steps) (sym tick) below) after;
+      legal = front_logged o.loaded nest cost trace (next + cost) c' b' stack' steps e (front ++ last ∷ []) rest own (subst (λ (n : ℕ). Below n steps) (sym tick) below)
+          (All-append InRange (journal o.loaded steps) (front ++ last ∷ []) before (all_front InRange (front ++ last ∷ []) rest (subst (λ (ns : List Note). All InRange ns) split range))) after;
       below = All-append (λ n. time_of n < until) (journal o.loaded steps) (front ++ last ∷ [])
           (All-weaker (λ n. time_of n ≤ b.time) (λ n. time_of n < until) (λ n le. omega arith) (journal o.loaded steps) l.marks.past)
           (own_below o.loaded nest cost until trace steps e (front ++ last ∷ []) rest own (omega arith) after.fits);
@@ -159,4 +167,4 @@ stall_max at n next le = grind (arith, nat_tests)
 -- ---- what a runner that stands says
 
 pub legal_at : (r : Runner) (o : Outset) (now : Told) (trace : List Event) (steps : List Turned) → StandsFor r o now trace steps → Legal o.loaded (nest_of r) (cost_of r) trace (newest r) (journal o.loaded steps)
-legal_at r o now trace steps st = legal_logged o.loaded r.machine.nest r.cost trace r.next.0 r.machine.firmware r.regs r.machine.open_kinds steps r.limit.0 st.reached st.runs.bound.below st.runs.logged
+legal_at r o now trace steps st = legal_logged o.loaded r.machine.nest r.cost trace r.next.0 r.machine.firmware r.regs r.machine.open_kinds steps r.limit.0 st.reached st.runs.bound.below st.runs.in_range st.runs.logged

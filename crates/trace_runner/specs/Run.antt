@@ -5,6 +5,7 @@ use Rattle.esc_base.specs.declared.event.Event.{Event}
 use Rattle.esc_base.specs.declared.note.Note.{Note}
 use Rattle.esc_base.specs.Flash.{Told}
 use Rattle.esc_base.specs.Journal.{time_of}
+use Rattle.esc_base.specs.Range.{InRange}
 use Rattle.esc_base.specs.Outside.{AppendsFront}
 use Rattle.trace_text.specs.Text.{note_bytes, Text}
 use Rattle.settings_block.specs.declared.stored.Loaded.{Loaded}
@@ -44,11 +45,13 @@ pub record Outset : Type 0 where
   pub flash : Told
 
 -- The core, the registers and the open kinds are what this trace and these steps say, from this outset; all steps are below
--- the newest event, and each stands by the cost before the next one; and what the flash tells now is what the notes say.
+-- the newest event, and each stands by the cost before the next one; the notes' numbers are in range; and what the flash
+-- tells now is what the notes say.
 pub record Runs (r : Runner) (o : Outset) (now : Told) (trace : List Event) (steps : List Turned) : Type 0 where
   pub logged : Logged o.loaded r.machine.nest r.cost trace r.next.0 r.machine.firmware r.regs r.machine.open_kinds steps
   pub bound : StepBound r.cost r.limit.0 steps
   pub spaced : All (λ e. e.tick + r.cost ≤ r.next.0) steps
+  pub in_range : All InRange (journal o.loaded steps)
   pub flash : FlashFits o.loaded o.flash now (journal o.loaded steps)
 
 -- The runner stands for this trace and these steps: besides, no step is due below the newest event.

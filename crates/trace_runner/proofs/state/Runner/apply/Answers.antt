@@ -15,6 +15,7 @@ returns-in-Edge-clause-runs c = λ o now trace steps st.
       logged = event_later c.args.self.now c.args.e (event.Edge c.in-Edge.t c.in-Edge.level) c.edge.new.self c.args.self.now.next.0 c.requires.at c.requires.reached c.in-Edge.is bank refl o now trace steps st;
       bound = st.bound;
       spaced = st.spaced;
+      in_range = st.in_range;
       flash = st.flash;
     }
 
@@ -25,6 +26,7 @@ returns-in-Comp-clause-runs c = λ o now trace steps st.
       logged = event_later c.args.self.now c.args.e (event.Comp c.in-Comp.t c.in-Comp.level) c.comp.new.self c.args.self.now.next.0 c.requires.at c.requires.reached c.in-Comp.is bank refl o now trace steps st;
       bound = st.bound;
       spaced = st.spaced;
+      in_range = st.in_range;
       flash = st.flash;
     }
 
@@ -35,6 +37,7 @@ returns-in-Serial-clause-runs c = λ o now trace steps st.
       logged = event_later c.args.self.now c.args.e (event.Serial c.in-Serial.t c.in-Serial.byte) c.serial.new.self c.args.self.now.next.0 c.requires.at c.requires.reached c.in-Serial.is bank refl o now trace steps st;
       bound = st.bound;
       spaced = st.spaced;
+      in_range = st.in_range;
       flash = st.flash;
     }
 
@@ -49,5 +52,6 @@ returns-in-Stall-clause-runs c = λ o now trace steps st.
       logged = event_later r c.args.e (event.Stall c.in-Stall.t c.in-Stall.n) c.advance.new.self c.max.result c.requires.at c.requires.reached c.in-Stall.is c.advance.ensures.regs (m ∙ put_off) o now trace steps st;
       bound = st.bound;
       spaced = spaced_later r.cost r.next.0 c.max.result steps le st.spaced;
+      in_range = st.in_range;
       flash = st.flash;
     }

@@ -10,14 +10,14 @@ returns-then-idle-clause-goes g c =
     λ o.
     goes_none g.K.Sink.given g.K.Sink.took (Runs c.args.self.now o (told g.D.FlashDev.bytes g.D.FlashDev.faults c.args.dev.now)) (Runs c.jump.new.self o (told g.D.FlashDev.bytes g.D.FlashDev.faults c.args.dev.now)) _ (λ trace steps st.
     let p = c.pass.ensures.runs o (told g.D.FlashDev.bytes g.D.FlashDev.faults c.args.dev.now) trace steps st in
-    c.jump.ensures.runs o (told g.D.FlashDev.bytes g.D.FlashDev.faults c.args.dev.now) trace steps (record { logged = p.logged; bound = p.bound; spaced = p.spaced; flash = p.flash }))
+    c.jump.ensures.runs o (told g.D.FlashDev.bytes g.D.FlashDev.faults c.args.dev.now) trace steps (record { logged = p.logged; bound = p.bound; spaced = p.spaced; in_range = p.in_range; flash = p.flash }))
 
 pub returns-else-idle-clause-goes : goal.returns-else-idle-clause-goes
 returns-else-idle-clause-goes g c =
     on_ok_map c.step.result c.step.ensures.goes (λ r o.
     goes_from g.K.Sink.given g.K.Sink.took (Runs c.args.self.now o _) _ (Runs c.step.new.self o _) [] _ _ (λ trace steps st.
     let p = c.pass.ensures.runs o (told g.D.FlashDev.bytes g.D.FlashDev.faults c.args.dev.now) trace steps st in
-    record { logged = p.logged; bound = p.bound; spaced = p.spaced; flash = p.flash }) (r o))
+    record { logged = p.logged; bound = p.bound; spaced = p.spaced; in_range = p.in_range; flash = p.flash }) (r o))
 
 pub returns-else-idle-clause-breaks : goal.returns-else-idle-clause-breaks
 returns-else-idle-clause-breaks g c =
@@ -25,4 +25,4 @@ returns-else-idle-clause-breaks g c =
     breaks_as g.K.Sink.given g.K.Sink.took g.K.Sink.broke o.loaded (Runs c.args.self.now o _) o _ _ _ _ _ _ _ _ c.pass.ensures.nest c.pass.ensures.cost
     (breaks_from g.K.Sink.given g.K.Sink.took g.K.Sink.broke o.loaded (Runs c.args.self.now o _) _ _ _ _ (λ trace steps st.
     let p = c.pass.ensures.runs o (told g.D.FlashDev.bytes g.D.FlashDev.faults c.args.dev.now) trace steps st in
-    record { logged = p.logged; bound = p.bound; spaced = p.spaced; flash = p.flash }) (r o)))
+    record { logged = p.logged; bound = p.bound; spaced = p.spaced; in_range = p.in_range; flash = p.flash }) (r o)))

@@ -32,5 +32,6 @@ returns-clause-runs c = λ o now trace steps st.
           (subst (λ (n : ℕ). Logged o.loaded r.machine.nest r.cost trace n r.machine.firmware r.regs r.machine.open_kinds steps) (sym now) st.logged));
       bound = st.bound;
       spaced = spaced_later r.cost r.next.0 to.0 steps past st.spaced;
+      in_range = st.in_range;
       flash = st.flash;
     }

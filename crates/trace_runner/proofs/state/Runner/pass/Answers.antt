@@ -14,5 +14,6 @@ returns-clause-runs c = λ o now trace steps st.
       logged = rw c.advance.ensures.regs (time_logged o.loaded r.machine.nest r.cost trace r.next.0 r.machine.firmware r.regs r.machine.open_kinds steps r.next.0 r.passed le small st.logged);
       bound = st.bound;
       spaced = st.spaced;
+      in_range = st.in_range;
       flash = st.flash;
     }

@@ -14,5 +14,6 @@ returns-clause-breaks g c =
       logged = st.logged;
       bound = bound_until r.cost r.limit.0 c.args.limit.0 steps c.requires.later st.bound;
       spaced = st.spaced;
+      in_range = st.in_range;
       flash = st.flash;
     }) (broken o))

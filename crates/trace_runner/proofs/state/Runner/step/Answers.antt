@@ -7,7 +7,7 @@ use Rattle.trace_runner.specs.declared.state.Runner.{Runner}
 use Rattle.trace_runner.specs.Run.{Runs, LeftBelow}
 use Rattle.trace_runner.proofs.Goes.{breaks_in, one_log}
 use Rattle.trace_runner.proofs.Written.{on_ok_two, on_err_map}
-use Rattle.trace_runner.proofs.Steps.{turned-tick, turned-notes, step_logged, step_flash, step_breaks, spaced_push, below_next, tick_bound}
+use Rattle.trace_runner.proofs.Steps.{turned-tick, turned-notes, step_logged, step_in_range, step_flash, step_breaks, spaced_push, below_next, tick_bound}
 use Rattle.trace_runner.proofs.state.Runner.step.Goals as goal
 
 pub returns-clause-goes : goal.returns-clause-goes
@@ -32,6 +32,7 @@ returns-clause-goes g c =
             c.step_into.ensures.nest c.requires.now r.cost_some small st.logged c.requires.busy t;
         bound = tick_bound r.cost r.next.0 r.limit.0 steps e at below few st.spaced st.bound;
         spaced = spaced_push r.cost r.next.0 steps e at st.spaced;
+        in_range = step_in_range o.loaded steps e own (turned-notes r.regs.time own t) c.step_into.ensures.in_range st.in_range;
         flash = step_flash o r.machine.nest r.cost r.next.0 trace r.machine.firmware c.step_into.new.self.firmware r.regs c.step_into.new.regs flash flash' r.machine.open_kinds c.step_into.new.self.open_kinds steps own
             c.requires.now st.logged (g.met.D.FlashDev.whole c.args.dev.now) (g.met.D.FlashDev.whole c.step_into.new.dev) t st.flash;
       });
@@ -54,4 +55,4 @@ returns-clause-breaks g c =
     breaks_in g.K.Sink.given g.K.Sink.took g.K.Sink.broke o.loaded (Runs r o flash) (LeftBelow o flash' r.machine.nest r.cost r.limit.0) c.as_slice.result.now _ _ (λ trace steps front rest last st split.
     step_breaks o r.machine.nest r.cost r.next.0 r.limit.0 trace r.machine.firmware c.step_into.new.self.firmware r.regs c.step_into.new.regs flash flash' r.machine.open_kinds c.step_into.new.self.open_kinds steps own front rest last
     c.requires.now below r.cost_some small st.logged c.requires.busy t (below_next r.cost r.next.0 steps r.cost_some st.spaced) (sym c.as_slice.ensures.value ∙ split)
-    (g.met.D.FlashDev.whole c.args.dev.now) (g.met.D.FlashDev.whole c.step_into.new.dev) st.flash) broken)
+    c.step_into.ensures.in_range st.in_range (g.met.D.FlashDev.whole c.args.dev.now) (g.met.D.FlashDev.whole c.step_into.new.dev) st.flash) broken)
