@@ -171,7 +171,7 @@ work_moves false saved c b = record { less = lit< tt; more = λ e. lit< tt; mask
 
 pub main_moves : (at : MainAt) (saved : Bool) (c : Brain) (b : Bank) → 0 < main_left at → MainMoves (main_left at) c b (main_step saved at c b)
 main_moves main.Shut saved c b l = absurd (omega arith)
-main_moves main.Work saved c b l = work_moves c.orders.save saved c b
+main_moves main.Work saved c b l = work_moves c.orders.save_asked saved c b
 main_moves main.Back saved c b l = record { less = lit< tt; more = λ e. cc; masked = refl; hold = refl; tick = refl; cap = refl; uart = refl; cmp = refl; pwm = refl; comm = refl }
 
 -- ---- any kind

@@ -19,7 +19,7 @@ result_of false = 1
 -- a save, which the flash took or refused
 abbrev pub saving_step : Bool → Brain → Bank → Stepped
 saving_step saved c b = record {
-  core = record c { orders = record c.orders { save = false } };
+  core = record c { orders = record c.orders { save_asked = false } };
   access = NoAccess;
   notes = note.Saved (tick_at b.time) (result_of saved) ∷ [];
   over = false;
@@ -28,7 +28,7 @@ saving_step saved c b = record {
 -- MAIN decides what it does in this step: where no save is asked for there is nothing to do
 abbrev pub work_step : Bool → Brain → Bank → Stepped
 work_step saved c b =
-    if c.orders.save then saving_step saved (record c { main_at = main.Back }) b
+    if c.orders.save_asked then saving_step saved (record c { main_at = main.Back }) b
     else goes_on (record c { main_at = main.Back }) NoAccess
 
 abbrev pub main_step : Bool → MainAt → Brain → Bank → Stepped
@@ -38,6 +38,6 @@ main_step saved main.Shut c b = goes_back (record c { main_at = main.Shut })
 
 -- the block that a step of MAIN hands to the flash: that of the settings as they stand then
 abbrev pub main_saves : MainAt → Orders → Option (List ℕ)
-main_saves main.Work o = if o.save then Some (block_of o.settings) else None
+main_saves main.Work o = if o.save_asked then Some (block_of o.settings) else None
 main_saves main.Back o = None
 main_saves main.Shut o = None

@@ -7,14 +7,14 @@ use Rattle.settings_block.specs.Settings.{applied}
 use Rattle.esc_core.specs.declared.orders.Orders.{Orders}
 
 abbrev pub first_orders : Settings → Orders
-first_orders settings = record { settings = settings; spin = 0; extended = false; save = false }
+first_orders settings = record { settings = settings; spin = 0; extended = false; save_asked = false }
 
 -- a beacon changes nothing
 abbrev pub obeyed : Orders → Act → Orders
 obeyed o (Beacon beacon) = o
 obeyed o (Direction side) = record o { settings = applied o.settings (Direction side) }
 obeyed o (ThreeD is_on) = record o { settings = applied o.settings (ThreeD is_on) }
-obeyed o Save = record o { save = true }
+obeyed o Save = record o { save_asked = true }
 obeyed o (Extended is_on) = record o { extended = is_on }
 obeyed o (Spin side) = record o { spin = side }
 

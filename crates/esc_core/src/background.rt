@@ -23,7 +23,7 @@ impl Core {
         match self.main_at {
             MainAt::Work => {
                 self.main_at = MainAt::Back;
-                if self.orders.save {
+                if self.orders.save_asked {
                     self.save_settings(regs, dev)
                 } else {
                     Did::More(no_note())
@@ -41,7 +41,7 @@ impl Core {
         ensures made { IsMade (λ saved. saving_step saved self.old regs.now) (Some (block_of self.old.orders.settings)) regs.now (told D.bytes D.faults dev.old) result self.new regs.now (told D.bytes D.faults dev.new) }
         ensures in_range { All InRange (notes_of result) }
     {
-        self.orders.save = false;
+        self.orders.save_asked = false;
         let saved = takes_block(dev, &self.orders.settings);
         Did::More(one_note(Note::Saved {
             t: regs.now(),

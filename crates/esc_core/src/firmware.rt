@@ -118,7 +118,7 @@ impl Firmware for Core {
 
     ghost hold = { λ c. c.hold };
 
-    ghost waits = { λ c. c.orders.save };
+    ghost waits = { λ c. c.orders.save_asked };
 
     fn enter(&mut self, kind: Kind) {
         match kind {
@@ -139,6 +139,6 @@ impl Firmware for Core {
     }
 
     fn waiting(&self) -> bool {
-        self.orders.save
+        self.orders.save_asked
     }
 }

@@ -15,7 +15,7 @@ pub struct Orders {
     /// Extended telemetry is asked for. It changes nothing yet.
     pub extended: bool,
     /// A save is asked for, and wasn't made since.
-    pub save: bool,
+    pub save_asked: bool,
 }
 
 impl Orders {
@@ -27,7 +27,7 @@ impl Orders {
             settings,
             spin: 0,
             extended: false,
-            save: false,
+            save_asked: false,
         }
     }
 
@@ -39,7 +39,7 @@ impl Orders {
         match act {
             Act::Beacon(_) => {}
             Act::Direction(_) | Act::ThreeD(_) => apply(&mut self.settings, act),
-            Act::Save => self.save = true,
+            Act::Save => self.save_asked = true,
             Act::Extended(is_on) => self.extended = is_on,
             Act::Spin(side) => self.spin = side,
         }

@@ -118,7 +118,7 @@ fn a_first_frame(rt: HostRuntime) -> Result<(), Fail> {
 fn saves(rt: &impl Abort, settings: Settings, flash: &mut MemFlash, r: u8) {
     let mut regs = Regs::new();
     let mut core = Core::new(settings);
-    core.orders.save = true;
+    core.orders.save_asked = true;
     let mut machine = Machine::new(core, Nest::One);
     assert!(rt; !regs.masked());
     let t = Tick(0);

@@ -55,19 +55,19 @@ entry_told : (loaded : Loaded) (nest : Nest) (cost : ℕ) (trace : List Event) (
 entry_told loaded nest cost trace c c' b b' stack stack' log notes k e f g h l = rw (e, f, g, h) l
 
 own_told : (loaded : Loaded) (nest : Nest) (cost : ℕ) (trace : List Event) (c c' : Brain) (b b' : Bank) (stack stack' : List Kind) (log : List Turned) (notes : List Note) (k : Kind) (outer : List Kind) (did : Did) (saved : Bool) → 1 ≤ cost
-    → Logged loaded nest cost trace b.time c b stack log → (b.masked ≡ false → next_entry nest stack (due_now c.orders.save b) ≡ None) → stack ≡ k ∷ outer → IsStepped b (core_step k saved c b) did c' b'
+    → Logged loaded nest cost trace b.time c b stack log → (b.masked ≡ false → next_entry nest stack (due_now c.orders.save_asked b) ≡ None) → stack ≡ k ∷ outer → IsStepped b (core_step k saved c b) did c' b'
     → stack' ≡ open_after k outer did → notes ≡ own_notes b.hi b.lo b' k did
     → Logged loaded nest cost trace (b.time + cost) c' b' stack' (log ++ record { tick = b.time; kind = k; enters = false; notes = notes } ∷ [])
 own_told loaded nest cost trace c c' b b' stack stack' log notes k outer did saved some l none same stepped open_is notes_are =
     let l' : Logged loaded nest cost trace b.time c b (k ∷ outer) log = subst (λ (st : List Kind). Logged loaded nest cost trace b.time c b st log) same l in
-    let none' : b.masked ≡ false → next_entry nest (k ∷ outer) (due_now c.orders.save b) ≡ None = subst (λ (st : List Kind). b.masked ≡ false → next_entry nest st (due_now c.orders.save b) ≡ None) same none in
+    let none' : b.masked ≡ false → next_entry nest (k ∷ outer) (due_now c.orders.save_asked b) ≡ None = subst (λ (st : List Kind). b.masked ≡ false → next_entry nest st (due_now c.orders.save_asked b) ≡ None) same none in
     let i : IsStepped b (stepped_by k saved c b) did c' b' = rw (core_step-goes k saved c b (steady k c b (k ∷ outer) l'.keeps refl)) at stepped in
     let told = notes_are ∙ own_are k b b' (stepped_by k saved c b) did c' i in
     let left = open_is ∙ left_is k outer did (stepped_by k saved c b).over i.over_is in
     rw (i.core_is, i.bank_is, left, told) (own_turn loaded nest cost trace c b outer log k saved some l' none')
 
 pub turn_logged : (loaded : Loaded) (nest : Nest) (cost : ℕ) (trace : List Event) (c c' : Brain) (b b' : Bank) (flash flash' : Told) (stack stack' : List Kind) (log : List Turned) (notes : List Note)
-    → 1 ≤ cost → b.time + cost < 2147483648 → Logged loaded nest cost trace b.time c b stack log → is_idle stack (due_now c.orders.save b) ≡ false
+    → 1 ≤ cost → b.time + cost < 2147483648 → Logged loaded nest cost trace b.time c b stack log → is_idle stack (due_now c.orders.save_asked b) ≡ false
     → (t : CoreTurn nest c stack b flash notes c' stack' b' flash')
     → Logged loaded nest cost trace (b.time + cost) c' b' stack' (log ++ turned b.time notes t ∷ [])
 turn_logged loaded nest cost trace c c' b b' flash flash' stack stack' log notes some small l busy (inl e) =
@@ -126,13 +126,13 @@ none_before (Some d) b k t u is le from below = is.none_before k u from (let m =
 
 -- while nothing is due nothing is seen due
 none_seen : (loaded : Loaded) (nest : Nest) (trace : List Event) (c : Brain) (b : Bank) (log : List Turned) (due : Option ℕ) (t u : ℕ) (k : Kind) → Keeps c b [] → Marks loaded nest trace c b [] log → Ties loaded trace c b log
-    → highest (due_now c.orders.save b) ≡ None → IsNextDue b due → ((d : ℕ) → due ≡ Some d → t ≤ d) → b.time ≤ u → u < t → t < 2147483648 → sees trace (journal loaded log) u k ≡ false
+    → highest (due_now c.orders.save_asked b) ≡ None → IsNextDue b due → ((d : ℕ) → due ≡ Some d → t ≤ d) → b.time ≤ u → u < t → t < 2147483648 → sees trace (journal loaded log) u k ≡ false
 none_seen loaded nest trace c b log due t u k keeps m ties none is le from below small = by_seen (sees trace (journal loaded log) u k) refl
   where
-    shut_now : due_now c.orders.save (advanced b u) k ≡ false
+    shut_now : due_now c.orders.save_asked (advanced b u) k ≡ false
     shut_now = elim (cases_lt b.time u) [
-      | inl later ↦ due_by_regs c.orders.save b u k (highest_none (due_now c.orders.save b) k none) (λ e. stays_shut (is_due b k) (is_due (advanced b u) k) e (none_before due b k t u is le later below))
-      | inr not_later ↦ (let same : b.time ≡ u = omega arith in rw (sym same) (highest_none (due_now c.orders.save b) k none))
+      | inl later ↦ due_by_regs c.orders.save_asked b u k (highest_none (due_now c.orders.save_asked b) k none) (λ e. stays_shut (is_due b k) (is_due (advanced b u) k) e (none_before due b k t u is le later below))
+      | inr not_later ↦ (let same : b.time ≡ u = omega arith in rw (sym same) (highest_none (due_now c.orders.save_asked b) k none))
     ]
 
     by_seen : (v : Bool) → sees trace (journal loaded log) u k ≡ v → sees trace (journal loaded log) u k ≡ false
@@ -143,10 +143,10 @@ none_seen loaded nest trace c b log due t u k keeps m ties none is le from below
 
 -- nothing is due, and nothing becomes due before t
 pub jump_logged : (loaded : Loaded) (nest : Nest) (cost : ℕ) (trace : List Event) (c : Brain) (b : Bank) (stack : List Kind) (log : List Turned) (due : Option ℕ) (t : ℕ)
-    → is_idle stack (due_now c.orders.save b) ≡ true → IsNextDue b due → b.time ≤ t → t < 2147483648 → ((d : ℕ) → due ≡ Some d → t ≤ d)
+    → is_idle stack (due_now c.orders.save_asked b) ≡ true → IsNextDue b due → b.time ≤ t → t < 2147483648 → ((d : ℕ) → due ≡ Some d → t ≤ d)
     → Logged loaded nest cost trace b.time c b stack log → Logged loaded nest cost trace t c (advanced b t) stack log
 jump_logged loaded nest cost trace c b stack log due t idle is later small le l =
-    let rest = none_open stack (due_now c.orders.save b) idle in
+    let rest = none_open stack (due_now c.orders.save_asked b) idle in
     let open_none : open_in loaded log ≡ [] = sym l.marks.stack_is ∙ rest.0 in
     let keeps : Keeps c b [] = subst (λ (st : List Kind). Keeps c b st) rest.0 l.keeps in
     let marks : Marks loaded nest trace c b [] log = subst (λ (st : List Kind). Marks loaded nest trace c b st log) rest.0 l.marks in

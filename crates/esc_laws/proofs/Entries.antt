@@ -130,11 +130,11 @@ entered_need kind.Cmp t c b stack keeps down n = absurd t
 entered_need kind.Pwm t c b stack keeps down n = absurd t
 entered_need kind.Comm t c b stack keeps down n = absurd t
 
-pub keeps_entry : (nest : Nest) (c : Brain) (b : Bank) (stack : List Kind) (k : Kind) → Keeps c b stack → IsStack stack → b.masked ≡ false → next_entry nest stack (due_now c.orders.save b) ≡ Some k
+pub keeps_entry : (nest : Nest) (c : Brain) (b : Bank) (stack : List Kind) (k : Kind) → Keeps c b stack → IsStack stack → b.masked ≡ false → next_entry nest stack (due_now c.orders.save_asked b) ≡ Some k
     → Keeps (entered_core c k) (after_entry b k) (k ∷ stack)
 keeps_entry nest c b stack k keeps sorted down chosen =
-    let due = highest_is_due (due_now c.orders.save b) k (entry_highest nest stack (due_now c.orders.save b) k chosen) in
-    let built : IsBuilt k = due_built c.orders.save b k due in
+    let due = highest_is_due (due_now c.orders.save_asked b) k (entry_highest nest stack (due_now c.orders.save_asked b) k chosen) in
+    let built : IsBuilt k = due_built c.orders.save_asked b k due in
     let still : (after_entry b k).masked ≡ false = entry_masked b k ∙ down in
     record {
       hold = rw (entered_hold k built c) keeps.hold;
@@ -162,11 +162,11 @@ entered_stack kind.Cmp p t i = absurd i
 entered_stack kind.Pwm p t i = absurd i
 entered_stack kind.Comm p t i = absurd i
 
-entered_signal : (loaded : Loaded) (k : Kind) → IsBuilt k → (nest : Nest) (trace : List Event) (c : Brain) (b : Bank) (rest : List Note) → OwnIn loaded nest trace c b rest → due_now c.orders.save b k ≡ true → left_of c k ≡ 0
+entered_signal : (loaded : Loaded) (k : Kind) → IsBuilt k → (nest : Nest) (trace : List Event) (c : Brain) (b : Bank) (rest : List Note) → OwnIn loaded nest trace c b rest → due_now c.orders.save_asked b k ≡ true → left_of c k ≡ 0
     → SignalTied (next (place (opening loaded ++ rest)) (enters k b.time)).signal (entered_core c k).cap_at (cap_view trace (entered_core c k) (after_entry b k) (next (place (opening loaded ++ rest)) (enters k b.time)))
 entered_signal loaded kind.Tick t nest trace c b rest i due none = i.signal
 entered_signal loaded kind.Cap t nest trace c b rest i due none =
-    cap_entered c.orders.save (place (opening loaded ++ rest)).signal trace c b (place (opening loaded ++ rest)) refl
+    cap_entered c.orders.save_asked (place (opening loaded ++ rest)).signal trace c b (place (opening loaded ++ rest)) refl
     (subst (λ (at : CapAt). SignalTied (place (opening loaded ++ rest)).signal at (cap_view trace c b (place (opening loaded ++ rest)))) (cap_shut c.cap_at none) i.signal) due
 entered_signal loaded kind.Main t nest trace c b rest i due none = i.signal
 entered_signal loaded kind.Uart t nest trace c b rest i due none = absurd t
@@ -174,9 +174,9 @@ entered_signal loaded kind.Cmp t nest trace c b rest i due none = absurd t
 entered_signal loaded kind.Pwm t nest trace c b rest i due none = absurd t
 entered_signal loaded kind.Comm t nest trace c b rest i due none = absurd t
 
-entered_tick : (k : Kind) → IsBuilt k → (c : Brain) (b : Bank) (p : Place) → b.number_read ≤ b.time / 2400 → due_now c.orders.save b k ≡ true → TickTied c.tick_at b.number_read b.time p.ticks
+entered_tick : (k : Kind) → IsBuilt k → (c : Brain) (b : Bank) (p : Place) → b.number_read ≤ b.time / 2400 → due_now c.orders.save_asked b k ≡ true → TickTied c.tick_at b.number_read b.time p.ticks
     → TickTied (entered_core c k).tick_at (after_entry b k).number_read b.time (next p (enters k b.time)).ticks
-entered_tick kind.Tick t c b p read due i = (due_tick c.orders.save b read due, refl)
+entered_tick kind.Tick t c b p read due i = (due_tick c.orders.save_asked b read due, refl)
 entered_tick kind.Cap t c b p read due i = i
 entered_tick kind.Main t c b p read due i = i
 entered_tick kind.Uart t c b p read due i = absurd t
@@ -184,8 +184,8 @@ entered_tick kind.Cmp t c b p read due i = absurd t
 entered_tick kind.Pwm t c b p read due i = absurd t
 entered_tick kind.Comm t c b p read due i = absurd t
 
-entered_main : (k : Kind) → IsBuilt k → (c : Brain) (b : Bank) (p : Place) → due_now c.orders.save b k ≡ true → MainTied c.main_at c.orders.save p.saves
-    → MainTied (entered_core c k).main_at c.orders.save (next p (enters k b.time)).saves
+entered_main : (k : Kind) → IsBuilt k → (c : Brain) (b : Bank) (p : Place) → due_now c.orders.save_asked b k ≡ true → MainTied c.main_at c.orders.save_asked p.saves
+    → MainTied (entered_core c k).main_at c.orders.save_asked (next p (enters k b.time)).saves
 entered_main kind.Tick t c b p due i = i
 entered_main kind.Cap t c b p due i = i
 entered_main kind.Main t c b p due i = (due, refl)
@@ -213,23 +213,23 @@ entry_same kind.Pwm t c b = absurd t
 entry_same kind.Comm t c b = absurd t
 
 pub entry_out : (loaded : Loaded) (nest : Nest) (trace : List Event) (c : Brain) (b : Bank) (rest : List Note) (stack : List Kind) (k : Kind) → OwnIn loaded nest trace c b rest → Keeps c b stack → IsStack stack
-    → stack ≡ (place (opening loaded ++ rest)).stack → next_entry nest stack (due_now c.orders.save b) ≡ Some k
+    → stack ≡ (place (opening loaded ++ rest)).stack → next_entry nest stack (due_now c.orders.save_asked b) ≡ Some k
     → OwnOut loaded nest trace (entered_core c k) b (after_entry b k) (rest ++ enters k b.time ∷ []) (k ∷ stack)
 entry_out loaded nest trace c b rest stack k i keeps sorted same chosen =
-    let due = highest_is_due (due_now c.orders.save b) k (entry_highest nest stack (due_now c.orders.save b) k chosen) in
-    let built : IsBuilt k = due_built c.orders.save b k due in
+    let due = highest_is_due (due_now c.orders.save_asked b) k (entry_highest nest stack (due_now c.orders.save_asked b) k chosen) in
+    let built : IsBuilt k = due_built c.orders.save_asked b k due in
     let e = entry_same k built c b in
-    let none : left_of c k ≡ 0 = keeps.shut k (closed_above stack k sorted (entry_above nest stack (due_now c.orders.save b) k chosen)) in
+    let none : left_of c k ≡ 0 = keeps.shut k (closed_above stack k sorted (entry_above nest stack (due_now c.orders.save_asked b) k chosen)) in
     let p : Place = place (opening loaded ++ rest) in
     let at : place (opening loaded ++ (rest ++ enters k b.time ∷ [])) ≡ next p (enters k b.time) = place-push (opening loaded ++ rest) (enters k b.time) in
     record {
       said = said_push loaded nest trace b.time rest (enters k b.time) i.said refl tt
-          (subst (λ (s : List Kind). IsAboveAll nest s (kind_number k)) same (entry_above_all nest stack (due_now c.orders.save b) k sorted chosen));
+          (subst (λ (s : List Kind). IsAboveAll nest s (kind_number k)) same (entry_above_all nest stack (due_now c.orders.save_asked b) k sorted chosen));
       control = rw (e.control, reverse-push (opening loaded ++ rest) (enters k b.time)) (other_stands (enters k b.time) c.control (reverse (opening loaded ++ rest)) refl refl tt i.control);
       signal = subst (λ (q : Place). SignalTied q.signal (entered_core c k).cap_at (cap_view trace (entered_core c k) (after_entry b k) q)) (sym at) (entered_signal loaded k built nest trace c b rest i due none);
       window = rw e.window i.window;
       tick = subst (λ (q : Place). TickTied (entered_core c k).tick_at (after_entry b k).number_read b.time q.ticks) (sym at) (entered_tick k built c b p i.read due i.tick);
-      main = rw e.orders (subst (λ (q : Place). MainTied (entered_core c k).main_at c.orders.save q.saves) (sym at) (entered_main k built c b p due i.main));
+      main = rw e.orders (subst (λ (q : Place). MainTied (entered_core c k).main_at c.orders.save_asked q.saves) (sym at) (entered_main k built c b p due i.main));
       orders = rw (e.orders, reverse-push (opening loaded ++ rest) (enters k b.time)) (orders_other loaded c.orders (enters k b.time) (reverse (opening loaded ++ rest)) refl i.orders);
       number = rw (e.control, e.number) i.number;
       read = rw e.number i.read;

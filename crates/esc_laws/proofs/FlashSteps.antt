@@ -57,7 +57,7 @@ saved_flash : (saved : Bool) (loaded : Loaded) (first flash flash' : Told) (t : 
 saved_flash true loaded first flash flash' t before block is whole whole' did fits = fits_saved loaded first flash flash' before (tick_at t) block is did fits
 saved_flash false loaded first flash flash' t before block is whole whole' did fits = fits_spoilt loaded first flash flash' before (tick_at t) did whole whole' fits
 
-work_flash : (v : Bool) (saved : Bool) (loaded : Loaded) (first flash flash' : Told) (c : Brain) (b : Bank) (before : List Note) → c.orders.save ≡ v → v ≡ true → c.orders.settings ≡ settings_at loaded.settings (reverse before)
+work_flash : (v : Bool) (saved : Bool) (loaded : Loaded) (first flash flash' : Told) (c : Brain) (b : Bank) (before : List Note) → c.orders.save_asked ≡ v → v ≡ true → c.orders.settings ≡ settings_at loaded.settings (reverse before)
     → IsWhole flash.bytes → IsWhole flash'.bytes → FlashDid (main_saves main.Work c.orders) saved flash flash'
     → Flashes loaded first flash flash' b.time before (step_notes b.time kind.Main (main_step saved main.Work c b))
 work_flash true saved loaded first flash flash' c b before e up is whole whole' did =
@@ -68,16 +68,16 @@ work_flash false saved loaded first flash flash' c b before e up is whole whole'
 back_flash : (loaded : Loaded) (first flash flash' : Told) (t : ℕ) (before : List Note) → flash' ≡ flash → Flashes loaded first flash flash' t before (note.Leave (tick_at t) 0 ∷ [])
 back_flash loaded first flash flash' t before same = inl (All-cons (λ n. is_save n ≡ false) (note.Leave (tick_at t) 0) [] refl (All-nil (λ n. is_save n ≡ false)), same)
 
-main_flash : (at : MainAt) (saved : Bool) (loaded : Loaded) (first flash flash' : Told) (c : Brain) (b : Bank) (before : List Note) → MainTied at c.orders.save (place before).saves → c.orders.settings ≡ settings_at loaded.settings (reverse before)
+main_flash : (at : MainAt) (saved : Bool) (loaded : Loaded) (first flash flash' : Told) (c : Brain) (b : Bank) (before : List Note) → MainTied at c.orders.save_asked (place before).saves → c.orders.settings ≡ settings_at loaded.settings (reverse before)
     → IsWhole flash.bytes → IsWhole flash'.bytes → FlashDid (main_saves at c.orders) saved flash flash'
     → Flashes loaded first flash flash' b.time before (step_notes b.time kind.Main (main_step saved at c b))
 main_flash main.Shut saved loaded first flash flash' c b before m is whole whole' did = back_flash loaded first flash flash' b.time before did
-main_flash main.Work saved loaded first flash flash' c b before m is whole whole' did = work_flash c.orders.save saved loaded first flash flash' c b before refl m.0 is whole whole' did
+main_flash main.Work saved loaded first flash flash' c b before m is whole whole' did = work_flash c.orders.save_asked saved loaded first flash flash' c b before refl m.0 is whole whole' did
 main_flash main.Back saved loaded first flash flash' c b before m is whole whole' did = back_flash loaded first flash flash' b.time before did
 
 -- ---- any step
 
-kind_flash : (k : Kind) → IsBuilt k → (saved : Bool) (loaded : Loaded) (first flash flash' : Told) (c : Brain) (b : Bank) (before : List Note) → MainTied c.main_at c.orders.save (place before).saves → c.orders.settings ≡ settings_at loaded.settings (reverse before)
+kind_flash : (k : Kind) → IsBuilt k → (saved : Bool) (loaded : Loaded) (first flash flash' : Told) (c : Brain) (b : Bank) (before : List Note) → MainTied c.main_at c.orders.save_asked (place before).saves → c.orders.settings ≡ settings_at loaded.settings (reverse before)
     → IsWhole flash.bytes → IsWhole flash'.bytes → FlashDid (kind_saves k c) saved flash flash'
     → Flashes loaded first flash flash' b.time before (step_notes b.time k (kind_step k saved (counted_down c b) b))
 kind_flash kind.Main t saved loaded first flash flash' c b before m is whole whole' did = main_flash c.main_at saved loaded first flash flash' (counted_down c b) b before m is whole whole' did

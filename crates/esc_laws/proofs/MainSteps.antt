@@ -25,7 +25,7 @@ use Rattle.esc_laws.proofs.OwnSteps.{OwnIn, StepOut}
 
 -- it saves
 saving_out : (loaded : Loaded) (nest : Nest) (trace : List Event) (c : Brain) (b : Bank) (rest : List Note) (saved : Bool) → OwnIn loaded nest trace c b rest → IsIn kind.Main (place (opening loaded ++ rest))
-    → c.orders.save ≡ true → (place (opening loaded ++ rest)).saves ≡ 0
+    → c.orders.save_asked ≡ true → (place (opening loaded ++ rest)).saves ≡ 0
     → StepOut loaded nest trace b rest (saving_step saved (record c { main_at = main.Back }) b) (place (opening loaded ++ rest)).stack
 saving_out loaded nest trace c b rest saved i inside asked none =
     let n : Note = note.Saved (tick_at b.time) (result_of saved) in
@@ -44,7 +44,7 @@ saving_out loaded nest trace c b rest saved i inside asked none =
     }
 
 main_place : (loaded : Loaded) (at : MainAt) (nest : Nest) (trace : List Event) (c : Brain) (b : Bank) (rest : List Note) (saved : Bool) → at ≢ main.Back → at ≢ main.Shut → OwnIn loaded nest trace c b rest
-    → MainTied at c.orders.save (place (opening loaded ++ rest)).saves → IsIn kind.Main (place (opening loaded ++ rest))
+    → MainTied at c.orders.save_asked (place (opening loaded ++ rest)).saves → IsIn kind.Main (place (opening loaded ++ rest))
     → StepOut loaded nest trace b rest (main_step saved at c b) (place (opening loaded ++ rest)).stack
 main_place loaded main.Shut nest trace c b rest saved nb ns i m inside = absurd (ns refl)
 main_place loaded main.Work nest trace c b rest saved nb ns i m inside =

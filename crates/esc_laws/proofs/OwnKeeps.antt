@@ -224,7 +224,7 @@ tick_turn loaded nest trace c b rest outer i same l = elim (tick_goes c.tick_at 
 main_turn : (loaded : Loaded) (nest : Nest) (trace : List Event) (saved : Bool) (c : Brain) (b : Bank) (rest : List Note) (outer : List Kind) → OwnIn loaded nest trace c b rest → (place (opening loaded ++ rest)).stack ≡ kind.Main ∷ outer → 0 < main_left c.main_at
     → OwnOut loaded nest trace (main_step saved c.main_at c b).core b (accessed b (main_step saved c.main_at c b).access) (rest ++ step_notes b.time kind.Main (main_step saved c.main_at c b)) (open_left kind.Main outer (main_step saved c.main_at c b))
 main_turn loaded nest trace saved c b rest outer i same l = elim (main_goes c.main_at saved c b l) [
-  | inl back ↦ rw back (main_back loaded nest trace c b rest outer i same (subst (λ (at : MainAt). MainTied at c.orders.save (place (opening loaded ++ rest)).saves) back i.main))
+  | inl back ↦ rw back (main_back loaded nest trace c b rest outer i same (subst (λ (at : MainAt). MainTied at c.orders.save_asked (place (opening loaded ++ rest)).saves) back i.main))
   | inr on ↦ goes_out loaded nest trace b rest (main_step saved c.main_at c b) kind.Main outer on.2
       (subst (λ (st : List Kind). StepOut loaded nest trace b rest (main_step saved c.main_at c b) st) same (main_out loaded nest trace c b rest saved on.0 on.1 i (ap innermost same)))
 ]

@@ -56,7 +56,7 @@ pub record OwnIn (loaded : Loaded) (nest : Nest) (trace : List Event) (c : Brain
   pub signal : SignalTied (place (opening loaded ++ rest)).signal c.cap_at (cap_view trace c b (place (opening loaded ++ rest)))
   pub window : WindowSound b.window b.time
   pub tick : TickTied c.tick_at b.number_read b.time (place (opening loaded ++ rest)).ticks
-  pub main : MainTied c.main_at c.orders.save (place (opening loaded ++ rest)).saves
+  pub main : MainTied c.main_at c.orders.save_asked (place (opening loaded ++ rest)).saves
   pub orders : OrdersTied loaded c.orders (reverse (opening loaded ++ rest))
   pub number : b.number_read ≡ c.control.number
   pub read : b.number_read ≤ b.time / 2400
@@ -70,7 +70,7 @@ pub record OwnOut (loaded : Loaded) (nest : Nest) (trace : List Event) (c' : Bra
   pub signal : SignalTied (place (opening loaded ++ rest)).signal c'.cap_at (cap_view trace c' b' (place (opening loaded ++ rest)))
   pub window : WindowSound b'.window b.time
   pub tick : TickTied c'.tick_at b'.number_read b.time (place (opening loaded ++ rest)).ticks
-  pub main : MainTied c'.main_at c'.orders.save (place (opening loaded ++ rest)).saves
+  pub main : MainTied c'.main_at c'.orders.save_asked (place (opening loaded ++ rest)).saves
   pub orders : OrdersTied loaded c'.orders (reverse (opening loaded ++ rest))
   pub number : b'.number_read ≡ c'.control.number
   pub read : b'.number_read ≤ b.time / 2400
@@ -133,7 +133,7 @@ copy_out loaded nest trace c b rest w m left i e k =
       signal = copy_tied trace c b (place (opening loaded ++ rest)) w m left e (few b i.window) i.window i.small k;
       window = i.window;
       tick = either_core (λ (x : Brain). TickTied x.tick_at b.number_read b.time (place (opening loaded ++ rest)).ticks) took longer same i.tick i.tick;
-      main = either_core (λ (x : Brain). MainTied x.main_at x.orders.save (place (opening loaded ++ rest)).saves) took longer same i.main i.main;
+      main = either_core (λ (x : Brain). MainTied x.main_at x.orders.save_asked (place (opening loaded ++ rest)).saves) took longer same i.main i.main;
       orders = either_core (λ (x : Brain). OrdersTied loaded x.orders (reverse (opening loaded ++ rest))) took longer same i.orders i.orders;
       number = either_core (λ (x : Brain). b.number_read ≡ x.control.number) took longer same i.number i.number;
       read = i.read;
@@ -178,7 +178,7 @@ opens_out loaded nest trace c b rest s i e o inside none done =
       signal = one_tied loaded trace (opens c b).core (accessed b (opens c b).access) rest w (opens_tied trace c b (place (opening loaded ++ rest)) i.edges none done);
       window = record { past = λ k d l. absurd (omega arith); order = λ x y le l. absurd (omega arith); few = omega arith };
       tick = subst (λ (p : Place). TickTied c.tick_at b.number_read b.time p.ticks) (sym (place-push (opening loaded ++ rest) w)) i.tick;
-      main = subst (λ (p : Place). MainTied c.main_at c.orders.save p.saves) (sym (place-push (opening loaded ++ rest) w)) i.main;
+      main = subst (λ (p : Place). MainTied c.main_at c.orders.save_asked p.saves) (sym (place-push (opening loaded ++ rest) w)) i.main;
       orders = rw (reverse-push (opening loaded ++ rest) w) (orders_other loaded c.orders w (reverse (opening loaded ++ rest)) refl i.orders);
       number = i.number;
       read = i.read;
@@ -272,12 +272,12 @@ judge_judged loaded Nothing nest trace c b rest said st orders w inside =
     (orders_other loaded c.orders (note.Nothing (tick_at b.time)) (reverse (opening loaded ++ rest)) refl orders) refl
 
 -- an act keeps a save asked for
-still_asked : (at : MainAt) (o : Orders) (a : Option Act) (saves : ℕ) → MainTied at o.save saves → MainTied at (obeyed_if o a).save saves
+still_asked : (at : MainAt) (o : Orders) (a : Option Act) (saves : ℕ) → MainTied at o.save_asked saves → MainTied at (obeyed_if o a).save_asked saves
 still_asked main.Shut o a saves m = tt
 still_asked main.Back o a saves m = m
 still_asked main.Work o a saves m = (obeyed_save o a m.0, m.1)
   where
-    obeyed_save : (o : Orders) (a : Option Act) → o.save ≡ true → (obeyed_if o a).save ≡ true
+    obeyed_save : (o : Orders) (a : Option Act) → o.save_asked ≡ true → (obeyed_if o a).save_asked ≡ true
     obeyed_save o None e = e
     obeyed_save o (Some (Beacon beacon)) e = e
     obeyed_save o (Some (Direction side)) e = e
@@ -291,7 +291,7 @@ record SameOthers (c : Brain) (p : Place) (s : Stepped) : Type 0 where
   tick : s.core.tick_at ≡ c.tick_at
   ticks : (fold next p s.notes).ticks ≡ p.ticks
   number : s.core.control.number ≡ c.control.number
-  main : MainTied c.main_at c.orders.save p.saves → MainTied s.core.main_at s.core.orders.save (fold next p s.notes).saves
+  main : MainTied c.main_at c.orders.save_asked p.saves → MainTied s.core.main_at s.core.orders.save_asked (fold next p s.notes).saves
 
 judge_others : (j : Judgement) (c : Brain) (b : Bank) (p : Place) → SameOthers c p (judge_step j c b)
 judge_others (Good frame) c b p = with_command (act_in c frame) c b p frame
@@ -328,7 +328,7 @@ judge_out loaded nest trace c b rest w m i e k copied inside =
       signal = subst (λ (q : Place). SignalTied q.signal s.core.cap_at (cap_view trace s.core (accessed b s.access) q)) (sym at) (judged_tied j trace c b p w m k);
       window = rw bank i.window;
       tick = rw (at, bank, t.tick, t.ticks) i.tick;
-      main = subst (λ (q : Place). MainTied s.core.main_at s.core.orders.save q.saves) (sym at) (t.main i.main);
+      main = subst (λ (q : Place). MainTied s.core.main_at s.core.orders.save_asked q.saves) (sym at) (t.main i.main);
       orders = o.orders;
       number = rw (bank, t.number) i.number;
       read = rw bank i.read;

@@ -138,7 +138,7 @@ work_own false saved c b = All-nil (IsOwn kind.Main b.time)
 
 main_own : (at : MainAt) (saved : Bool) (c : Brain) (b : Bank) → All (IsOwn kind.Main b.time) (main_step saved at c b).notes
 main_own main.Shut saved c b = All-nil (IsOwn kind.Main b.time)
-main_own main.Work saved c b = work_own c.orders.save saved (record c { main_at = main.Back }) b
+main_own main.Work saved c b = work_own c.orders.save_asked saved (record c { main_at = main.Back }) b
 main_own main.Back saved c b = All-nil (IsOwn kind.Main b.time)
 
 kind_own : (k : Kind) → IsBuilt k → (saved : Bool) (c : Brain) (b : Bank) → All (IsOwn k b.time) (kind_step k saved c b).notes
@@ -201,7 +201,7 @@ work_goes false saved c b = refl
 
 pub main_goes : (at : MainAt) (saved : Bool) (c : Brain) (b : Bank) → 0 < main_left at → (at ≡ main.Back) ⊎ ((at ≢ main.Back) × (at ≢ main.Shut) × ((main_step saved at c b).over ≡ false))
 main_goes main.Shut saved c b l = absurd (omega arith)
-main_goes main.Work saved c b l = inr ((λ e. cc), (λ e. cc), work_goes c.orders.save saved (record c { main_at = main.Back }) b)
+main_goes main.Work saved c b l = inr ((λ e. cc), (λ e. cc), work_goes c.orders.save_asked saved (record c { main_at = main.Back }) b)
 main_goes main.Back saved c b l = inl refl
 
 -- ---- the ties after it
@@ -235,7 +235,7 @@ cap_back loaded nest trace c b rest outer i same tied =
       signal = subst (λ (q : Place). SignalTied q.signal cap.Shut (cap_view trace (record c { cap_at = cap.Shut }) b q)) (sym at) (back_tied trace c b p p.signal b.time refl tied);
       window = i.window;
       tick = subst (λ (q : Place). TickTied c.tick_at b.number_read b.time q.ticks) (sym at) i.tick;
-      main = subst (λ (q : Place). MainTied c.main_at c.orders.save q.saves) (sym at) i.main;
+      main = subst (λ (q : Place). MainTied c.main_at c.orders.save_asked q.saves) (sym at) i.main;
       orders = rw (reverse-push (opening loaded ++ rest) n) (orders_other loaded c.orders n (reverse (opening loaded ++ rest)) refl i.orders);
       number = i.number;
       read = i.read;
@@ -255,7 +255,7 @@ tick_back loaded nest trace c b rest outer i same one =
       signal = subst (λ (q : Place). SignalTied q.signal c.cap_at (cap_view trace (record c { tick_at = tick.Shut }) b q)) (sym at) i.signal;
       window = i.window;
       tick = tt;
-      main = subst (λ (q : Place). MainTied c.main_at c.orders.save q.saves) (sym at) i.main;
+      main = subst (λ (q : Place). MainTied c.main_at c.orders.save_asked q.saves) (sym at) i.main;
       orders = rw (reverse-push (opening loaded ++ rest) n) (orders_other loaded c.orders n (reverse (opening loaded ++ rest)) refl i.orders);
       number = i.number;
       read = i.read;

@@ -98,7 +98,7 @@ of_side : (b : Bool) (m n : ℕ) → (m == 12) ≡ false → (n == 12) ≡ false
 of_side true m n e f = e
 of_side false m n e f = f
 
-obeyed_save : (o : Orders) (act : Act) → act_of (number_of act) ≡ Some act → (obeyed o act).save ≡ ((number_of act == 12) || o.save)
+obeyed_save : (o : Orders) (act : Act) → act_of (number_of act) ≡ Some act → (obeyed o act).save_asked ≡ ((number_of act == 12) || o.save_asked)
 obeyed_save o (Beacon beacon) e = rw (no_twelve beacon e) refl
 obeyed_save o (Direction side) e = rw (of_side (side == 0) 7 8 refl refl) refl
 obeyed_save o (ThreeD true) e = refl
@@ -121,7 +121,7 @@ orders_other loaded o (note.Command t c) back h tied = absurd (let g = h in cc)
 orders_other loaded o (note.Saved t r) back h tied = absurd (let g = h in cc)
 orders_other loaded o n back h tied = record { settings_are = tied.settings_are; save_is = tied.save_is }
 
-pub saved_tied : (loaded : Loaded) (o : Orders) (t : Tick) (r : ℕ) (back : List Note) → OrdersTied loaded o back → OrdersTied loaded (record o { save = false }) (note.Saved t r ∷ back)
+pub saved_tied : (loaded : Loaded) (o : Orders) (t : Tick) (r : ℕ) (back : List Note) → OrdersTied loaded o back → OrdersTied loaded (record o { save_asked = false }) (note.Saved t r ∷ back)
 saved_tied loaded o t r back tied = record { settings_are = tied.settings_are; save_is = refl }
 
 -- ---- notes other than saves leave what the flash holds, and how many saves it has refused

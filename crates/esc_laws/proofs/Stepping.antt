@@ -44,11 +44,11 @@ use Rattle.esc_laws.proofs.Turns.{reached_on, reached_new, by_on, by_new, own_in
 -- ---- what is seen due, and isn't open, is due
 
 waits_due : (loaded : Loaded) (nest : Nest) (trace : List Event) (c : Brain) (b : Bank) (stack : List Kind) (log : List Turned) → Keeps c b stack → Marks loaded nest trace c b stack log → Ties loaded trace c b log
-    → (k : Kind) → sees trace (journal loaded log) b.time k ≡ true → is_open stack k ≡ false → due_now c.orders.save b k ≡ true
+    → (k : Kind) → sees trace (journal loaded log) b.time k ≡ true → is_open stack k ≡ false → due_now c.orders.save_asked b k ≡ true
 waits_due loaded nest trace c b stack log keeps m t kind.Tick s f =
-    tick_due c.orders.save b (rw (t.number, m.control.ties.number_is) (ltb-true (number_at (reverse (journal loaded log))) (b.time / 2400) s))
+    tick_due c.orders.save_asked b (rw (t.number, m.control.ties.number_is) (ltb-true (number_at (reverse (journal loaded log))) (b.time / 2400) s))
 waits_due loaded nest trace c b stack log keeps m t kind.Cap s f =
-    cap_called c.orders.save (place (journal loaded log)).signal trace c b (place (journal loaded log))
+    cap_called c.orders.save_asked (place (journal loaded log)).signal trace c b (place (journal loaded log))
     (subst (λ (at : CapAt). SignalTied (place (journal loaded log)).signal at (cap_view trace c b (place (journal loaded log)))) (cap_shut c.cap_at (keeps.shut kind.Cap f)) t.signal) s
 waits_due loaded nest trace c b stack log keeps m t kind.Main s f = t.orders.save_is ∙ s
 waits_due loaded nest trace c b stack log keeps m t kind.Uart s f = cc
@@ -57,7 +57,7 @@ waits_due loaded nest trace c b stack log keeps m t kind.Pwm s f = cc
 waits_due loaded nest trace c b stack log keeps m t kind.Comm s f = cc
 
 pub sees_due : (loaded : Loaded) (nest : Nest) (trace : List Event) (c : Brain) (b : Bank) (stack : List Kind) (log : List Turned) → Keeps c b stack → Marks loaded nest trace c b stack log → Ties loaded trace c b log
-    → (k : Kind) → is_waiting (sees trace (journal loaded log) b.time) stack k ≡ true → due_now c.orders.save b k ≡ true
+    → (k : Kind) → is_waiting (sees trace (journal loaded log) b.time) stack k ≡ true → due_now c.orders.save_asked b k ≡ true
 sees_due loaded nest trace c b stack log keeps m t k e =
     let parts = and_parts (sees trace (journal loaded log) b.time k) (not (is_open stack k)) e in
     waits_due loaded nest trace c b stack log keeps m t k parts.0 (not-true (is_open stack k) parts.1)
@@ -71,7 +71,7 @@ empty_open : (stack : List Kind) (k : Kind) → stack ≡ [] → is_open stack k
 empty_open stack k e = rw e refl
 
 entry_fits : (loaded : Loaded) (nest : Nest) (cost : ℕ) (trace : List Event) (c : Brain) (b : Bank) (stack : List Kind) (log : List Turned) (k : Kind) → Logged loaded nest cost trace b.time c b stack log
-    → next_entry nest stack (due_now c.orders.save b) ≡ Some k → ((j : Kind) → called loaded nest trace (log ++ entry_of b.time k ∷ []) j ≤ 8) → StepFits loaded nest cost trace log (entry_of b.time k)
+    → next_entry nest stack (due_now c.orders.save_asked b) ≡ Some k → ((j : Kind) → called loaded nest trace (log ++ entry_of b.time k ∷ []) j ≤ 8) → StepFits loaded nest cost trace log (entry_of b.time k)
 entry_fits loaded nest cost trace c b stack log k l chosen calls = record {
   later = l.past;
   free_at = free_ended trace b.time b.time l.stalls (omega arith);
@@ -79,8 +79,8 @@ entry_fits loaded nest cost trace c b stack log k l chosen calls = record {
   idle = λ o. l.awaits.idle o;
   first = λ o. (
     refl,
-    λ j s. highest_most (due_now c.orders.save b) k j
-        (waits_due loaded nest trace c b stack log l.keeps l.marks l.ties j s (empty_open stack j (l.marks.stack_is ∙ o))) (entry_highest nest stack (due_now c.orders.save b) k chosen),
+    λ j s. highest_most (due_now c.orders.save_asked b) k j
+        (waits_due loaded nest trace c b stack log l.keeps l.marks l.ties j s (empty_open stack j (l.marks.stack_is ∙ o))) (entry_highest nest stack (due_now c.orders.save_asked b) k chosen),
   );
   entry = λ e. refl;
   own = λ e. cc;
@@ -134,19 +134,19 @@ entry_by cost trace b stack log k at reached j o t below = elim (same_kind j k) 
 ]
 
 pub entry_turn : (loaded : Loaded) (nest : Nest) (cost : ℕ) (trace : List Event) (c : Brain) (b : Bank) (stack : List Kind) (log : List Turned) (k : Kind) → 1 ≤ cost → Logged loaded nest cost trace b.time c b stack log
-    → b.masked ≡ false → next_entry nest stack (due_now c.orders.save b) ≡ Some k
+    → b.masked ≡ false → next_entry nest stack (due_now c.orders.save_asked b) ≡ Some k
     → Logged loaded nest cost trace (b.time + cost) (entered_core c k) (after_entry b k) (k ∷ stack) (log ++ entry_of b.time k ∷ [])
 entry_turn loaded nest cost trace c b stack log k some l down chosen =
-    let due = highest_is_due (due_now c.orders.save b) k (entry_highest nest stack (due_now c.orders.save b) k chosen) in
-    let built : IsBuilt k = due_built c.orders.save b k due in
+    let due = highest_is_due (due_now c.orders.save_asked b) k (entry_highest nest stack (due_now c.orders.save_asked b) k chosen) in
+    let built : IsBuilt k = due_built c.orders.save_asked b k due in
     let s = entry_same k built c b in
     let still : (after_entry b k).masked ≡ false = entry_masked b k ∙ down in
     logged_after loaded nest cost trace c (entered_core c k) b (after_entry b k) stack (k ∷ stack) log (entry_of b.time k) some refl l (record {
       keeps = keeps_entry nest c b stack k l.keeps l.sorted down chosen;
-      sorted = (entry_above nest stack (due_now c.orders.save b) k chosen, l.sorted);
+      sorted = (entry_above nest stack (due_now c.orders.save_asked b) k chosen, l.sorted);
       same = record { time = s.time; level = s.level };
       out = entry_out loaded nest trace c b (notes_in log) stack k (own_in loaded nest trace c b stack log l.marks l.ties) l.keeps l.sorted l.marks.stack_is chosen;
-      patient = rw still (entry_patient nest stack (due_now c.orders.save b) (sees trace (journal loaded log) b.time) (sees trace (journal loaded (log ++ entry_of b.time k ∷ [])) b.time) k c.hold (entered_core c k).hold (called loaded nest trace log)
+      patient = rw still (entry_patient nest stack (due_now c.orders.save_asked b) (sees trace (journal loaded log) b.time) (sees trace (journal loaded (log ++ entry_of b.time k ∷ [])) b.time) k c.hold (entered_core c k).hold (called loaded nest trace log)
           (sees_due loaded nest trace c b stack log l.keeps l.marks l.ties) chosen (rw down at l.patient));
       owes = entry_owes c b stack log k l.owes built;
       reached = entry_reached cost trace b stack log k l.at_next l.reached;
@@ -218,7 +218,7 @@ abbrev pub stepped_by : Kind → Bool → Brain → Bank → Stepped
 stepped_by k saved c b = kind_step k saved (counted_down c b) b
 
 pub own_turn : (loaded : Loaded) (nest : Nest) (cost : ℕ) (trace : List Event) (c : Brain) (b : Bank) (outer : List Kind) (log : List Turned) (k : Kind) (saved : Bool) → 1 ≤ cost → Logged loaded nest cost trace b.time c b (k ∷ outer) log
-    → (b.masked ≡ false → next_entry nest (k ∷ outer) (due_now c.orders.save b) ≡ None)
+    → (b.masked ≡ false → next_entry nest (k ∷ outer) (due_now c.orders.save_asked b) ≡ None)
     → Logged loaded nest cost trace (b.time + cost) (stepped_by k saved c b).core (accessed b (stepped_by k saved c b).access) (open_left k outer (stepped_by k saved c b)) (log ++ own_of b.time k (step_notes b.time k (stepped_by k saved c b)) ∷ [])
 own_turn loaded nest cost trace c b outer log k saved some l none =
     let s : Stepped = stepped_by k saved c b in
@@ -235,7 +235,7 @@ own_turn loaded nest cost trace c b outer log k saved some l none =
       sorted = left_stack s.over k outer l.sorted;
       same = record { time = gates.time; level = gates.level };
       out = own_out loaded k built saved nest trace c b (notes_in log) outer (own_in loaded nest trace c b (k ∷ outer) log l.marks l.ties) (sym l.marks.stack_is) left;
-      patient = own_patient nest k outer (open_left k outer s) (due_now c.orders.save b) (sees trace (journal loaded log) b.time) (sees trace (journal loaded (log ++ own_of b.time k notes ∷ [])) b.time) b.masked b'.masked c.hold s.core.hold (called loaded nest trace log)
+      patient = own_patient nest k outer (open_left k outer s) (due_now c.orders.save_asked b) (sees trace (journal loaded log) b.time) (sees trace (journal loaded (log ++ own_of b.time k notes ∷ [])) b.time) b.masked b'.masked c.hold s.core.hold (called loaded nest trace log)
           (sees_due loaded nest trace c b (k ∷ outer) log l.keeps l.marks l.ties) none (left_goes s.over b'.masked k outer bound.back) held bound.mask.most bound.mask.less l.patient;
       owes = own_owes c s.core outer log k b.time notes s.over l.owes bound.less bound.others;
       reached = λ j o. reached_on cost trace log (own_of b.time k notes) j refl (l.at_next (λ e. cc)) (l.reached j (left_open s.over k j outer o));

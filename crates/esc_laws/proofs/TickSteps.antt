@@ -128,7 +128,7 @@ asked_out loaded nest trace c b rest i inside less none =
           (outcome_signal answer.lost answer.armed_now (next p k) b.time trace (asked c b n).core (accessed b (Reads reg.TickState)) i.signal);
       window = i.window;
       tick = ap (λ (q : Place). q.ticks) at ∙ outcome_place answer.lost answer.armed_now (next p k) b.time ∙ ap (λ (x : ℕ). x + 1) none;
-      main = subst (λ (x : ℕ). MainTied c.main_at c.orders.save x) (sym (ap (λ (q : Place). q.saves) at ∙ outcome_saves answer.lost answer.armed_now (next p k) b.time)) i.main;
+      main = subst (λ (x : ℕ). MainTied c.main_at c.orders.save_asked x) (sym (ap (λ (q : Place). q.saves) at ∙ outcome_saves answer.lost answer.armed_now (next p k) b.time)) i.main;
       orders = o.orders_are;
       number = sym number;
       read = omega arith;

@@ -53,7 +53,7 @@ pub record Ties (loaded : Loaded) (trace : List Event) (c : Brain) (b : Bank) (l
   pub signal : SignalTied (place (journal loaded log)).signal c.cap_at (cap_view trace c b (place (journal loaded log)))
   pub window : WindowSound b.window b.time
   pub tick : TickTied c.tick_at b.number_read b.time (place (journal loaded log)).ticks
-  pub main : MainTied c.main_at c.orders.save (place (journal loaded log)).saves
+  pub main : MainTied c.main_at c.orders.save_asked (place (journal loaded log)).saves
   pub orders : OrdersTied loaded c.orders (reverse (journal loaded log))
   pub number : b.number_read ≡ c.control.number
   pub read : b.number_read ≤ b.time / 2400
@@ -93,7 +93,7 @@ pub record Logged (loaded : Loaded) (nest : Nest) (cost : ℕ) (trace : List Eve
 -- one step of the machine over the core, and what the flash tells before and after it
 abbrev pub CoreTurn : Nest → Brain → List Kind → Bank → Told → List Note → Brain → List Kind → Bank → Told → Type 0
 CoreTurn nest c stack b flash notes c' stack' b' flash' =
-    Turn (λ x k y. y ≡ entered_core x k) (λ x a f k did y a' f'. IsMade (λ saved. core_step k saved x a) (core_saves k x a) a f did y a' f') (λ x. x.orders.save) nest c stack b flash notes c' stack' b' flash'
+    Turn (λ x k y. y ≡ entered_core x k) (λ x a f k did y a' f'. IsMade (λ saved. core_step k saved x a) (core_saves k x a) a f did y a' f') (λ x. x.orders.save_asked) nest c stack b flash notes c' stack' b' flash'
 
 -- the log's entry for a step, at a tick
 abbrev pub turned : {nest : Nest} {c c' : Brain} {stack stack' : List Kind} {b b' : Bank} {flash flash' : Told} → ℕ → (notes : List Note) → CoreTurn nest c stack b flash notes c' stack' b' flash' → Turned

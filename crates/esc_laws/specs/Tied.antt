@@ -164,7 +164,7 @@ MainTied main.Back save saves = saves ≡ 1
 -- the settings in memory, and whether a save is asked for, are what the notes say, the newest first
 pub record OrdersTied (loaded : Loaded) (o : Orders) (back : List Note) : Type 0 where
   pub settings_are : o.settings ≡ settings_at loaded.settings back
-  pub save_is : o.save ≡ asked_at back
+  pub save_is : o.save_asked ≡ asked_at back
 
 -- the kinds that are built
 abbrev pub IsBuilt : Kind → Type 0

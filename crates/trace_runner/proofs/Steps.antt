@@ -70,7 +70,7 @@ turned-notes t notes (inr e) = refl
 -- ---- what `Logged` becomes, with the numbers that the runner has at hand
 
 pub step_logged : (loaded : Loaded) (nest nest' : Nest) (cost next : ℕ) (trace : List Event) (c c' : Brain) (b b' : Bank) (flash flash' : Told) (stack stack' : List Kind) (steps : List Turned) (notes : List Note)
-    → nest' ≡ nest → b.time ≡ next → 1 ≤ cost → next + cost < 2147483648 → Logged loaded nest cost trace next c b stack steps → is_idle stack (due_now c.orders.save b) ≡ false
+    → nest' ≡ nest → b.time ≡ next → 1 ≤ cost → next + cost < 2147483648 → Logged loaded nest cost trace next c b stack steps → is_idle stack (due_now c.orders.save_asked b) ≡ false
     → (t : CoreTurn nest c stack b flash notes c' stack' b' flash')
     → Logged loaded nest' cost trace (next + cost) c' b' stack' (steps ++ turned b.time notes t ∷ [])
 step_logged loaded nest nest' cost next trace c c' b b' flash flash' stack stack' steps notes same at some small l busy t =
@@ -101,7 +101,7 @@ step_flash o nest cost next trace c c' b b' flash flash' stack stack' steps note
 
 -- what is left where the notes of a step were written up to one of them
 pub step_breaks : (o : Outset) (nest : Nest) (cost next until : ℕ) (trace : List Event) (c c' : Brain) (b b' : Bank) (flash flash' : Told) (stack stack' : List Kind) (steps : List Turned) (notes front rest : List Note) (last : Note)
-    → b.time ≡ next → next < until → 1 ≤ cost → next + cost < 2147483648 → Logged o.loaded nest cost trace next c b stack steps → is_idle stack (due_now c.orders.save b) ≡ false
+    → b.time ≡ next → next < until → 1 ≤ cost → next + cost < 2147483648 → Logged o.loaded nest cost trace next c b stack steps → is_idle stack (due_now c.orders.save_asked b) ≡ false
     → CoreTurn nest c stack b flash notes c' stack' b' flash' → Below next steps → notes ≡ (front ++ last ∷ []) ++ rest → All InRange notes → All InRange (journal o.loaded steps) → IsWhole flash.bytes → IsWhole flash'.bytes → FlashFits o.loaded o.flash flash (journal o.loaded steps)
     → LeftBelow o flash' nest cost until trace (journal o.loaded steps ++ (front ++ last ∷ []))
 step_breaks o nest cost next until trace c c' b b' flash flash' stack stack' steps notes front rest last at lt some small l busy t below split range before whole whole' fits =

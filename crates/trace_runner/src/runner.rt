@@ -147,7 +147,7 @@ impl Runner {
     /// Time goes on to the tick at which a kind becomes due, or to the limit.
     fn jump(&mut self)
         requires now { self.old.regs.time ≡ self.old.next.0 }
-        requires idle { is_idle self.old.machine.open_kinds (due_now self.old.machine.firmware.orders.save self.old.regs) ≡ true }
+        requires idle { is_idle self.old.machine.open_kinds (due_now self.old.machine.firmware.orders.save_asked self.old.regs) ≡ true }
         requires below { self.old.next.0 < self.old.limit.0 }
         ensures later { self.old.next.0 < self.new.next.0 }
         ensures runs { (o : Outset) (now : Told) (trace : List AnEvent) (steps : List Turned) → Runs self.old o now trace steps → Runs self.new o now trace steps }
@@ -166,7 +166,7 @@ impl Runner {
     /// Makes one step of the machine, at now, and writes the lines of its notes.
     fn step<K: Sink, D: FlashDev>(&mut self, out: &mut K, dev: &mut D) -> Result<(), WriteFault>
         requires now { self.old.regs.time ≡ self.old.next.0 }
-        requires busy { is_idle self.old.machine.open_kinds (due_now self.old.machine.firmware.orders.save self.old.regs) ≡ false }
+        requires busy { is_idle self.old.machine.open_kinds (due_now self.old.machine.firmware.orders.save_asked self.old.regs) ≡ false }
         requires below { self.old.next.0 < self.old.limit.0 }
         ensures next { self.new.next.0 ≡ self.old.next.0 + self.old.cost }
         ensures goes { OnOk result ((o : Outset) → GoesOn K.given K.took (Runs self.old o (told D.bytes D.faults dev.old)) (Runs self.new o (told D.bytes D.faults dev.new)) [] out.old out.new) }
