@@ -1,5 +1,5 @@
 -- How far each step of the core takes its activation, and what it does to the mask.
-use Rattle.std.proofs.Common.{◌≡◌, ◌≢◌, ◌<◌, ◌≤◌, ◌+◌, ◌-◌, ℕ, Bool, true, false, ◌&&◌, ◌==◌, nat_lt, nat_le, min, if◌then◌else◌, [], ◌∷◌, ◌++◌, length, refl, sym, ◌∙◌, ap, arith, lit<, lit≤, ◌⊎◌, inl, inr, Option, None}
+use Rattle.std.proofs.Common.{◌≡◌, ◌≢◌, ◌<◌, ◌≤◌, ◌+◌, ◌-◌, ℕ, Bool, true, false, ◌&&◌, ◌==◌, nat_lt, nat_le, min, if◌then◌else◌, [], ◌∷◌, ◌++◌, length, refl, sym, ◌∙◌, ap, arith, lit<, lit≤, ◌⊎◌, inl, inr, None}
 use Rattle.std.proofs.lemmas.Bool.Decides.{nat_tests}
 use Rattle.esc_base.specs.declared.kind.Kind.{Kind}
 use Rattle.esc_base.specs.declared.kind.Kind.TheVariants as kind
@@ -25,7 +25,6 @@ use Rattle.esc_core.specs.Stepped.{Stepped, IsStepped, is_return, goes_on, goes_
 use Rattle.esc_core.specs.Cap.{after_edges, after_copy, opens, takes, next_edge, judge_step, cap_step}
 use Rattle.esc_core.specs.Tick.{tick_notes, ticked, tick_step}
 use Rattle.esc_core.specs.Background.{saving_step, main_step}
-use Rattle.esc_core.specs.Saving.{IsMade}
 use Rattle.esc_core.specs.Firmware.{cap_left, tick_left, main_left, bare_left, left_of, tick_need, shut, kind_step, kind_saves, counted_down, is_stray, stray_step, core_step, core_saves}
 
 -- ---- CAP

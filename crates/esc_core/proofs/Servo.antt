@@ -1,5 +1,5 @@
 -- The range of servo pulses is one by its two widths.
-use Rattle.std.proofs.Common.{◌≡◌, ◌<◌, ◌≤◌, ◌+◌, ◌*◌, ℕ, ap, subst, sym, arith, min}
+use Rattle.std.proofs.Common.{◌≡◌, ◌<◌, ◌+◌, ◌*◌, ℕ, ap, subst, arith}
 use Rattle.std.proofs.Props.{props}
 use Rattle.servo_input.specs.declared.servo.Servo.{Servo}
 use Rattle.esc_core.specs.Judge.{servo_by}

@@ -29,7 +29,12 @@ fn tick_of(e: Event) -> Tick
 impl Runner {
     /// Makes all steps before the event's tick, and then applies the event. Its tick, at most 1073741824, isn't before
     /// that of the last event.
-    pub fn feed<K: Sink, D: FlashDev>(&mut self, e: Event, out: &mut K, dev: &mut D) -> Result<(), WriteFault>
+    pub fn feed<K: Sink, D: FlashDev>(
+        &mut self,
+        e: Event,
+        out: &mut K,
+        dev: &mut D,
+    ) -> Result<(), WriteFault>
         requires small { tick_of_event e ≤ 1073741824 }
         requires later { newest self.old ≤ tick_of_event e }
         requires stall { StallFits e }
@@ -57,7 +62,12 @@ impl Runner {
     }
 
     /// Makes all steps before the end of the trace, at most 1073741824 and not before the last event.
-    pub fn end<K: Sink, D: FlashDev>(&mut self, t: Tick, out: &mut K, dev: &mut D) -> Result<(), WriteFault>
+    pub fn end<K: Sink, D: FlashDev>(
+        &mut self,
+        t: Tick,
+        out: &mut K,
+        dev: &mut D,
+    ) -> Result<(), WriteFault>
         requires small { t.0 ≤ 1073741824 }
         requires later { newest self.old ≤ t.0 }
 
@@ -78,7 +88,12 @@ impl Runner {
     }
 
     /// Makes all steps at ticks below the limit.
-    fn run_to<K: Sink, D: FlashDev>(&mut self, limit: Tick, out: &mut K, dev: &mut D) -> Result<(), WriteFault>
+    fn run_to<K: Sink, D: FlashDev>(
+        &mut self,
+        limit: Tick,
+        out: &mut K,
+        dev: &mut D,
+    ) -> Result<(), WriteFault>
         requires small { limit.0 ≤ 1073741824 }
         requires later { self.old.limit.0 ≤ limit.0 }
         ensures reached { OnOk result (self.new.limit.0 ≤ self.new.next.0) }
@@ -177,8 +192,7 @@ impl Runner {
         ensures nest { nest_of self.new ≡ nest_of self.old }
         ensures cost { cost_of self.new ≡ cost_of self.old }
     {
-        self.machine
-            .step_into(&mut self.regs, dev, &mut self.notes);
+        self.machine.step_into(&mut self.regs, dev, &mut self.notes);
         self.next = Tick(self.next.0 + self.cost as u64);
         put_notes(self.notes.as_slice(), out)
     }
