@@ -317,7 +317,7 @@ fn a_save_has_what_commands_changed(rt: HostRuntime) -> Result<(), Fail> {
         assert_eq!(rt;
             flash.bytes().get(0x7C00..0x7C30),
             Some(block.0.as_slice()),
-            "at {lines}"
+            "byte {at}"
         );
     }
     Ok(())
