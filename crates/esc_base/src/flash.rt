@@ -91,7 +91,9 @@ impl MemFlash {
 
     /// A blank flash: each byte is 0xFF.
     pub fn new(alloc: Global) -> Result<MemFlash, NoMemory>
-        ensures { IfOk result (λ flash. flash_cells flash ≡ blank 32768) }
+        ensures blank { IfOk result (λ flash. flash_cells flash ≡ blank 32768) }
+        ensures planned { IfOk result (λ flash. (op : FlashOp) → planned_calls flash op ≡ []) }
+        ensures faults { IfOk result (λ flash. flash.faults ≡ 0) }
     {
         Ok(MemFlash {
             cells: blank_cells(alloc, FLASH)?,

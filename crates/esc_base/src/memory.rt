@@ -11,7 +11,10 @@ pub(crate) struct Calls {
 }
 
 impl Calls {
-    pub(crate) fn new(alloc: Global, fails: &[u64]) -> Result<Calls, NoMemory> {
+    pub(crate) fn new(alloc: Global, fails: &[u64]) -> Result<Calls, NoMemory>
+        ensures made { IfOk result (λ calls. calls.made ≡ 0) }
+        ensures planned { IfOk result (λ calls. calls.fails.items ≡ fails.now) }
+    {
         match Vec::from_slice(alloc, fails) {
             Ok(fails) => Ok(Calls { made: 0, fails }),
             Err(_) => Err(NoMemory),
@@ -62,7 +65,10 @@ impl MemSource {
         fails: &[u64],
     ) -> Result<MemSource, NoMemory>
         requires { 0 < piece }
-        ensures { IfOk result (λ s. source_left s ≡ bytes.now) }
+        ensures left { IfOk result (λ s. source_left s ≡ bytes.now) }
+        ensures piece { IfOk result (λ s. s.piece ≡ piece) }
+        ensures planned { IfOk result (λ s. s.calls.fails.items ≡ fails.now) }
+        ensures faults { IfOk result (λ s. s.faults ≡ 0) }
     {
         let calls = Calls::new(alloc, fails)?;
         match Vec::from_slice(alloc, bytes) {
@@ -120,7 +126,10 @@ impl MemSink {
 
     /// Takes `room` bytes; the calls with the numbers `fails`, counted from 1, fail.
     pub fn new(alloc: Global, room: usize, fails: &[u64]) -> Result<MemSink, NoMemory>
-        ensures { IfOk result (λ s. sink_given s ≡ []) }
+        ensures given { IfOk result (λ s. sink_given s ≡ []) }
+        ensures room { IfOk result (λ s. s.room ≡ room) }
+        ensures planned { IfOk result (λ s. s.calls.fails.items ≡ fails.now) }
+        ensures faults { IfOk result (λ s. s.faults ≡ 0) }
     {
         let calls = Calls::new(alloc, fails)?;
         match Vec::with_capacity(alloc, room) {
