@@ -42,7 +42,7 @@ abbrev pub ReadsFront : Option (List ℕ) → List Event → Type 0
 ReadsFront None events = Unit {0}
 ReadsFront (Some bytes) events = BeginsWith (Read bytes) events
 
--- the step cost of a run, and its nesting: no handler interrupts another one
+-- the step cost of a run, and its nesting: no handler but MAIN is interrupted
 abbrev pub run_cost : ℕ
 run_cost = 2
 
