@@ -14,9 +14,6 @@ use Rattle.arming.specs.Controlled.{outcome_of, owed, says, FitsControl, Lost, O
 use Rattle.arming.specs.Laws.{IsFollowedByTimeout, IsSilentBelow, IsTimeout, SilenceEndsDrive}
 use Rattle.arming.proofs.InOrder.{back_to, each_front, each_rest, reverse-push, Fit}
 
-TimeoutOwed : List Note → Type 0
-TimeoutOwed back = owed back ≡ Some (Lost 0)
-
 -- the rules before the timeout count on from this number, and none is owed
 record Counts (limit : ℕ) (back : List Note) : Type 0 where
   limit_is : newest_at back + 10000 ≡ limit

@@ -330,7 +330,7 @@ counted_some : (m : Bool) (h : ℕ) → (m ≡ true → 2 ≤ h) → m ≡ true 
 counted_some true h f e = let l = f refl in omega arith
 counted_some false h f e = cc
 
-counted_most : (m : Bool) (h : ℕ) → h ≤ 8 → (if m then h - 1 else h) ≤ 8
+pub counted_most : (m : Bool) (h : ℕ) → h ≤ 8 → (if m then h - 1 else h) ≤ 8
 counted_most true h l = omega arith
 counted_most false h l = l
 

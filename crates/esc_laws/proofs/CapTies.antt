@@ -39,11 +39,6 @@ use Rattle.edge_capture.proofs.Stable.{closed_at, burst_before}
 some_edges : (n l c : ℕ) → (if n == 0 then None else Some l) ≡ Some c → 1 ≤ n
 some_edges n l c e = grind (arith, nat_tests)
 
--- over a view whose window is that of a bank
-pub record IsOfBank (v : CapView) (b : Bank) : Type 0 where
-  pub window : v.window ≡ b.window
-  pub time : v.time ≡ b.time
-
 closing_edges : (v : CapView) (w m : ℕ) (i : IsClosing v w m) → 1 ≤ length v.window.edges
 closing_edges v w m i = rw i.hears.edges (some_edges (length (burst (line v.trace).edges w (mode_of m))) _ i.closed_at i.closes)
 

@@ -25,7 +25,7 @@ use Rattle.esc_core.specs.Cap.{cap_step}
 use Rattle.esc_core.specs.Tick.{tick_notes, ticked, tick_step}
 use Rattle.esc_core.specs.Background.{main_step}
 use Rattle.esc_core.specs.Firmware.{cap_left, tick_left, main_left, left_of, need_of, tick_need, kind_step, counted_down}
-use Rattle.esc_core.proofs.Bounds.{CapMoves, cap_moves, MainMoves, main_moves, Bounds}
+use Rattle.esc_core.proofs.Bounds.{CapMoves, cap_moves, MainMoves, main_moves, counted_most, Bounds}
 use Rattle.esc_laws.specs.Place.{place}
 use Rattle.esc_laws.specs.Steps.{opening}
 use Rattle.esc_laws.specs.Tied.{Keeps, SignalTied, cap_view, TickTied, MainTied, IsBuilt}
@@ -41,10 +41,6 @@ use Rattle.esc_laws.proofs.OwnTurns.{step_notes, open_left, cap_goes, tick_goes,
 pub record TickMask (b : Bank) (s : Stepped) : Type 0 where
   pub enough : (accessed b s.access).masked ≡ true → (tick_need s.core.tick_at ≤ s.core.hold) × (s.over ≡ false)
   pub stands : tick_need s.core.tick_at ≤ 8 → ((accessed b s.access).masked ≡ true) × (s.over ≡ false)
-
-counted_most : (m : Bool) (h : ℕ) → h ≤ 8 → (if m then h - 1 else h) ≤ 8
-counted_most true h l = omega arith
-counted_most false h l = l
 
 read_mask : (v : Bool) (n : ℕ) (c : Brain) (b : Bank) → (b.masked ≡ true → 1 ≤ c.hold) → b.masked ≡ true
     → TickMask b (if v then record {

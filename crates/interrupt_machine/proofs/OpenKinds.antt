@@ -1,5 +1,5 @@
--- The open kinds: the highest due kind, and room for one more.
-use Rattle.std.proofs.Common.{◌≡◌, ◌≢◌, ◌<◌, ◌≤◌, ℕ, Bool, true, false, not, ◌&&◌, ◌||◌, ◌==◌, nat_lt, if◌then◌else◌, List, [], ◌∷◌, ◌++◌, length, Option, Some, None, refl, sym, ◌∙◌, ap, subst, arith, reverse, lit≤, ◌⊎◌, inl, inr}
+-- The open kinds: the one that enters is above them, and each of them has steps left.
+use Rattle.std.proofs.Common.{◌≡◌, ◌≢◌, ◌<◌, ◌≤◌, ℕ, Bool, true, false, not, ◌&&◌, ◌||◌, ◌==◌, nat_lt, if◌then◌else◌, List, [], ◌∷◌, ◌++◌, Option, Some, None, refl, sym, ◌∙◌, ap, subst, arith, reverse, lit≤, ◌⊎◌, inl, inr}
 use Rattle.std.proofs.lemmas.Bool.Decides.{nat_tests}
 use Rattle.std.proofs.lemmas.List.{reverse-append}
 use Rattle.esc_base.specs.declared.kind.Kind.{Kind}
@@ -69,15 +69,6 @@ entry_above nest stack due k e = above_by nest (innermost stack) k (entry_may ne
 above_outer : (stack : List Kind) (i k : Kind) → IsAbove (innermost stack) i → kind_number i < kind_number k → IsAbove (innermost stack) k
 above_outer [] i k a l = tt
 above_outer (j ∷ outer) i k a l = let b : kind_number j < kind_number i = a in omega arith
-
--- a kind above the innermost one has room below it
-pub room_below : (stack : List Kind) (k : Kind) → IsStack stack → IsAbove (innermost stack) k → length stack ≤ kind_number k
-room_below [] k s a = omega arith
-room_below (i ∷ outer) k s a = let r = room_below outer i s.1 s.0 in let l : kind_number i < kind_number k = a in omega arith
-
-pub stack_most : (stack : List Kind) → IsStack stack → length stack ≤ 7
-stack_most [] s = omega arith
-stack_most (i ∷ outer) s = let r = room_below outer i s.1 s.0 in let m = number_most i in omega arith
 
 other_number : (m n : ℕ) → m < n → (m == n) ≡ false
 other_number m n l = grind (arith, nat_tests)
@@ -161,13 +152,6 @@ live_popped before after k [] stack' i p s live others j o = cc
 live_popped before after k (x ∷ outer) stack' i p s live others j o =
     let same : x ≡ k = cc in
     live_less before after x outer s live (λ y ne. others y (λ q. ne (q ∙ sym same))) j (subst (λ (l : List Kind). is_open l j ≡ true) p o)
-
-pub live_kept : (before after : Kind → ℕ) (k : Kind) (stack : List Kind) → innermost stack ≡ Some k
-    → ((j : Kind) → is_open stack j ≡ true → 0 < before j) → 0 < after k → ((j : Kind) → j ≢ k → after j ≡ before j) → (j : Kind) → is_open stack j ≡ true → 0 < after j
-live_kept before after k [] i live own others j o = cc
-live_kept before after k (x ∷ outer) i live own others j o =
-    let same : x ≡ k = cc in
-    live_more before after x outer live (subst (λ (y : Kind). 0 < after y) (sym same) own) (λ y ne. others y (λ q. ne (q ∙ sym same))) j o
 
 pub reverse-push : (kinds : List Kind) (k : Kind) → reverse (kinds ++ k ∷ []) ≡ k ∷ reverse kinds
 reverse-push kinds k = reverse-append kinds (k ∷ [])
