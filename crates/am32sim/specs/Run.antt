@@ -115,11 +115,9 @@ pub record IsWriteFault (o : Outset) (now : Told) (left before after : Option (L
 abbrev pub RanFrom : Outset → Told → Status → Option (List ℕ) → Option (List ℕ) → Option (List ℕ) → Type 0
 RanFrom o now status.Done left before after = IsDone o now left before after
 RanFrom o now (status.Refused line kind) left before after = IsRefused o now line kind left before after
-RanFrom o now status.Usage left before after = ⊥
 RanFrom o now status.ReadFault left before after = IsReadFault o now left before after
 RanFrom o now status.WriteFault left before after = IsWriteFault o now left before after
-RanFrom o now status.NoMemory left before after = ⊥
-RanFrom o now status.AttachFault left before after = ⊥
+RanFrom o now s left before after = ⊥
 
 pub record HasRun (flash now : Told) (s : Status) (left before after : Option (List ℕ)) : Type 0 where
   pub outset : Outset
@@ -138,23 +136,13 @@ OnAttachFault s P = Unit {0}
 
 -- a fact where the source failed
 abbrev pub OnReadFault : Status → Type 0 → Type 0
-OnReadFault status.Done P = Unit {0}
-OnReadFault (status.Refused line kind) P = Unit {0}
-OnReadFault status.Usage P = Unit {0}
 OnReadFault status.ReadFault P = P
-OnReadFault status.WriteFault P = Unit {0}
-OnReadFault status.NoMemory P = Unit {0}
-OnReadFault status.AttachFault P = Unit {0}
+OnReadFault s P = Unit {0}
 
 -- a fact where the sink failed
 abbrev pub OnWriteFault : Status → Type 0 → Type 0
-OnWriteFault status.Done P = Unit {0}
-OnWriteFault (status.Refused line kind) P = Unit {0}
-OnWriteFault status.Usage P = Unit {0}
-OnWriteFault status.ReadFault P = Unit {0}
 OnWriteFault status.WriteFault P = P
-OnWriteFault status.NoMemory P = Unit {0}
-OnWriteFault status.AttachFault P = Unit {0}
+OnWriteFault s P = Unit {0}
 
 -- a fact where the trace ended too early
 abbrev pub OnNoEnd : Status → Type 0 → Type 0
@@ -163,10 +151,7 @@ OnNoEnd s P = Unit {0}
 
 -- the source or the sink failed, or the flash at the start
 abbrev pub IsFault : Status → Type 0
-IsFault status.Done = ⊥
-IsFault (status.Refused line kind) = ⊥
-IsFault status.Usage = ⊥
 IsFault status.ReadFault = Unit {0}
 IsFault status.WriteFault = Unit {0}
-IsFault status.NoMemory = ⊥
 IsFault status.AttachFault = Unit {0}
+IsFault s = ⊥
