@@ -67,7 +67,7 @@ pub record IsFrontOf (whole front : List Note) : Type 0 where
   pub rest : List Note
   pub is : whole ≡ front ++ rest
 
--- whole steps and a front of the notes of one more, all before the events that were read and not applied
+-- whole steps and a front of the notes of one more, all before the events that were not applied
 pub record IsLegalFront (loaded : Loaded) (trace later : List Event) (notes : List Note) : Type 0 where
   pub legal : LegalFront loaded run_nest run_cost trace notes
   pub before : All (λ e. All (λ n. time_of n < tick_of e) notes) later
@@ -98,13 +98,14 @@ pub record IsRefused (o : Outset) (now : Told) (line : ℕ) (kind : Refusal) (le
   pub reads : Reads left (Refused trace line kind)
   pub wrote : Wrote o now trace (last_tick trace) before after
 
--- The source failed. The journal is that of the events that were read.
+-- The source failed. The journal is that of events at the front of what was left to read.
 pub record IsReadFault (o : Outset) (now : Told) (left before after : Option (List ℕ)) : Type 0 where
   pub trace : List Event
   pub reads : ReadsFront left trace
   pub wrote : Wrote o now trace (last_tick trace) before after
 
--- The sink failed. The journal breaks off at a note; the events read later than that were not applied.
+-- The sink failed. The journal breaks off at a note. It is that of events at the front of what was left to read, and some
+-- behind them were not applied.
 pub record IsWriteFault (o : Outset) (now : Told) (left before after : Option (List ℕ)) : Type 0 where
   pub trace : List Event
   pub later : List Event

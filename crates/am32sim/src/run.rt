@@ -57,7 +57,7 @@ fn run<S: Source, K: Sink, F: FlashDev>(
 }
 
 /// Runs the command that the words name, which is `run` alone. It loads the settings from the flash, reads a trace from
-/// `src`, writes its journal to `out`, one line in each call, and takes no memory.
+/// `src` and writes its journal to `out`. It is handed no allocator, so it takes no memory.
 pub fn sim_main<S: Source, K: Sink, F: FlashDev>(
     words: &Words,
     src: &mut S,

@@ -1,11 +1,8 @@
-use Rattle.std.proofs.Common.{arith, refl, Result, Ok, Err, OnErr}
+use Rattle.std.proofs.Common.{arith, refl}
 use Rattle.esc_base.specs.Flash.{told}
+use Rattle.trace_runner.proofs.Written.{on_err}
 use Rattle.am32sim.proofs.Runs.{so_far_none, so_far_event, broken_begin, broken_event, broken_end, done, refused, faulted}
 use Rattle.am32sim.proofs.run.run.Goals as goal
-
-on_err : {T E P : Type 0} (r : Result T E) → P → OnErr r P
-on_err (Ok x) p = tt
-on_err (Err x) p = p
 
 pub returns-in_err-begin-clause-err : goal.returns-in_err-begin-clause-err
 returns-in_err-begin-clause-err g c =
