@@ -1,5 +1,6 @@
 -- How far each step of the core takes its activation, and what it does to the mask.
-use Rattle.std.proofs.Common.{◌≡◌, ◌≢◌, ◌<◌, ◌≤◌, ◌+◌, ◌-◌, ℕ, Bool, true, false, ◌&&◌, ◌==◌, nat_lt, nat_le, min, if◌then◌else◌, [], ◌∷◌, ◌++◌, length, refl, sym, ◌∙◌, ap, arith, lit<, lit≤, ◌⊎◌, inl, inr, None}
+use Rattle.std.proofs.Common.{◌≡◌, ◌≢◌, ◌<◌, ◌≤◌, ◌+◌, ◌-◌, ℕ, Bool, true, false, ◌&&◌, ◌==◌, nat_lt, nat_le, min, if◌then◌else◌, [], ◌∷◌, ◌++◌, length, refl, sym, ◌∙◌, arith, lit<, lit≤, ◌⊎◌, inl, inr, None}
+use Rattle.std.proofs.lemmas.Bool.{true≢false}
 use Rattle.std.proofs.lemmas.Bool.Decides.{nat_tests}
 use Rattle.esc_base.specs.declared.kind.Kind.{Kind}
 use Rattle.esc_base.specs.declared.kind.Kind.TheVariants as kind
@@ -25,31 +26,31 @@ use Rattle.esc_core.specs.Stepped.{Stepped, IsStepped, is_return, goes_on, goes_
 use Rattle.esc_core.specs.Cap.{after_edges, after_copy, opens, takes, next_edge, judge_step, cap_step}
 use Rattle.esc_core.specs.Tick.{tick_notes, ticked, tick_step}
 use Rattle.esc_core.specs.Background.{saving_step, main_step}
-use Rattle.esc_core.specs.Firmware.{cap_left, tick_left, main_left, bare_left, left_of, tick_need, shut, kind_step, kind_saves, counted_down, is_stray, stray_step, core_step, core_saves}
+use Rattle.esc_core.specs.Firmware.{cap_left, tick_left, main_left, left_of, need_of, tick_need, shut, kind_step, kind_saves, counted_down, is_stray, stray_step, core_step, core_saves}
 
 -- ---- CAP
 
--- it goes on, leaves the mask, and touches no other handler
-pub record CapMoves (left : ℕ) (c : Brain) (b : Bank) (s : Stepped) : Type 0 where
-  pub less : cap_left s.core.cap_at < left
-  pub more : s.over ≡ false → 0 < cap_left s.core.cap_at
+-- what a step of a handler does to the places, where so many steps were left: it goes on, and touches no other handler
+pub record Moves (k : Kind) (left : ℕ) (c : Brain) (s : Stepped) : Type 0 where
+  pub less : left_of s.core k < left
+  pub more : s.over ≡ false → 0 < left_of s.core k
+  pub shut : s.over ≡ true → left_of s.core k ≡ 0
+  pub others : (j : Kind) → j ≢ k → (left_of s.core j ≡ left_of c j) × (need_of s.core j ≡ need_of c j)
+
+-- it leaves the mask too
+pub record PlainMoves (k : Kind) (left : ℕ) (c : Brain) (b : Bank) (s : Stepped) : Type 0 where
+  pub moves : Moves k left c s
   pub masked : (accessed b s.access).masked ≡ b.masked
   pub hold : s.core.hold ≡ c.hold
-  pub tick : s.core.tick_at ≡ c.tick_at
-  pub main : s.core.main_at ≡ c.main_at
-  pub uart : s.core.uart_at ≡ c.uart_at
-  pub cmp : s.core.cmp_at ≡ c.cmp_at
-  pub pwm : s.core.pwm_at ≡ c.pwm_at
-  pub comm : s.core.comm_at ≡ c.comm_at
 
-opens_moves : (left : ℕ) (c : Brain) (b : Bank) → 1 < left → CapMoves left c b (opens c b)
-opens_moves left c b l = record { less = l; more = λ e. lit< tt; masked = refl; hold = refl; tick = refl; main = refl; uart = refl; cmp = refl; pwm = refl; comm = refl }
+opens_moves : (left : ℕ) (c : Brain) (b : Bank) → 1 < left → PlainMoves kind.Cap left c b (opens c b)
+opens_moves left c b l = record { moves = record { less = l; more = λ e. lit< tt; shut = λ e. cc; others = elim [ kind.Cap ↦ λ ne. absurd (ne refl) | j ↦ λ ne. (refl, refl) ] }; masked = refl; hold = refl }
 
-judge_moves : (j : Judgement) (c : Brain) (b : Bank) → CapMoves 3 c b (judge_step j c b)
-judge_moves (Good frame) c b = record { less = lit< tt; more = λ e. lit< tt; masked = refl; hold = refl; tick = refl; main = refl; uart = refl; cmp = refl; pwm = refl; comm = refl }
-judge_moves (Bad why) c b = record { less = lit< tt; more = λ e. lit< tt; masked = refl; hold = refl; tick = refl; main = refl; uart = refl; cmp = refl; pwm = refl; comm = refl }
-judge_moves (Found mode) c b = record { less = lit< tt; more = λ e. lit< tt; masked = refl; hold = refl; tick = refl; main = refl; uart = refl; cmp = refl; pwm = refl; comm = refl }
-judge_moves Nothing c b = record { less = lit< tt; more = λ e. lit< tt; masked = refl; hold = refl; tick = refl; main = refl; uart = refl; cmp = refl; pwm = refl; comm = refl }
+judge_moves : (j : Judgement) (c : Brain) (b : Bank) → PlainMoves kind.Cap 3 c b (judge_step j c b)
+judge_moves (Good frame) c b = record { moves = record { less = lit< tt; more = λ e. lit< tt; shut = λ e. cc; others = elim [ kind.Cap ↦ λ ne. absurd (ne refl) | j ↦ λ ne. (refl, refl) ] }; masked = refl; hold = refl }
+judge_moves (Bad why) c b = record { moves = record { less = lit< tt; more = λ e. lit< tt; shut = λ e. cc; others = elim [ kind.Cap ↦ λ ne. absurd (ne refl) | j ↦ λ ne. (refl, refl) ] }; masked = refl; hold = refl }
+judge_moves (Found mode) c b = record { moves = record { less = lit< tt; more = λ e. lit< tt; shut = λ e. cc; others = elim [ kind.Cap ↦ λ ne. absurd (ne refl) | j ↦ λ ne. (refl, refl) ] }; masked = refl; hold = refl }
+judge_moves Nothing c b = record { moves = record { less = lit< tt; more = λ e. lit< tt; shut = λ e. cc; others = elim [ kind.Cap ↦ λ ne. absurd (ne refl) | j ↦ λ ne. (refl, refl) ] }; masked = refl; hold = refl }
 
 edges_less : (v : Bool) (n : ℕ) → cap_left (if v then cap.Back else cap.Copy (min n 32)) < 40
 edges_less true n = lit< tt
@@ -71,54 +72,45 @@ copy_more true rest = lit< tt
 copy_more false rest = omega arith
 
 copy_moves : (v : Bool) (rest : ℕ) (c : Brain) (b : Bank)
-    → CapMoves (rest + 4) c b (record {
+    → PlainMoves kind.Cap (rest + 4) c b (record {
       core = if v then record c { burst = c.burst ++ next_edge c b ∷ []; cap_at = after_copy rest } else record c { cap_at = cap.Back };
       access = Reads (reg.CapEdge (length c.burst));
       notes = [];
       over = false;
     })
-copy_moves true rest c b = record { less = copy_less rest; more = λ e. copy_more (nat_le rest 1) rest; masked = refl; hold = refl; tick = refl; main = refl; uart = refl; cmp = refl; pwm = refl; comm = refl }
-copy_moves false rest c b = record { less = omega arith; more = λ e. lit< tt; masked = refl; hold = refl; tick = refl; main = refl; uart = refl; cmp = refl; pwm = refl; comm = refl }
+copy_moves true rest c b = record { moves = record { less = copy_less rest; more = λ e. copy_more (nat_le rest 1) rest; shut = λ e. cc; others = elim [ kind.Cap ↦ λ ne. absurd (ne refl) | j ↦ λ ne. (refl, refl) ] }; masked = refl; hold = refl }
+copy_moves false rest c b = record { moves = record { less = omega arith; more = λ e. lit< tt; shut = λ e. cc; others = elim [ kind.Cap ↦ λ ne. absurd (ne refl) | j ↦ λ ne. (refl, refl) ] }; masked = refl; hold = refl }
 
-begin_moves : (c : Brain) (b : Bank) → CapMoves 40 c b (goes_on (record c { burst = []; cap_at = after_edges (read_value b reg.CapState) }) (Reads reg.CapState))
+begin_moves : (c : Brain) (b : Bank) → PlainMoves kind.Cap 40 c b (goes_on (record c { burst = []; cap_at = after_edges (read_value b reg.CapState) }) (Reads reg.CapState))
 begin_moves c b = record {
-  less = edges_less (read_value b reg.CapState == 0) (read_value b reg.CapState);
-  more = λ e. edges_more (read_value b reg.CapState == 0) (read_value b reg.CapState);
+  moves = record {
+    less = edges_less (read_value b reg.CapState == 0) (read_value b reg.CapState);
+    more = λ e. edges_more (read_value b reg.CapState == 0) (read_value b reg.CapState);
+    shut = λ e. cc;
+    others = elim [ kind.Cap ↦ λ ne. absurd (ne refl) | j ↦ λ ne. (refl, refl) ];
+  };
   masked = refl;
   hold = refl;
-  tick = refl;
-  main = refl;
-  uart = refl;
-  cmp = refl;
-  pwm = refl;
-  comm = refl;
 }
 
-either_moves : (v : Bool) (c : Brain) (b : Bank) → CapMoves 40 c b (if v then opens c b else goes_on (record c { burst = []; cap_at = after_edges (read_value b reg.CapState) }) (Reads reg.CapState))
+either_moves : (v : Bool) (c : Brain) (b : Bank) → PlainMoves kind.Cap 40 c b (if v then opens c b else goes_on (record c { burst = []; cap_at = after_edges (read_value b reg.CapState) }) (Reads reg.CapState))
 either_moves true c b = opens_moves 40 c b (lit< tt)
 either_moves false c b = begin_moves c b
 
-pub cap_moves : (at : CapAt) (c : Brain) (b : Bank) → 0 < cap_left at → CapMoves (cap_left at) c b (cap_step at c b)
+pub cap_moves : (at : CapAt) (c : Brain) (b : Bank) → 0 < cap_left at → PlainMoves kind.Cap (cap_left at) c b (cap_step at c b)
 cap_moves cap.Shut c b l = absurd (omega arith)
 cap_moves cap.Start c b l = either_moves c.paused c b
 cap_moves (cap.Copy rest) c b l = copy_moves (takes c.burst (next_edge c b)) rest c b
 cap_moves cap.Judge c b l = judge_moves (judged (inputs_of c.orders.settings) c.window c.burst) c b
 cap_moves cap.Open c b l = opens_moves 2 c b (lit< tt)
-cap_moves (cap.Pause at) c b l = record { less = lit< tt; more = λ e. lit< tt; masked = refl; hold = refl; tick = refl; main = refl; uart = refl; cmp = refl; pwm = refl; comm = refl }
-cap_moves cap.Back c b l = record { less = lit< tt; more = λ e. cc; masked = refl; hold = refl; tick = refl; main = refl; uart = refl; cmp = refl; pwm = refl; comm = refl }
+cap_moves (cap.Pause at) c b l = record { moves = record { less = lit< tt; more = λ e. lit< tt; shut = λ e. cc; others = elim [ kind.Cap ↦ λ ne. absurd (ne refl) | j ↦ λ ne. (refl, refl) ] }; masked = refl; hold = refl }
+cap_moves cap.Back c b l = record { moves = record { less = lit< tt; more = λ e. cc; shut = λ e. refl; others = elim [ kind.Cap ↦ λ ne. absurd (ne refl) | j ↦ λ ne. (refl, refl) ] }; masked = refl; hold = refl }
 
 -- ---- TICK, which stands under the mask for at most two steps
 
 pub record TickMoves (left : ℕ) (c : Brain) (b : Bank) (s : Stepped) : Type 0 where
-  pub less : tick_left s.core.tick_at < left
-  pub more : s.over ≡ false → 0 < tick_left s.core.tick_at
+  pub moves : Moves kind.Tick left c s
   pub back : s.over ≡ true → (accessed b s.access).masked ≡ b.masked
-  pub cap : s.core.cap_at ≡ c.cap_at
-  pub main : s.core.main_at ≡ c.main_at
-  pub uart : s.core.uart_at ≡ c.uart_at
-  pub cmp : s.core.cmp_at ≡ c.cmp_at
-  pub pwm : s.core.pwm_at ≡ c.pwm_at
-  pub comm : s.core.comm_at ≡ c.comm_at
 
 -- what a step does to the mask and to the number of steps for which it can stand, where it stood for `before` more
 pub record MaskMoves (before : ℕ) (m m' : Bool) (hold : ℕ) : Type 0 where
@@ -133,15 +125,15 @@ number_moves : (v : Bool) (n : ℕ) (c : Brain) (b : Bank)
       notes = tick_notes b.time n 0 (ticked c n 0);
       over = false;
     } else goes_on (record c { tick_at = tick.Lower }) (Reads reg.TickState))
-number_moves true n c b = record { less = lit< tt; more = λ e. lit< tt; back = λ e. cc; cap = refl; main = refl; uart = refl; cmp = refl; pwm = refl; comm = refl }
-number_moves false n c b = record { less = lit< tt; more = λ e. lit< tt; back = λ e. cc; cap = refl; main = refl; uart = refl; cmp = refl; pwm = refl; comm = refl }
+number_moves true n c b = record { moves = record { less = lit< tt; more = λ e. lit< tt; shut = λ e. cc; others = elim [ kind.Tick ↦ λ ne. absurd (ne refl) | j ↦ λ ne. (refl, refl) ] }; back = λ e. cc }
+number_moves false n c b = record { moves = record { less = lit< tt; more = λ e. lit< tt; shut = λ e. cc; others = elim [ kind.Tick ↦ λ ne. absurd (ne refl) | j ↦ λ ne. (refl, refl) ] }; back = λ e. cc }
 
 pub tick_moves : (at : TickAt) (c : Brain) (b : Bank) → 0 < tick_left at → TickMoves (tick_left at) c b (tick_step at c b)
 tick_moves tick.Shut c b l = absurd (omega arith)
-tick_moves tick.Raise c b l = record { less = lit< tt; more = λ e. lit< tt; back = λ e. cc; cap = refl; main = refl; uart = refl; cmp = refl; pwm = refl; comm = refl }
+tick_moves tick.Raise c b l = record { moves = record { less = lit< tt; more = λ e. lit< tt; shut = λ e. cc; others = elim [ kind.Tick ↦ λ ne. absurd (ne refl) | j ↦ λ ne. (refl, refl) ] }; back = λ e. cc }
 tick_moves tick.Read c b l = number_moves (nat_lt c.control.number (read_value b reg.TickState)) (read_value b reg.TickState) c b
-tick_moves tick.Lower c b l = record { less = lit< tt; more = λ e. lit< tt; back = λ e. cc; cap = refl; main = refl; uart = refl; cmp = refl; pwm = refl; comm = refl }
-tick_moves tick.Back c b l = record { less = lit< tt; more = λ e. cc; back = λ e. refl; cap = refl; main = refl; uart = refl; cmp = refl; pwm = refl; comm = refl }
+tick_moves tick.Lower c b l = record { moves = record { less = lit< tt; more = λ e. lit< tt; shut = λ e. cc; others = elim [ kind.Tick ↦ λ ne. absurd (ne refl) | j ↦ λ ne. (refl, refl) ] }; back = λ e. cc }
+tick_moves tick.Back c b l = record { moves = record { less = lit< tt; more = λ e. cc; shut = λ e. refl; others = elim [ kind.Tick ↦ λ ne. absurd (ne refl) | j ↦ λ ne. (refl, refl) ] }; back = λ e. refl }
 
 unmasked_moves : (before : ℕ) (m m' : Bool) (hold : ℕ) → m ≡ false → m' ≡ m → MaskMoves before m m' hold
 unmasked_moves before true m' hold e f = cc
@@ -150,35 +142,20 @@ unmasked_moves before false false hold e f = record { some = λ m. cc; most = λ
 
 -- ---- MAIN
 
--- it goes on, leaves the mask, and touches no other handler
-pub record MainMoves (left : ℕ) (c : Brain) (b : Bank) (s : Stepped) : Type 0 where
-  pub less : main_left s.core.main_at < left
-  pub more : s.over ≡ false → 0 < main_left s.core.main_at
-  pub masked : (accessed b s.access).masked ≡ b.masked
-  pub hold : s.core.hold ≡ c.hold
-  pub tick : s.core.tick_at ≡ c.tick_at
-  pub cap : s.core.cap_at ≡ c.cap_at
-  pub uart : s.core.uart_at ≡ c.uart_at
-  pub cmp : s.core.cmp_at ≡ c.cmp_at
-  pub pwm : s.core.pwm_at ≡ c.pwm_at
-  pub comm : s.core.comm_at ≡ c.comm_at
-
 work_moves : (v saved : Bool) (c : Brain) (b : Bank)
-    → MainMoves 2 c b (if v then saving_step saved (record c { main_at = main.Back }) b else goes_on (record c { main_at = main.Back }) NoAccess)
-work_moves true saved c b = record { less = lit< tt; more = λ e. lit< tt; masked = refl; hold = refl; tick = refl; cap = refl; uart = refl; cmp = refl; pwm = refl; comm = refl }
-work_moves false saved c b = record { less = lit< tt; more = λ e. lit< tt; masked = refl; hold = refl; tick = refl; cap = refl; uart = refl; cmp = refl; pwm = refl; comm = refl }
+    → PlainMoves kind.Main 2 c b (if v then saving_step saved (record c { main_at = main.Back }) b else goes_on (record c { main_at = main.Back }) NoAccess)
+work_moves true saved c b = record { moves = record { less = lit< tt; more = λ e. lit< tt; shut = λ e. cc; others = elim [ kind.Main ↦ λ ne. absurd (ne refl) | j ↦ λ ne. (refl, refl) ] }; masked = refl; hold = refl }
+work_moves false saved c b = record { moves = record { less = lit< tt; more = λ e. lit< tt; shut = λ e. cc; others = elim [ kind.Main ↦ λ ne. absurd (ne refl) | j ↦ λ ne. (refl, refl) ] }; masked = refl; hold = refl }
 
-pub main_moves : (at : MainAt) (saved : Bool) (c : Brain) (b : Bank) → 0 < main_left at → MainMoves (main_left at) c b (main_step saved at c b)
+pub main_moves : (at : MainAt) (saved : Bool) (c : Brain) (b : Bank) → 0 < main_left at → PlainMoves kind.Main (main_left at) c b (main_step saved at c b)
 main_moves main.Shut saved c b l = absurd (omega arith)
 main_moves main.Work saved c b l = work_moves c.orders.save_asked saved c b
-main_moves main.Back saved c b l = record { less = lit< tt; more = λ e. cc; masked = refl; hold = refl; tick = refl; cap = refl; uart = refl; cmp = refl; pwm = refl; comm = refl }
+main_moves main.Back saved c b l = record { moves = record { less = lit< tt; more = λ e. cc; shut = λ e. refl; others = elim [ kind.Main ↦ λ ne. absurd (ne refl) | j ↦ λ ne. (refl, refl) ] }; masked = refl; hold = refl }
 
 -- ---- any kind
 
 pub record Bounds (k : Kind) (c : Brain) (b : Bank) (s : Stepped) : Type 0 where
-  pub less : left_of s.core k < left_of c k
-  pub others : (j : Kind) → j ≢ k → left_of s.core j ≡ left_of c j
-  pub more : s.over ≡ false → 0 < left_of s.core k
+  pub moves : Moves k (left_of c k) c s
   pub back : s.over ≡ true → (accessed b s.access).masked ≡ false
   pub mask : MaskMoves c.hold b.masked (accessed b s.access).masked s.core.hold
 
@@ -206,70 +183,34 @@ counted_saves k c b = refl
 
 shut_left : (k : Kind) (c : Brain) → left_of (shut c k) k ≡ 0
 shut_left kind.Main c = refl
-shut_left kind.Uart c = refl
-shut_left kind.Tick c = refl
-shut_left kind.Cap c = refl
-shut_left kind.Cmp c = refl
-shut_left kind.Pwm c = refl
-shut_left kind.Comm c = refl
+shut_left k c = refl
 
 -- a handler's place is its own
-shut_others : (k j : Kind) (c : Brain) → j ≢ k → left_of (shut c k) j ≡ left_of c j
-shut_others kind.Main kind.Main c ne = absurd (ne refl)
-shut_others kind.Main kind.Uart c ne = refl
-shut_others kind.Main kind.Tick c ne = refl
-shut_others kind.Main kind.Cap c ne = refl
-shut_others kind.Main kind.Cmp c ne = refl
-shut_others kind.Main kind.Pwm c ne = refl
-shut_others kind.Main kind.Comm c ne = refl
-shut_others kind.Uart kind.Uart c ne = absurd (ne refl)
-shut_others kind.Uart kind.Main c ne = refl
-shut_others kind.Uart kind.Tick c ne = refl
-shut_others kind.Uart kind.Cap c ne = refl
-shut_others kind.Uart kind.Cmp c ne = refl
-shut_others kind.Uart kind.Pwm c ne = refl
-shut_others kind.Uart kind.Comm c ne = refl
-shut_others kind.Tick kind.Tick c ne = absurd (ne refl)
-shut_others kind.Tick kind.Main c ne = refl
-shut_others kind.Tick kind.Uart c ne = refl
-shut_others kind.Tick kind.Cap c ne = refl
-shut_others kind.Tick kind.Cmp c ne = refl
-shut_others kind.Tick kind.Pwm c ne = refl
-shut_others kind.Tick kind.Comm c ne = refl
-shut_others kind.Cap kind.Cap c ne = absurd (ne refl)
-shut_others kind.Cap kind.Main c ne = refl
-shut_others kind.Cap kind.Uart c ne = refl
-shut_others kind.Cap kind.Tick c ne = refl
-shut_others kind.Cap kind.Cmp c ne = refl
-shut_others kind.Cap kind.Pwm c ne = refl
-shut_others kind.Cap kind.Comm c ne = refl
-shut_others kind.Cmp kind.Cmp c ne = absurd (ne refl)
-shut_others kind.Cmp kind.Main c ne = refl
-shut_others kind.Cmp kind.Uart c ne = refl
-shut_others kind.Cmp kind.Tick c ne = refl
-shut_others kind.Cmp kind.Cap c ne = refl
-shut_others kind.Cmp kind.Pwm c ne = refl
-shut_others kind.Cmp kind.Comm c ne = refl
-shut_others kind.Pwm kind.Pwm c ne = absurd (ne refl)
-shut_others kind.Pwm kind.Main c ne = refl
-shut_others kind.Pwm kind.Uart c ne = refl
-shut_others kind.Pwm kind.Tick c ne = refl
-shut_others kind.Pwm kind.Cap c ne = refl
-shut_others kind.Pwm kind.Cmp c ne = refl
-shut_others kind.Pwm kind.Comm c ne = refl
-shut_others kind.Comm kind.Comm c ne = absurd (ne refl)
-shut_others kind.Comm kind.Main c ne = refl
-shut_others kind.Comm kind.Uart c ne = refl
-shut_others kind.Comm kind.Tick c ne = refl
-shut_others kind.Comm kind.Cap c ne = refl
-shut_others kind.Comm kind.Cmp c ne = refl
-shut_others kind.Comm kind.Pwm c ne = refl
+shut_others : (k : Kind) (c : Brain) (j : Kind) → j ≢ k → (left_of (shut c k) j ≡ left_of c j) × (need_of (shut c k) j ≡ need_of c j)
+shut_others kind.Main c = elim [ kind.Main ↦ λ ne. absurd (ne refl) | j ↦ λ ne. (refl, refl) ]
+shut_others kind.Uart c = elim [ kind.Uart ↦ λ ne. absurd (ne refl) | j ↦ λ ne. (refl, refl) ]
+shut_others kind.Tick c = elim [ kind.Tick ↦ λ ne. absurd (ne refl) | j ↦ λ ne. (refl, refl) ]
+shut_others kind.Cap c = elim [ kind.Cap ↦ λ ne. absurd (ne refl) | j ↦ λ ne. (refl, refl) ]
+shut_others kind.Cmp c = elim [ kind.Cmp ↦ λ ne. absurd (ne refl) | j ↦ λ ne. (refl, refl) ]
+shut_others kind.Pwm c = elim [ kind.Pwm ↦ λ ne. absurd (ne refl) | j ↦ λ ne. (refl, refl) ]
+shut_others kind.Comm c = elim [ kind.Comm ↦ λ ne. absurd (ne refl) | j ↦ λ ne. (refl, refl) ]
+
+shut_hold : (k : Kind) (c : Brain) → (shut c k).hold ≡ c.hold
+shut_hold kind.Main c = refl
+shut_hold k c = refl
+
+-- a handler that returns at once
+shut_moves : (k : Kind) (c : Brain) (s : Stepped) → s.core ≡ shut c k → s.over ≡ true → 0 < left_of c k → Moves k (left_of c k) c s
+shut_moves k c s e over l = record {
+  less = rw (e, shut_left k c) l;
+  more = λ goes. absurd (true≢false (sym over ∙ goes));
+  shut = λ o. rw e (shut_left k c);
+  others = λ j ne. rw e (shut_others k c j ne);
+}
 
 stray_bounds : (k : Kind) (c : Brain) (b : Bank) → 0 < left_of c k → Bounds k c b (stray_step k c)
 stray_bounds k c b l = record {
-  less = rw (shut_left k c) l;
-  others = λ j ne. shut_others k j c ne;
-  more = λ e. cc;
+  moves = shut_moves k c (stray_step k c) refl refl l;
   back = λ e. refl;
   mask = record { some = λ m. cc; most = λ m. cc; less = λ m m'. cc };
 }
@@ -283,43 +224,30 @@ no_mask : (m : Bool) (hold : ℕ) → hold ≤ 8 → (m && nat_lt hold 9) ≡ fa
 no_mask true hold le e = let l : 9 ≤ hold = may_stand true hold 9 e refl in absurd (omega arith)
 no_mask false hold le e = refl
 
-bare_bounds : (k : Kind) (c : Brain) (b : Bank) → 0 < left_of c k → b.masked ≡ false → Bounds k c b (goes_back (shut (counted_down c b) k))
-bare_bounds k c b l m = record {
-  less = rw (shut_left k (counted_down c b)) l;
-  others = λ j ne. shut_others k j (counted_down c b) ne ∙ counted_left j c b;
-  more = λ e. cc;
-  back = λ e. m;
-  mask = unmasked_moves c.hold b.masked b.masked _ m refl;
-}
-  where
-    counted_left : (j : Kind) (c : Brain) (b : Bank) → left_of (counted_down c b) j ≡ left_of c j
-    counted_left kind.Main c b = refl
-    counted_left kind.Uart c b = refl
-    counted_left kind.Tick c b = refl
-    counted_left kind.Cap c b = refl
-    counted_left kind.Cmp c b = refl
-    counted_left kind.Pwm c b = refl
-    counted_left kind.Comm c b = refl
+-- counting a masked step leaves the places
+counted_left : (j : Kind) (c : Brain) (b : Bank) → left_of (counted_down c b) j ≡ left_of c j
+counted_left kind.Main c b = refl
+counted_left j c b = refl
 
-cap_bounds : (c : Brain) (b : Bank) → 0 < cap_left c.cap_at → b.masked ≡ false → Bounds kind.Cap c b (cap_step c.cap_at (counted_down c b) b)
-cap_bounds c b l m =
-    let s : CapMoves (cap_left c.cap_at) (counted_down c b) b (cap_step c.cap_at (counted_down c b) b) = cap_moves c.cap_at (counted_down c b) b l in
-    record {
-      less = s.less;
-      others = cap_others c b (cap_step c.cap_at (counted_down c b) b) s;
-      more = s.more;
-      back = λ e. s.masked ∙ m;
-      mask = unmasked_moves c.hold b.masked _ _ m s.masked;
-    }
-  where
-    cap_others : (c : Brain) (b : Bank) (s : Stepped) → CapMoves (cap_left c.cap_at) (counted_down c b) b s → (j : Kind) → j ≢ kind.Cap → left_of s.core j ≡ left_of c j
-    cap_others c b s m kind.Main ne = ap main_left m.main
-    cap_others c b s m kind.Uart ne = ap bare_left m.uart
-    cap_others c b s m kind.Tick ne = ap tick_left m.tick
-    cap_others c b s m kind.Cap ne = absurd (ne refl)
-    cap_others c b s m kind.Cmp ne = ap bare_left m.cmp
-    cap_others c b s m kind.Pwm ne = ap bare_left m.pwm
-    cap_others c b s m kind.Comm ne = ap bare_left m.comm
+counted_need : (j : Kind) (c : Brain) (b : Bank) → need_of (counted_down c b) j ≡ need_of c j
+counted_need kind.Main c b = refl
+counted_need j c b = refl
+
+counted_moves : (k : Kind) (left : ℕ) (c : Brain) (b : Bank) (s : Stepped) → Moves k left (counted_down c b) s → Moves k left c s
+counted_moves k left c b s m = record {
+  less = m.less;
+  more = m.more;
+  shut = m.shut;
+  others = λ j ne. ((m.others j ne).0 ∙ counted_left j c b, (m.others j ne).1 ∙ counted_need j c b);
+}
+
+-- a handler that leaves the mask
+plain_bounds : (k : Kind) (c : Brain) (b : Bank) (s : Stepped) → PlainMoves k (left_of c k) (counted_down c b) b s → b.masked ≡ false → Bounds k c b s
+plain_bounds k c b s p m = record {
+  moves = counted_moves k (left_of c k) c b s p.moves;
+  back = λ e. p.masked ∙ m;
+  mask = unmasked_moves c.hold b.masked (accessed b s.access).masked s.core.hold m p.masked;
+}
 
 -- the count after a masked step
 counted_less : (m : Bool) (h : ℕ) → m ≡ true → 0 < h → (if m then h - 1 else h) < h
@@ -377,50 +305,22 @@ tick_bounds : (c : Brain) (b : Bank) → 0 < tick_left c.tick_at → c.hold ≤ 
 tick_bounds c b l le h e =
     let s : TickMoves (tick_left c.tick_at) (counted_down c b) b (tick_step c.tick_at (counted_down c b) b) = tick_moves c.tick_at (counted_down c b) b l in
     record {
-      less = s.less;
-      others = tick_others c b (tick_step c.tick_at (counted_down c b) b) s;
-      more = s.more;
+      moves = counted_moves kind.Tick (tick_left c.tick_at) c b (tick_step c.tick_at (counted_down c b) b) s.moves;
       back = λ o. s.back o ∙ tick_down c.tick_at c b l le e o;
       mask = tick_mask c.tick_at c b l le h e;
     }
-  where
-    tick_others : (c : Brain) (b : Bank) (s : Stepped) → TickMoves (tick_left c.tick_at) (counted_down c b) b s → (j : Kind) → j ≢ kind.Tick → left_of s.core j ≡ left_of c j
-    tick_others c b s m kind.Main ne = ap main_left m.main
-    tick_others c b s m kind.Uart ne = ap bare_left m.uart
-    tick_others c b s m kind.Tick ne = absurd (ne refl)
-    tick_others c b s m kind.Cap ne = ap cap_left m.cap
-    tick_others c b s m kind.Cmp ne = ap bare_left m.cmp
-    tick_others c b s m kind.Pwm ne = ap bare_left m.pwm
-    tick_others c b s m kind.Comm ne = ap bare_left m.comm
 
-main_bounds : (saved : Bool) (c : Brain) (b : Bank) → 0 < main_left c.main_at → b.masked ≡ false → Bounds kind.Main c b (main_step saved c.main_at (counted_down c b) b)
-main_bounds saved c b l m =
-    let s : MainMoves (main_left c.main_at) (counted_down c b) b (main_step saved c.main_at (counted_down c b) b) = main_moves c.main_at saved (counted_down c b) b l in
-    record {
-      less = s.less;
-      others = main_others c b (main_step saved c.main_at (counted_down c b) b) s;
-      more = s.more;
-      back = λ e. s.masked ∙ m;
-      mask = unmasked_moves c.hold b.masked _ _ m s.masked;
-    }
-  where
-    main_others : (c : Brain) (b : Bank) (s : Stepped) → MainMoves (main_left c.main_at) (counted_down c b) b s → (j : Kind) → j ≢ kind.Main → left_of s.core j ≡ left_of c j
-    main_others c b s m kind.Main ne = absurd (ne refl)
-    main_others c b s m kind.Uart ne = ap bare_left m.uart
-    main_others c b s m kind.Tick ne = ap tick_left m.tick
-    main_others c b s m kind.Cap ne = ap cap_left m.cap
-    main_others c b s m kind.Cmp ne = ap bare_left m.cmp
-    main_others c b s m kind.Pwm ne = ap bare_left m.pwm
-    main_others c b s m kind.Comm ne = ap bare_left m.comm
+-- a handler that isn't built
+pub bare_moves : (k : Kind) (c : Brain) (b : Bank) → 0 < left_of c k → PlainMoves k (left_of c k) (counted_down c b) b (goes_back (shut (counted_down c b) k))
+bare_moves k c b l =
+    let m = shut_moves k (counted_down c b) (goes_back (shut (counted_down c b) k)) refl refl (rw (counted_left k c b) l) in
+    record { moves = record { less = rw (← counted_left k c b) m.less; more = m.more; shut = m.shut; others = m.others }; masked = refl; hold = shut_hold k (counted_down c b) }
 
 goes_bounds : (k : Kind) (saved : Bool) (c : Brain) (b : Bank) → 0 < left_of c k → c.hold ≤ 8 → (b.masked ≡ true → 0 < c.hold) → is_stray k c b ≡ false → Bounds k c b (kind_step k saved (counted_down c b) b)
 goes_bounds kind.Tick saved c b l le h e = tick_bounds c b l le h e
-goes_bounds kind.Cap saved c b l le h e = cap_bounds c b l (no_mask b.masked c.hold le e)
-goes_bounds kind.Main saved c b l le h e = main_bounds saved c b l (no_mask b.masked c.hold le e)
-goes_bounds kind.Uart saved c b l le h e = bare_bounds kind.Uart c b l (no_mask b.masked c.hold le e)
-goes_bounds kind.Cmp saved c b l le h e = bare_bounds kind.Cmp c b l (no_mask b.masked c.hold le e)
-goes_bounds kind.Pwm saved c b l le h e = bare_bounds kind.Pwm c b l (no_mask b.masked c.hold le e)
-goes_bounds kind.Comm saved c b l le h e = bare_bounds kind.Comm c b l (no_mask b.masked c.hold le e)
+goes_bounds kind.Cap saved c b l le h e = plain_bounds kind.Cap c b _ (cap_moves c.cap_at (counted_down c b) b l) (no_mask b.masked c.hold le e)
+goes_bounds kind.Main saved c b l le h e = plain_bounds kind.Main c b _ (main_moves c.main_at saved (counted_down c b) b l) (no_mask b.masked c.hold le e)
+goes_bounds k saved c b l le h e = plain_bounds k c b _ (bare_moves k c b l) (no_mask b.masked c.hold le e)
 
 -- each step of the core, in every state
 pub bounds : (k : Kind) (saved : Bool) (c : Brain) (b : Bank) → 0 < left_of c k → c.hold ≤ 8 → (b.masked ≡ true → 0 < c.hold) → Bounds k c b (core_step k saved c b)
@@ -458,9 +358,9 @@ pub keeps : (k : Kind) (saved : Bool) (c : Brain) (b : Bank) (did : Did) (c' : B
 keeps k saved c b did c' b' l le h i =
     let n = bounds k saved c b l le h in
     record {
-      less = rw i.core_is n.less;
-      others = λ j ne. rw i.core_is (n.others j ne);
-      more = λ m. rw i.core_is (n.more (sym i.over_is ∙ not_over did m));
+      less = rw i.core_is n.moves.less;
+      others = λ j ne. rw i.core_is (n.moves.others j ne).0;
+      more = λ m. rw i.core_is (n.moves.more (sym i.over_is ∙ not_over did m));
       back = λ r. rw i.bank_is (n.back (sym i.over_is ∙ is_over did r));
       mask_some = rw (i.core_is, i.bank_is) n.mask.some;
       mask_most = rw (i.core_is, i.bank_is) n.mask.most;

@@ -25,7 +25,7 @@ use Rattle.esc_core.specs.declared.judge.Judgement.{Judgement}
 use Rattle.esc_core.specs.declared.judge.Judgement.TheVariants.{Good, Bad, Found, Nothing}
 use Rattle.esc_core.specs.Brain.{Brain}
 use Rattle.esc_core.specs.Orders.{obeyed_if}
-use Rattle.esc_core.specs.Stepped.{Stepped}
+use Rattle.esc_core.specs.Stepped.{Stepped, goes_on}
 use Rattle.esc_core.specs.Cap.{tick_at, bit_of, act_in, after_edges, after_copy, command_note, edge_of, judge_step, next_edge, opens, takes}
 use Rattle.esc_laws.specs.Place.{Signal, Silent, Listens, Judged, Rests, Place, next}
 use Rattle.esc_laws.specs.Windowed.{MayReturn}
@@ -148,15 +148,9 @@ after_copy_at false rest v w m x i some within e =
     one_less : (n r : ℕ) → 2 ≤ r → r ≤ n → (n - r) + 1 ≡ n - (r - 1)
     one_less n r m le = omega arith
 
-pub copy_tied : (trace : List Event) (c : Brain) (b : Bank) (p : Place) (w m rest : ℕ) → p.signal ≡ Listens w m → length b.window.edges ≤ 32 → WindowSound b.window b.time → b.time < 2147483648
-    → IsCopying (cap_view trace c b p) w m rest
-    → TiedAfter trace b p (record {
-      core = if takes c.burst (next_edge c b) then record c { burst = c.burst ++ next_edge c b ∷ []; cap_at = after_copy rest } else record c { cap_at = cap.Back };
-      access = Reads (reg.CapEdge (length c.burst));
-      notes = [];
-      over = false;
-    })
-copy_tied trace c b p w m rest e few sound small i =
+pub copy_reads : (trace : List Event) (c : Brain) (b : Bank) (p : Place) (w m rest : ℕ) → WindowSound b.window b.time → b.time < 2147483648 → IsCopying (cap_view trace c b p) w m rest
+    → next_edge c b ≡ edge_at b.window.edges (length b.window.edges - rest)
+copy_reads trace c b p w m rest sound small i =
     let edges : List Edge = b.window.edges in
     let index : ℕ = length edges - rest in
     let some : 1 ≤ rest = i.some in
@@ -166,11 +160,28 @@ copy_tied trace c b p w m rest e few sound small i =
     let len : length c.burst ≡ index = rw copied (length-take-le index edges (omega arith)) in
     let readable : is_readable b ≡ true = closing_closed (cap_view trace c b p) w m i.closing in
     let early : (edge_at edges index).t.0 < 2147483648 = (let h : (edge_at edges index).t.0 ≤ b.time = sound.past index blank inside in omega arith) in
-    let reads : next_edge c b ≡ edge_at edges index =
-    next_is c b readable (rw len inside) (rw len early) ∙ ap (λ (n : ℕ). edge_at edges n) len in
-    let taken : takes c.burst (next_edge c b) ≡ true = copy_takes c b index copied inside few sound.order reads in
+    next_is c b readable (rw len inside) (rw len early) ∙ ap (λ (n : ℕ). edge_at edges n) len
+
+-- each edge of the window fits the burst
+pub copy_goes : (trace : List Event) (c : Brain) (b : Bank) (p : Place) (w m rest : ℕ) → length b.window.edges ≤ 32 → WindowSound b.window b.time → b.time < 2147483648 → IsCopying (cap_view trace c b p) w m rest
+    → takes c.burst (next_edge c b) ≡ true
+copy_goes trace c b p w m rest few sound small i =
+    let some : 1 ≤ rest = i.some in
+    let within : rest ≤ length b.window.edges = i.within in
+    copy_takes c b (length b.window.edges - rest) i.copied (omega arith) few sound.order (copy_reads trace c b p w m rest sound small i)
+
+pub copy_tied : (trace : List Event) (c : Brain) (b : Bank) (p : Place) (w m rest : ℕ) → p.signal ≡ Listens w m → WindowSound b.window b.time → b.time < 2147483648
+    → IsCopying (cap_view trace c b p) w m rest
+    → TiedAfter trace b p (goes_on (record c { burst = c.burst ++ next_edge c b ∷ []; cap_at = after_copy rest }) (Reads (reg.CapEdge (length c.burst))))
+copy_tied trace c b p w m rest e sound small i =
+    let edges : List Edge = b.window.edges in
+    let index : ℕ = length edges - rest in
+    let some : 1 ≤ rest = i.some in
+    let within : rest ≤ length edges = i.within in
+    let inside : index < length edges = omega arith in
+    let copied : c.burst ≡ take index edges = i.copied in
     let k : IsClosing (cap_view trace c b p) w m = i.closing in
-    rw (e, taken)
+    rw e
     (after_copy_at (nat_le rest 1) rest
     (cap_view trace (record c { burst = c.burst ++ next_edge c b ∷ []; cap_at = after_copy rest }) (accessed b (Reads (reg.CapEdge (length c.burst)))) p) w m refl
     (record {
@@ -184,10 +195,10 @@ copy_tied trace c b p w m rest e few sound small i =
       no_verdict = k.no_verdict;
     })
     some within
-    (ap (λ (xs : List Edge). xs ++ next_edge c b ∷ []) copied ∙ ap (λ (x : Edge). take index edges ++ x ∷ []) reads ∙ sym (take_more edges index blank inside)))
+    (ap (λ (xs : List Edge). xs ++ next_edge c b ∷ []) copied ∙ ap (λ (x : Edge). take index edges ++ x ∷ []) (copy_reads trace c b p w m rest sound small i) ∙ sym (take_more edges index blank inside)))
 
 -- it judges
-good_tied : (o : Option Act) (frame : Frame) (trace : List Event) (c : Brain) (b : Bank) (p : Place) (w m : ℕ) → IsClosing (cap_view trace c b p) w m → TiedAfter trace b p (record {
+pub good_tied : (o : Option Act) (frame : Frame) (trace : List Event) (c : Brain) (b : Bank) (p : Place) (w m : ℕ) → IsClosing (cap_view trace c b p) w m → TiedAfter trace b p (record {
   core = record c { cap_at = cap.Open; control = after_frame c.control frame.value; orders = obeyed_if c.orders o };
   access = NoAccess;
   notes = note.Good (tick_at b.time) frame.value (bit_of frame.telemetry) ∷ command_note b.time o;

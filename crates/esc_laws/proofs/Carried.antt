@@ -31,17 +31,19 @@ use Rattle.esc_laws.specs.Windowed.{WindowRule, Windowed}
 use Rattle.esc_laws.specs.Nested.{NestRule, NestedAfter}
 use Rattle.esc_laws.specs.Tied.{Keeps}
 use Rattle.esc_laws.specs.Legal.{Legal, LegalFront}
-use Rattle.esc_laws.specs.Logged.{first_bank, after_event, Marks, Ties, stall_end, Logged, CoreTurn, turned}
+use Rattle.esc_laws.specs.Logged.{first_bank, stall_end, Logged, CoreTurn, turned}
+use Rattle.esc_laws.specs.World.{world, after_event, enters}
+use Rattle.esc_laws.specs.Rooms.{Ground, Tie}
 use Rattle.esc_laws.proofs.Pushes.{All-later, journal-push, notes-push}
 use Rattle.esc_laws.proofs.Stalls.{past_later, past_more, past_ends, after_grows, uses_before, reached_grows, free_less, none_free}
 use Rattle.esc_laws.proofs.Growth.{sees_before}
 use Rattle.esc_laws.proofs.StepGrowth.{fits_grow}
-use Rattle.esc_laws.proofs.Entries.{enters}
+use Rattle.esc_laws.proofs.Laws.{law}
+use Rattle.esc_laws.proofs.Stages.{later_ground, event_ground, event_tie}
 use Rattle.esc_laws.proofs.OwnTurns.{steady, own_are}
 use Rattle.esc_laws.proofs.Stepping.{sees_due, entry_turn, own_turn, left_is, stepped_by}
-use Rattle.esc_laws.proofs.Lines.{event_ties}
 use Rattle.esc_laws.proofs.Start.{logged_start}
-use Rattle.esc_laws.proofs.Events.{ties_later, keeps_later, marks_later, patient_later, event_time, patient_grows, marks_grow, keeps_grow}
+use Rattle.esc_laws.proofs.Events.{keeps_later, marks_later, patient_later, event_time, patient_grows, marks_grow, keeps_grow}
 
 pub start_logged : (loaded : Loaded) (nest : Nest) (cost : ℕ) → Logged loaded nest cost [] 0 (new_core loaded.settings) first_bank [] []
 start_logged loaded nest cost = logged_start loaded nest cost
@@ -83,8 +85,9 @@ pub time_logged : (loaded : Loaded) (nest : Nest) (cost : ℕ) (trace : List Eve
 time_logged loaded nest cost trace next c b stack log t later le small l = record {
   keeps = keeps_later c b stack t l.keeps;
   sorted = l.sorted;
-  marks = marks_later loaded nest trace c b stack log t later l.marks;
-  ties = ties_later loaded trace c b log t later small l.ties;
+  marks = marks_later loaded nest trace b stack log t later l.marks;
+  ground = later_ground (world loaded nest trace c b log) t later small l.ground;
+  ties = λ k. (law k).later (world loaded nest trace c b log) t later small l.ground l.ties;
   patient = patient_later loaded nest trace c b stack log t later l.patient;
   owes = l.owes;
   reached = l.reached;
@@ -109,12 +112,7 @@ none_open (k ∷ outer) due idle = cc
 -- time makes a kind due by the registers alone
 due_by_regs : (w : Bool) (b : Bank) (u : ℕ) (k : Kind) → due_now w b k ≡ false → (is_due b k ≡ false → is_due (advanced b u) k ≡ false) → due_now w (advanced b u) k ≡ false
 due_by_regs w b u kind.Main e f = e
-due_by_regs w b u kind.Uart e f = f e
-due_by_regs w b u kind.Tick e f = f e
-due_by_regs w b u kind.Cap e f = f e
-due_by_regs w b u kind.Cmp e f = f e
-due_by_regs w b u kind.Pwm e f = f e
-due_by_regs w b u kind.Comm e f = f e
+due_by_regs w b u k e f = f e
 
 stays_shut : (x y : Bool) → x ≡ false → (not x && y) ≡ false → y ≡ false
 stays_shut true y e f = cc
@@ -125,9 +123,9 @@ none_before None b k t u is le from below = is k u from
 none_before (Some d) b k t u is le from below = is.none_before k u from (let m = le d refl in omega arith)
 
 -- while nothing is due nothing is seen due
-none_seen : (loaded : Loaded) (nest : Nest) (trace : List Event) (c : Brain) (b : Bank) (log : List Turned) (due : Option ℕ) (t u : ℕ) (k : Kind) → Keeps c b [] → Marks loaded nest trace c b [] log → Ties loaded trace c b log
+none_seen : (loaded : Loaded) (nest : Nest) (trace : List Event) (c : Brain) (b : Bank) (log : List Turned) (due : Option ℕ) (t u : ℕ) (k : Kind) → Keeps c b [] → Ground (world loaded nest trace c b log) → ((j : Kind) → Tie j (world loaded nest trace c b log))
     → highest (due_now c.orders.save_asked b) ≡ None → IsNextDue b due → ((d : ℕ) → due ≡ Some d → t ≤ d) → b.time ≤ u → u < t → t < 2147483648 → sees trace (journal loaded log) u k ≡ false
-none_seen loaded nest trace c b log due t u k keeps m ties none is le from below small = by_seen (sees trace (journal loaded log) u k) refl
+none_seen loaded nest trace c b log due t u k keeps g ties none is le from below small = by_seen (sees trace (journal loaded log) u k) refl
   where
     shut_now : due_now c.orders.save_asked (advanced b u) k ≡ false
     shut_now = elim (cases_lt b.time u) [
@@ -137,7 +135,7 @@ none_seen loaded nest trace c b log due t u k keeps m ties none is le from below
 
     by_seen : (v : Bool) → sees trace (journal loaded log) u k ≡ v → sees trace (journal loaded log) u k ≡ false
     by_seen true e =
-        let d = sees_due loaded nest trace c (advanced b u) [] log (keeps_later c b [] u keeps) (marks_later loaded nest trace c b [] log u from m) (ties_later loaded trace c b log u from (omega arith) ties) k (rw e refl) in
+        let d = sees_due loaded nest trace c (advanced b u) [] log (keeps_later c b [] u keeps) (later_ground (world loaded nest trace c b log) u from (omega arith) g) (λ j. (law j).later (world loaded nest trace c b log) u from (omega arith) g ties) k (rw e refl) in
         absurd (let z : true ≡ false = sym d ∙ shut_now in cc)
     by_seen false e = e
 
@@ -149,12 +147,12 @@ jump_logged loaded nest cost trace c b stack log due t idle is later small le l 
     let rest = none_open stack (due_now c.orders.save_asked b) idle in
     let open_none : open_in loaded log ≡ [] = sym l.marks.stack_is ∙ rest.0 in
     let keeps : Keeps c b [] = subst (λ (st : List Kind). Keeps c b st) rest.0 l.keeps in
-    let marks : Marks loaded nest trace c b [] log = subst (λ (st : List Kind). Marks loaded nest trace c b st log) rest.0 l.marks in
     record {
       keeps = keeps_later c b stack t l.keeps;
       sorted = l.sorted;
-      marks = marks_later loaded nest trace c b stack log t later l.marks;
-      ties = ties_later loaded trace c b log t later small l.ties;
+      marks = marks_later loaded nest trace b stack log t later l.marks;
+      ground = later_ground (world loaded nest trace c b log) t later small l.ground;
+      ties = λ k. (law k).later (world loaded nest trace c b log) t later small l.ground l.ties;
       patient = patient_later loaded nest trace c b stack log t later l.patient;
       owes = l.owes;
       reached = l.reached;
@@ -165,7 +163,7 @@ jump_logged loaded nest cost trace c b stack log due t idle is later small le l 
         open_step = λ o. absurd (o open_none);
         idle = λ o u from below f k. elim (cases_lt u b.time) [
           | inl early ↦ l.awaits.idle o u from early f k
-          | inr on ↦ none_seen loaded nest trace c b log due t u k keeps marks l.ties rest.1 is le on below small
+          | inr on ↦ none_seen loaded nest trace c b log due t u k keeps l.ground l.ties rest.1 is le on below small
         ];
       };
       time = omega arith;
@@ -207,8 +205,9 @@ module _ (loaded : Loaded) (nest : Nest) (cost : ℕ) (trace : List Event) (e : 
       record {
         keeps = keeps_grow e c b stack l.keeps;
         sorted = l.sorted;
-        marks = marks_grow loaded nest trace e c b stack log at l.marks;
-        ties = event_ties loaded trace e c b log at l.ties;
+        marks = marks_grow loaded nest trace e b stack log at l.marks;
+        ground = event_ground (world loaded nest trace c b log) e at l.ground;
+        ties = λ k. event_tie k (world loaded nest trace c b log) e at l.ground l.ties;
         patient = patient_grows loaded nest trace e c b stack log at before l.patient;
         owes = l.owes;
         reached = λ k o. reached_grows cost trace e log (steps_since k log) (entered_at k log) (l.reached k o) (l.reached_by k o (tick_of e) before);
@@ -233,7 +232,7 @@ legal_logged loaded nest cost trace next c b stack log until le below range l = 
   in_range = range;
   in_time = l.marks.in_time;
   windowed = l.marks.windowed;
-  controlled = in_order (journal loaded log) l.marks.control.controlled;
+  controlled = in_order (journal loaded log) l.ground.control.controlled;
   nested = l.marks.nested;
   log = log;
   steps_are = refl;
@@ -273,7 +272,7 @@ front_logged loaded nest cost trace next c b stack log broken front left_out spl
       in_range = range;
       in_time = each_front IsLater [] (journal loaded log ++ front) left_out (subst (λ (ns : List Note). Journal ns) whole l.marks.in_time);
       windowed = each_front (WindowRule loaded trace) [] (journal loaded log ++ front) left_out (subst (λ (ns : List Note). Windowed loaded trace ns) whole l.marks.windowed);
-      controlled = each_front (λ before n. FitsControl (reverse before) n) [] (journal loaded log ++ front) left_out (subst (λ (ns : List Note). Controlled ns) whole (in_order (journal loaded (log ++ broken ∷ [])) l.marks.control.controlled));
+      controlled = each_front (λ before n. FitsControl (reverse before) n) [] (journal loaded log ++ front) left_out (subst (λ (ns : List Note). Controlled ns) whole (in_order (journal loaded (log ++ broken ∷ [])) l.ground.control.controlled));
       nested = each_front (NestRule nest) (opening loaded) (notes_in log ++ front) left_out (subst (λ (ns : List Note). NestedAfter nest (opening loaded) ns) tail l.marks.nested);
       fits = l.fits;
       below = below;

@@ -27,7 +27,6 @@ use Rattle.esc_core.specs.declared.state.MainAt.{MainAt}
 use Rattle.esc_core.specs.declared.state.MainAt.TheVariants as main
 use Rattle.esc_core.specs.Cap.{edge_of, tick_at}
 use Rattle.esc_core.specs.Firmware.{cap_left, tick_left, main_left}
-use Rattle.esc_laws.specs.Tied.{IsBuilt}
 
 -- ---- an access leaves the gates and the time
 
@@ -60,15 +59,6 @@ plain_notes b b' k did s =
     ap (λ (g : List Note). (g ++ notes_of did) ++ leave_note b' k did) none
 
 -- ---- which kinds are due
-
-pub due_built : (w : Bool) (b : Bank) (k : Kind) → due_now w b k ≡ true → IsBuilt k
-due_built w b kind.Tick d = tt
-due_built w b kind.Cap d = tt
-due_built w b kind.Main d = tt
-due_built w b kind.Uart d = cc
-due_built w b kind.Cmp d = cc
-due_built w b kind.Pwm d = cc
-due_built w b kind.Comm d = cc
 
 pub tick_due : (w : Bool) (b : Bank) → b.number_read < b.time / 2400 → due_now w b kind.Tick ≡ true
 tick_due w b l = not_from_false (b.time / 2400 == b.number_read) (ne_eqb (b.time / 2400) b.number_read (λ e. omega arith))

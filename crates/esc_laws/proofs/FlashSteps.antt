@@ -13,6 +13,7 @@ use Rattle.timer_regs.specs.Bank.{Bank}
 use Rattle.interrupt_machine.specs.declared.nest.Nest.{Nest}
 use Rattle.interrupt_machine.specs.declared.firmware.Did.{Did}
 use Rattle.interrupt_machine.specs.Turn.{own_notes}
+use Rattle.interrupt_machine.proofs.OpenKinds.{closed_above}
 use Rattle.interrupt_machine.proofs.Waiting.{self_open}
 use Rattle.esc_core.specs.declared.state.MainAt.{MainAt}
 use Rattle.esc_core.specs.declared.state.MainAt.TheVariants as main
@@ -24,13 +25,16 @@ use Rattle.esc_core.specs.Stepped.{IsStepped}
 use Rattle.esc_core.specs.Firmware.{core_step, core_saves, kind_step, kind_saves, counted_down}
 use Rattle.esc_core.proofs.Bounds.{core_step-goes, core_saves-goes}
 use Rattle.esc_laws.specs.Saves.{FlashFits, settings_at}
-use Rattle.esc_laws.specs.Place.{place}
-use Rattle.esc_laws.specs.Steps.{Turned, journal}
-use Rattle.esc_laws.specs.Tied.{MainTied, IsBuilt}
+use Rattle.esc_laws.specs.Steps.{Turned, journal, notes_in}
+use Rattle.esc_laws.specs.Tied.{MainTied}
+use Rattle.esc_laws.specs.World.{placed, step_notes}
 use Rattle.esc_laws.specs.Logged.{Logged, CoreTurn}
 use Rattle.esc_laws.proofs.Notes.{all_front}
-use Rattle.esc_laws.proofs.Saves.{is_save, fits_pushes, fits_saved, fits_spoilt}
-use Rattle.esc_laws.proofs.OwnTurns.{IsOwn, steady, own_are, step_notes, step_own}
+use Rattle.esc_laws.specs.Saves.{is_save}
+use Rattle.esc_laws.proofs.Saves.{fits_pushes, fits_saved, fits_spoilt}
+use Rattle.esc_laws.proofs.Stages.{IsOwn, step_made}
+use Rattle.esc_laws.proofs.Turns.{stood}
+use Rattle.esc_laws.proofs.OwnTurns.{steady, own_are}
 use Rattle.esc_laws.proofs.Stepping.{stepped_by}
 
 -- A step either leaves the flash, and has no P; or its one note is a P, and the flash is as that P says.
@@ -45,9 +49,8 @@ no_save : (v : Bool) (k : Kind) → (v ≡ true → k ≡ kind.Main) → k ≢ k
 no_save true k f ne = absurd (ne (f refl))
 no_save false k f ne = refl
 
-plain_kind : (k : Kind) → IsBuilt k → k ≢ kind.Main → (saved : Bool) (c : Brain) (b : Bank) → All (λ n. is_save n ≡ false) (step_notes b.time k (kind_step k saved c b))
-plain_kind k t ne saved c b =
-    All-weaker (IsOwn k b.time) (λ n. is_save n ≡ false) (λ n p. no_save (is_save n) k p.2 ne) (step_notes b.time k (kind_step k saved c b)) (step_own k t saved c b)
+plain_kind : (k : Kind) (t : ℕ) (notes : List Note) → k ≢ kind.Main → All (IsOwn k t) notes → All (λ n. is_save n ≡ false) notes
+plain_kind k t notes ne own = All-weaker (IsOwn k t) (λ n. is_save n ≡ false) (λ n p. no_save (is_save n) k p.2 ne) notes own
 
 -- ---- MAIN
 
@@ -68,7 +71,7 @@ work_flash false saved loaded first flash flash' c b before e up is whole whole'
 back_flash : (loaded : Loaded) (first flash flash' : Told) (t : ℕ) (before : List Note) → flash' ≡ flash → Flashes loaded first flash flash' t before (note.Leave (tick_at t) 0 ∷ [])
 back_flash loaded first flash flash' t before same = inl (All-cons (λ n. is_save n ≡ false) (note.Leave (tick_at t) 0) [] refl (All-nil (λ n. is_save n ≡ false)), same)
 
-main_flash : (at : MainAt) (saved : Bool) (loaded : Loaded) (first flash flash' : Told) (c : Brain) (b : Bank) (before : List Note) → MainTied at c.orders.save_asked (place before).saves → c.orders.settings ≡ settings_at loaded.settings (reverse before)
+main_flash : (at : MainAt) (saved : Bool) (loaded : Loaded) (first flash flash' : Told) (c : Brain) (b : Bank) (before : List Note) → MainTied at c.orders.save_asked (placed (reverse before)).saves → c.orders.settings ≡ settings_at loaded.settings (reverse before)
     → IsWhole flash.bytes → IsWhole flash'.bytes → FlashDid (main_saves at c.orders) saved flash flash'
     → Flashes loaded first flash flash' b.time before (step_notes b.time kind.Main (main_step saved at c b))
 main_flash main.Shut saved loaded first flash flash' c b before m is whole whole' did = back_flash loaded first flash flash' b.time before did
@@ -77,16 +80,11 @@ main_flash main.Back saved loaded first flash flash' c b before m is whole whole
 
 -- ---- any step
 
-kind_flash : (k : Kind) → IsBuilt k → (saved : Bool) (loaded : Loaded) (first flash flash' : Told) (c : Brain) (b : Bank) (before : List Note) → MainTied c.main_at c.orders.save_asked (place before).saves → c.orders.settings ≡ settings_at loaded.settings (reverse before)
-    → IsWhole flash.bytes → IsWhole flash'.bytes → FlashDid (kind_saves k c) saved flash flash'
+kind_flash : (k : Kind) (saved : Bool) (loaded : Loaded) (first flash flash' : Told) (c : Brain) (b : Bank) (before : List Note) → MainTied c.main_at c.orders.save_asked (placed (reverse before)).saves → c.orders.settings ≡ settings_at loaded.settings (reverse before)
+    → All (IsOwn k b.time) (step_notes b.time k (kind_step k saved (counted_down c b) b)) → IsWhole flash.bytes → IsWhole flash'.bytes → FlashDid (kind_saves k c) saved flash flash'
     → Flashes loaded first flash flash' b.time before (step_notes b.time k (kind_step k saved (counted_down c b) b))
-kind_flash kind.Main t saved loaded first flash flash' c b before m is whole whole' did = main_flash c.main_at saved loaded first flash flash' (counted_down c b) b before m is whole whole' did
-kind_flash kind.Tick t saved loaded first flash flash' c b before m is whole whole' did = inl (plain_kind kind.Tick t (λ e. cc) saved (counted_down c b) b, did)
-kind_flash kind.Cap t saved loaded first flash flash' c b before m is whole whole' did = inl (plain_kind kind.Cap t (λ e. cc) saved (counted_down c b) b, did)
-kind_flash kind.Uart t saved loaded first flash flash' c b before m is whole whole' did = absurd t
-kind_flash kind.Cmp t saved loaded first flash flash' c b before m is whole whole' did = absurd t
-kind_flash kind.Pwm t saved loaded first flash flash' c b before m is whole whole' did = absurd t
-kind_flash kind.Comm t saved loaded first flash flash' c b before m is whole whole' did = absurd t
+kind_flash kind.Main saved loaded first flash flash' c b before m is own whole whole' did = main_flash c.main_at saved loaded first flash flash' (counted_down c b) b before m is whole whole' did
+kind_flash k saved loaded first flash flash' c b before m is own whole whole' did = inl (plain_kind k b.time (step_notes b.time k (kind_step k saved (counted_down c b) b)) (λ e. cc) own, did)
 
 flashes : (loaded : Loaded) (nest : Nest) (cost : ℕ) (trace : List Event) (c c' : Brain) (b b' : Bank) (first flash flash' : Told) (stack stack' : List Kind) (log : List Turned) (notes : List Note)
     → Logged loaded nest cost trace b.time c b stack log → IsWhole flash.bytes → IsWhole flash'.bytes → CoreTurn nest c stack b flash notes c' stack' b' flash'
@@ -104,7 +102,8 @@ flashes loaded nest cost trace c c' b b' first flash flash' stack stack' log not
         let i : IsStepped b (stepped_by k made.saved c b) did c' b' = rw (core_step-goes k made.saved c b goes) at made.stepped in
         let did' : FlashDid (kind_saves k c) made.saved flash flash' = rw (core_saves-goes k c b goes) at made.flash_is in
         rw (are ∙ own_are k b b' (stepped_by k made.saved c b) did c' i)
-        (kind_flash k (l'.keeps.built k (self_open k outer)) made.saved loaded first flash flash' c b (journal loaded log) l.ties.main l.ties.orders.settings_are whole whole' did')
+        (kind_flash k made.saved loaded first flash flash' c b (journal loaded log) (l.ties kind.Main) l.ground.orders.settings_are
+        (step_made k made.saved loaded nest trace c b (notes_in log) outer (stood loaded nest cost trace b.time c b (k ∷ outer) log l') (λ j above. l'.keeps.shut j (closed_above (k ∷ outer) j l'.sorted above)) (l'.keeps.live k (self_open k outer))).1 whole whole' did')
 
 -- ---- what is left of the flash
 

@@ -1,6 +1,6 @@
 -- Later events change nothing of what the notes and the steps before them said.
-use Rattle.std.proofs.Common.{◌≡◌, ◌≤◌, ◌<◌, ◌+◌, ℕ, Bool, true, false, not, ◌&&◌, ◌==◌, nat_le, nat_lt, if◌then◌else◌, List, [], ◌∷◌, ◌++◌, length, Some, None, refl, sym, ◌∙◌, ap, arith, All, ◌-◌, ◌/◌, max, reverse, length-append, true≢false}
-use Rattle.std.proofs.lemmas.Bool.{not-true, and_parts, false_from_ne_true, le-leb, leb-true, lt-ltb, ltb-true}
+use Rattle.std.proofs.Common.{◌≡◌, ◌≤◌, ◌<◌, ◌+◌, ℕ, Bool, true, false, not, ◌&&◌, ◌==◌, nat_le, nat_lt, if◌then◌else◌, List, [], ◌∷◌, ◌++◌, length, Some, None, refl, sym, ◌∙◌, ap, arith, All, ◌-◌, length-append, true≢false}
+use Rattle.std.proofs.lemmas.Bool.{not-true, and_parts, false_from_ne_true}
 use Rattle.std.proofs.lemmas.List.Elements.{All-head, All-tail}
 use Rattle.std.proofs.lemmas.List.{get_or_push}
 use Rattle.std.proofs.lemmas.Bool.Decides.{nat_tests}
@@ -21,7 +21,6 @@ use Rattle.edge_capture.proofs.Stable.{burst-push, closed_later}
 use Rattle.edge_capture.proofs.Grows.{burst_grows}
 use Rattle.settings_block.specs.declared.stored.Loaded.{Loaded}
 use Rattle.timer_regs.specs.Effects.{mode_of, is_reached}
-use Rattle.arming.specs.ControlAt.{number_at}
 use Rattle.esc_laws.specs.Place.{Signal, Silent, Listens, Judged, Rests, place}
 use Rattle.esc_laws.specs.Windowed.{Answers, AnswersAt, WindowRule, Windowed}
 use Rattle.esc_laws.specs.Seen.{calls_cap, sees}
@@ -137,51 +136,7 @@ cap_before trace e (Listens w m) t lt =
 cap_before trace e (Judged f opens) t lt = refl
 cap_before trace e (Rests f r) t lt = refl
 
-cap_still : (trace : List Event) (e : Event) (s : Signal) (t : ℕ) → t ≤ tick_of e → calls_cap trace s t ≡ true → calls_cap (trace ++ e ∷ []) s t ≡ true
-cap_still trace e Silent t le c = c
-cap_still trace e (Listens w m) t le c =
-    reached_closed (mode_of m) (burst (line (trace ++ e ∷ [])).edges w (mode_of m)) t
-    ∙ closed_still trace e w t (mode_of m) le (sym (reached_closed (mode_of m) (burst (line trace).edges w (mode_of m)) t) ∙ c)
-cap_still trace e (Judged f opens) t le c = c
-cap_still trace e (Rests f r) t le c = c
-
 -- a later event changes nothing of what was seen due before it
 pub sees_before : (trace : List Event) (e : Event) (notes : List Note) (t : ℕ) (k : Kind) → t < tick_of e → sees (trace ++ e ∷ []) notes t k ≡ sees trace notes t k
 sees_before trace e notes t kind.Cap lt = cap_before trace e (place notes).signal t lt
-sees_before trace e notes t kind.Tick lt = refl
-sees_before trace e notes t kind.Main lt = refl
-sees_before trace e notes t kind.Uart lt = refl
-sees_before trace e notes t kind.Cmp lt = refl
-sees_before trace e notes t kind.Pwm lt = refl
-sees_before trace e notes t kind.Comm lt = refl
-
--- and ends nothing at its own tick
-pub sees_still : (trace : List Event) (e : Event) (notes : List Note) (t : ℕ) (k : Kind) → t ≤ tick_of e → sees trace notes t k ≡ true → sees (trace ++ e ∷ []) notes t k ≡ true
-sees_still trace e notes t kind.Cap le s = cap_still trace e (place notes).signal t le s
-sees_still trace e notes t kind.Tick le s = s
-sees_still trace e notes t kind.Main le s = s
-sees_still trace e notes t kind.Uart le s = s
-sees_still trace e notes t kind.Cmp le s = s
-sees_still trace e notes t kind.Pwm le s = s
-sees_still trace e notes t kind.Comm le s = s
-
--- as time goes on, what was seen due stays so
-cap_later : (trace : List Event) (s : Signal) (t u : ℕ) → t ≤ u → calls_cap trace s t ≡ true → calls_cap trace s u ≡ true
-cap_later trace Silent t u le c = c
-cap_later trace (Listens w m) t u le c =
-    let heard : List Edge = burst (line trace).edges w (mode_of m) in
-    reached_closed (mode_of m) heard u ∙ closed_later (mode_of m) heard t u le (sym (reached_closed (mode_of m) heard t) ∙ c)
-cap_later trace (Judged f opens) t u le c = c
-cap_later trace (Rests f r) t u le c = le-leb (max (f + 1200) r) u (let l = leb-true (max (f + 1200) r) t c in omega arith)
-
-number_later : (n t u : ℕ) → t ≤ u → nat_lt n (t / 2400) ≡ true → nat_lt n (u / 2400) ≡ true
-number_later n t u le e = lt-ltb n (u / 2400) (let l = ltb-true n (t / 2400) e in omega arith)
-
-pub sees_later : (trace : List Event) (notes : List Note) (t u : ℕ) (k : Kind) → t ≤ u → sees trace notes t k ≡ true → sees trace notes u k ≡ true
-sees_later trace notes t u kind.Cap le s = cap_later trace (place notes).signal t u le s
-sees_later trace notes t u kind.Tick le s = number_later (number_at (reverse notes)) t u le s
-sees_later trace notes t u kind.Main le s = s
-sees_later trace notes t u kind.Uart le s = s
-sees_later trace notes t u kind.Cmp le s = s
-sees_later trace notes t u kind.Pwm le s = s
-sees_later trace notes t u kind.Comm le s = s
+sees_before trace e notes t k lt = refl

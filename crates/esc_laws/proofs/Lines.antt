@@ -1,5 +1,5 @@
 -- What the ties become as the trace grows by an event.
-use Rattle.std.proofs.Common.{◌≡◌, ◌≤◌, ◌<◌, ◌+◌, ◌-◌, ℕ, Bool, true, false, not, ◌&&◌, ◌==◌, nat_le, if◌then◌else◌, List, [], ◌∷◌, ◌++◌, length, refl, sym, ◌∙◌, ap, subst, arith, lit≤, All, inl, inr, length-append, true≢false}
+use Rattle.std.proofs.Common.{◌≡◌, ◌≤◌, ◌<◌, ◌+◌, ◌-◌, ℕ, Bool, true, false, not, ◌&&◌, ◌==◌, nat_le, if◌then◌else◌, List, [], ◌∷◌, ◌++◌, length, refl, sym, ◌∙◌, ap, arith, lit≤, All, inl, inr, length-append, true≢false}
 use Rattle.std.proofs.lemmas.Bool.{and_parts, and_right, cases_lt}
 use Rattle.std.proofs.lemmas.Bool.Decides.{nat_tests}
 use Rattle.std.proofs.lemmas.List.{get_or_push, get_or_append_left}
@@ -9,29 +9,26 @@ use Rattle.esc_base.specs.declared.signal.Mode.{Mode}
 use Rattle.esc_base.specs.declared.signal.Mode.TheVariants as mode
 use Rattle.esc_base.specs.declared.event.Event.{Event}
 use Rattle.esc_base.specs.declared.event.Event.TheVariants as event
-use Rattle.esc_base.specs.Trace.{Line, line, differ, tick_of}
+use Rattle.esc_base.specs.Trace.{line, differ, tick_of}
 use Rattle.esc_base.proofs.TraceLaws.{line-push}
 use Rattle.edge_capture.specs.Edges.{blank, edge_at, last_at, IsInOrder}
 use Rattle.edge_capture.specs.Modes.{most}
 use Rattle.edge_capture.specs.Burst.{burst, hear, hears, is_closed}
 use Rattle.edge_capture.specs.Window.{Window, after_edge, window_closed, window_hears}
 use Rattle.edge_capture.proofs.Stable.{burst-push, deaf}
-use Rattle.settings_block.specs.declared.stored.Loaded.{Loaded}
 use Rattle.timer_regs.specs.Bank.{Bank}
-use Rattle.timer_regs.specs.Effects.{after_line, mode_of}
+use Rattle.timer_regs.specs.Effects.{mode_of}
 use Rattle.esc_core.specs.Brain.{Brain}
 use Rattle.esc_core.specs.Cap.{tick_at}
-use Rattle.esc_laws.specs.Place.{Place, place}
-use Rattle.esc_laws.specs.Steps.{Turned, journal}
+use Rattle.esc_laws.specs.Place.{Place}
 use Rattle.esc_laws.specs.Tied.{CapView, cap_view, Hears, WindowSound}
-use Rattle.esc_laws.specs.Logged.{Ties, after_event}
 use Rattle.esc_laws.proofs.CapTies.{closing_closed}
-use Rattle.esc_laws.proofs.Dues.{Follows, signal_follows}
+use Rattle.esc_laws.proofs.Dues.{Follows}
 use Rattle.esc_laws.proofs.Growth.{close_grows, heard_open}
 
 -- ---- an event that isn't of the line
 
-plain_follows : (trace : List Event) (e : Event) (c : Brain) (b : Bank) (p : Place) → line (trace ++ e ∷ []) ≡ line trace → b.time ≤ tick_of e → Follows (cap_view trace c b p) (cap_view (trace ++ e ∷ []) c b p)
+pub plain_follows : (trace : List Event) (e : Event) (c : Brain) (b : Bank) (p : Place) → line (trace ++ e ∷ []) ≡ line trace → b.time ≤ tick_of e → Follows (cap_view trace c b p) (cap_view (trace ++ e ∷ []) c b p)
 plain_follows trace e c b p same le = record {
   later = omega arith;
   taken = refl;
@@ -47,25 +44,10 @@ plain_follows trace e c b p same le = record {
   closes = λ w m at h l. close_grows trace e w at (mode_of m) h (omega arith);
 }
 
-plain_ties : (loaded : Loaded) (trace : List Event) (e : Event) (c : Brain) (b : Bank) (log : List Turned) → line (trace ++ e ∷ []) ≡ line trace → b.time ≤ tick_of e → Ties loaded trace c b log → Ties loaded (trace ++ e ∷ []) c b log
-plain_ties loaded trace e c b log same le t = record {
-  signal = signal_follows (place (journal loaded log)).signal c.cap_at (cap_view trace c b (place (journal loaded log))) (cap_view (trace ++ e ∷ []) c b (place (journal loaded log)))
-      (plain_follows trace e c b (place (journal loaded log)) same le) t.signal;
-  window = t.window;
-  tick = t.tick;
-  main = t.main;
-  orders = t.orders;
-  number = t.number;
-  read = t.read;
-  level = rw same t.level;
-  edges = rw same t.edges;
-  small = t.small;
-}
-
 -- ---- an edge
 
 -- the edge that stands at now
-abbrev edge_now : Bank → Bool → Edge
+abbrev pub edge_now : Bank → Bool → Edge
 edge_now b level = record { t = tick_at b.time; level = level }
 
 same_level : (a level : Bool) → differ a level ≡ false → a ≡ level
@@ -101,10 +83,10 @@ edge_hears v w m x h =
 closed_deaf : (w : Window) (x : Edge) → window_closed w x.t.0 ≡ true → window_hears w x ≡ false
 closed_deaf w x c = and_right w.armed (hears w.mode w.opened w.edges x) (deaf w.mode w.opened w.edges x (and_parts w.armed (is_closed w.mode w.edges x.t.0) c).1)
 
-abbrev edge_bank : Bank → Bool → Bank
+abbrev pub edge_bank : Bank → Bool → Bank
 edge_bank b level = record b { level = level; window = after_edge b.window (edge_now b level) }
 
-edge_follows : (trace : List Event) (c : Brain) (b : Bank) (p : Place) (level : Bool) → (line (trace ++ event.Edge (tick_at b.time) level ∷ [])).edges ≡ (line trace).edges ++ edge_now b level ∷ []
+pub edge_follows : (trace : List Event) (c : Brain) (b : Bank) (p : Place) (level : Bool) → (line (trace ++ event.Edge (tick_at b.time) level ∷ [])).edges ≡ (line trace).edges ++ edge_now b level ∷ []
     → Follows (cap_view trace c b p) (cap_view (trace ++ event.Edge (tick_at b.time) level ∷ []) c (edge_bank b level) p)
 edge_follows trace c b p level more =
     let same = edge_same (window_hears b.window (edge_now b level)) b.window (edge_now b level) in
@@ -167,7 +149,7 @@ in_order_push edges x o past i j le l = elim (cases_lt j (length edges)) [
   | inr last ↦ rw (get_or_push edges x blank j (let len = length-append edges (x ∷ []) in omega arith)) (All-push (λ e. e.t.0 ≤ x.t.0) edges x past (omega arith) i blank (omega arith))
 ]
 
-edge_sound : (w : Window) (x : Edge) → WindowSound w x.t.0 → WindowSound (after_edge w x) x.t.0
+pub edge_sound : (w : Window) (x : Edge) → WindowSound w x.t.0 → WindowSound (after_edge w x) x.t.0
 edge_sound w x s = by_test (window_hears w x) refl
   where
     by_test : (v : Bool) → window_hears w x ≡ v → WindowSound (if v then record w { edges = w.edges ++ x ∷ [] } else w) x.t.0
@@ -178,40 +160,13 @@ edge_sound w x s = by_test (window_hears w x) refl
     }
     by_test false e = s
 
--- ---- the ties after an edge
+-- ---- the line after an edge
 
-edge_ties : (loaded : Loaded) (v : Bool) (trace : List Event) (c : Brain) (b : Bank) (log : List Turned) (level : Bool) → differ b.level level ≡ v → Ties loaded trace c b log
-    → Ties loaded (trace ++ event.Edge (tick_at b.time) level ∷ []) c (if v then edge_bank b level else b) log
-edge_ties loaded true trace c b log level d t =
-    let x : Edge = edge_now b level in
-    let e : Event = event.Edge (tick_at b.time) level in
-    let d' : differ (line trace).level level ≡ true = subst (λ (l : Bool). differ l level ≡ true) t.level d in
-    let new : line (trace ++ e ∷ []) ≡ record { level = level; edges = (line trace).edges ++ x ∷ [] } = line-push trace e ∙ rw d' refl in
-    record {
-      signal = signal_follows (place (journal loaded log)).signal c.cap_at (cap_view trace c b (place (journal loaded log))) (cap_view (trace ++ e ∷ []) c (edge_bank b level) (place (journal loaded log)))
-          (edge_follows trace c b (place (journal loaded log)) level (ap (λ (l : Line). l.edges) new)) t.signal;
-      window = edge_sound b.window x t.window;
-      tick = t.tick;
-      main = t.main;
-      orders = t.orders;
-      number = t.number;
-      read = t.read;
-      level = ap (λ (l : Line). l.level) (sym new);
-      edges = rw new (All-push (λ y. y.t.0 ≤ b.time) (line trace).edges x t.edges (omega arith));
-      small = t.small;
-    }
-edge_ties loaded false trace c b log level d t =
-    let e : Event = event.Edge (tick_at b.time) level in
-    let d' : differ (line trace).level level ≡ false = subst (λ (l : Bool). differ l level ≡ false) t.level d in
-    let new : line (trace ++ e ∷ []) ≡ record { level = level; edges = (line trace).edges } = line-push trace e ∙ rw d' refl in
-    let same : line (trace ++ e ∷ []) ≡ line trace = new ∙ ap (λ (l : Bool). record { level = l; edges = (line trace).edges }) (sym (same_level (line trace).level level d')) in
-    plain_ties loaded trace e c b log same (omega arith) t
+pub line_changes : (trace : List Event) (b : Bank) (level : Bool) → differ (line trace).level level ≡ true
+    → line (trace ++ event.Edge (tick_at b.time) level ∷ []) ≡ record { level = level; edges = (line trace).edges ++ edge_now b level ∷ [] }
+line_changes trace b level d = line-push trace (event.Edge (tick_at b.time) level) ∙ rw d refl
 
--- ---- the ties after any event
-
-pub event_ties : (loaded : Loaded) (trace : List Event) (e : Event) (c : Brain) (b : Bank) (log : List Turned) → tick_of e ≡ b.time → Ties loaded trace c b log → Ties loaded (trace ++ e ∷ []) c (after_event b e) log
-event_ties loaded trace (event.Edge at level) c b log is t =
-    subst (λ (n : ℕ). Ties loaded (trace ++ event.Edge (tick_at n) level ∷ []) c (after_line b level) log) (sym is) (edge_ties loaded (differ b.level level) trace c b log level refl t)
-event_ties loaded trace (event.Comp at level) c b log is t = plain_ties loaded trace (event.Comp at level) c b log (line-push trace (event.Comp at level)) (omega arith) t
-event_ties loaded trace (event.Serial at byte) c b log is t = plain_ties loaded trace (event.Serial at byte) c b log (line-push trace (event.Serial at byte)) (omega arith) t
-event_ties loaded trace (event.Stall at n) c b log is t = plain_ties loaded trace (event.Stall at n) c b log (line-push trace (event.Stall at n)) (omega arith) t
+pub line_same : (trace : List Event) (b : Bank) (level : Bool) → differ (line trace).level level ≡ false → line (trace ++ event.Edge (tick_at b.time) level ∷ []) ≡ line trace
+line_same trace b level d =
+    let new : line (trace ++ event.Edge (tick_at b.time) level ∷ []) ≡ record { level = level; edges = (line trace).edges } = line-push trace (event.Edge (tick_at b.time) level) ∙ rw d refl in
+    new ∙ ap (λ (l : Bool). record { level = l; edges = (line trace).edges }) (sym (same_level (line trace).level level d))

@@ -24,7 +24,7 @@ use Rattle.esc_core.specs.Cap.{tick_at}
 use Rattle.esc_core.specs.Orders.{obeyed}
 use Rattle.esc_core.specs.Judge.{inputs_of}
 use Rattle.esc_core.specs.Saving.{IsSaved, IsSpoilt}
-use Rattle.esc_laws.specs.Saves.{after_save, and_places, any_places, changed_by, erased_places, flash_at, refused_at, settings_at, FlashFits, Holds, HoldsSaves}
+use Rattle.esc_laws.specs.Saves.{is_save, after_save, and_places, any_places, changed_by, erased_places, flash_at, refused_at, settings_at, FlashFits, Holds, HoldsSaves}
 use Rattle.esc_laws.specs.Steps.{first_notes, load_number}
 use Rattle.esc_laws.specs.Tied.{OrdersTied}
 
@@ -33,11 +33,6 @@ abbrev pub changes_orders : Note → Bool
 changes_orders (note.Command t c) = true
 changes_orders (note.Saved t r) = true
 changes_orders n = false
-
--- a note of a save
-abbrev pub is_save : Note → Bool
-is_save (note.Saved t r) = true
-is_save n = false
 
 -- ---- commands leave what the settings say of the input
 

@@ -19,13 +19,15 @@ use Rattle.arming.specs.Kept.{start}
 use Rattle.arming.specs.Stands.{Stands}
 use Rattle.arming.proofs.FrameTies.{start_stands, other_stands}
 use Rattle.esc_core.specs.Cap.{tick_at}
-use Rattle.esc_core.specs.Firmware.{left_of, new_core}
+use Rattle.esc_core.specs.Firmware.{left_of, need_of, new_core}
 use Rattle.esc_laws.specs.Place.{Listens, Place, place, nowhere}
 use Rattle.esc_laws.specs.Seen.{sees}
 use Rattle.esc_laws.specs.Steps.{first_notes, load_number, opening, journal, after, called}
 use Rattle.esc_laws.specs.Windowed.{Windowed}
 use Rattle.esc_laws.specs.Tied.{Keeps}
-use Rattle.esc_laws.specs.Logged.{Marks, Ties, Logged, stall_end, first_bank}
+use Rattle.esc_laws.specs.World.{world}
+use Rattle.esc_laws.specs.Rooms.{Ground, Tie}
+use Rattle.esc_laws.specs.Logged.{Marks, Logged, stall_end, first_bank}
 use Rattle.esc_laws.proofs.Pushes.{after-none, free-none, called-none}
 
 place-opening : (loaded : Loaded) → place (opening loaded) ≡ record nowhere { signal = Listens 0 0; windows = 1; last = 0 }
@@ -66,27 +68,24 @@ start_keeps : (loaded : Loaded) → Keeps (new_core loaded.settings) first_bank 
 start_keeps loaded = record {
   hold = omega arith;
   enough = λ m. cc;
-  tick_masked = λ n. absurd (omega arith);
+  masked = λ k n. absurd (none_masked k n);
   live = λ k o. cc;
   shut = λ k o. shut_at k;
-  built = λ k o. cc;
 }
   where
     shut_at : (k : Kind) → left_of (new_core loaded.settings) k ≡ 0
     shut_at kind.Main = refl
-    shut_at kind.Uart = refl
-    shut_at kind.Tick = refl
-    shut_at kind.Cap = refl
-    shut_at kind.Cmp = refl
-    shut_at kind.Pwm = refl
-    shut_at kind.Comm = refl
+    shut_at k = refl
 
-start_marks : (loaded : Loaded) (nest : Nest) → Marks loaded nest [] (new_core loaded.settings) first_bank [] []
+    none_masked : (k : Kind) → need_of (new_core loaded.settings) k ≤ 8 → ⊥
+    none_masked kind.Main n = omega arith
+    none_masked k n = omega arith
+
+start_marks : (loaded : Loaded) (nest : Nest) → Marks loaded nest [] first_bank [] []
 start_marks loaded nest = record {
   in_time = opening_in_time loaded;
   windowed = opening_windowed loaded;
   nested = tt;
-  control = opening_stands loaded;
   stack_is = ap (λ (p : Place). p.stack) (sym (place-opening loaded));
   past = All-cons (λ n. time_of n ≤ 0) (note.Up (tick_at 0) (load_number loaded.fault)) (note.Window (tick_at 0) 0 ∷ []) (omega arith)
       (All-cons (λ n. time_of n ≤ 0) (note.Window (tick_at 0) 0) [] (omega arith) (All-nil (λ n. time_of n ≤ 0)));
@@ -95,27 +94,27 @@ start_marks loaded nest = record {
 no_burst : [] ≡ burst (line []).edges 0 (mode_of 0)
 no_burst = sym (ap (λ (l : Line). burst l.edges 0 (mode_of 0)) line-none ∙ burst-nil 0 (mode_of 0))
 
-start_ties : (loaded : Loaded) → Ties loaded [] (new_core loaded.settings) first_bank []
-start_ties loaded = record {
-  signal = rw (place-opening loaded) (record {
-    hears = record { armed = refl; mode = refl; opened = refl; edges = no_burst; core_mode = refl; running = refl; no_timer = refl };
-    untaken = refl;
-  });
-  window = record { past = λ k d l. absurd (omega arith); order = λ x y le l. absurd (omega arith); few = omega arith };
-  tick = tt;
-  main = tt;
+start_ground : (loaded : Loaded) (nest : Nest) → Ground (world loaded nest [] (new_core loaded.settings) first_bank [])
+start_ground loaded nest = record {
+  control = opening_stands loaded;
   orders = record { settings_are = refl; save_is = refl };
-  number = refl;
-  read = omega arith;
   level = ap (λ (l : Line). l.level) (sym line-none);
   edges = rw line-none (All-nil (λ e. e.t.0 ≤ 0));
   small = lit< tt;
 }
 
+-- the first window listens, and the other handlers are shut
+start_ties : (loaded : Loaded) (nest : Nest) (k : Kind) → Tie k (world loaded nest [] (new_core loaded.settings) first_bank [])
+start_ties loaded nest kind.Cap = (
+  record { hears = record { armed = refl; mode = refl; opened = refl; edges = no_burst; core_mode = refl; running = refl; no_timer = refl }; untaken = refl },
+  record { past = λ k d l. absurd (omega arith); order = λ x y le l. absurd (omega arith); few = omega arith },
+)
+start_ties loaded nest kind.Tick = (tt, refl, omega arith)
+start_ties loaded nest k = tt
+
 start_patient : (loaded : Loaded) (nest : Nest) → Patient nest 0 false [] (sees [] (journal loaded []) 0) (called loaded nest [] [])
 start_patient loaded nest = record {
-  bound = λ k w. rw (called-none loaded nest [] k) (omega arith);
-  calm = λ k w. called-none loaded nest [] k;
+  bound = λ k. rw (called-none loaded nest [] k) (omega arith);
   held = λ m. cc;
 }
 
@@ -129,7 +128,8 @@ logged_start loaded nest cost =
       keeps = start_keeps loaded;
       sorted = tt;
       marks = start_marks loaded nest;
-      ties = start_ties loaded;
+      ground = start_ground loaded nest;
+      ties = start_ties loaded nest;
       patient = start_patient loaded nest;
       owes = λ k o. cc;
       reached = λ k o. cc;

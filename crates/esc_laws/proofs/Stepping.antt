@@ -1,9 +1,8 @@
 -- An entry and an own step carry the log on.
-use Rattle.std.proofs.Common.{◌≡◌, ◌≢◌, ◌≤◌, ◌<◌, ◌+◌, ◌/◌, ℕ, Bool, true, false, not, if◌then◌else◌, List, [], ◌∷◌, ◌++◌, reverse, Some, None, refl, sym, ◌∙◌, subst, arith, All, ◌⊎◌, inl, inr}
-use Rattle.std.proofs.lemmas.Bool.{not-true, ltb-true, and_parts}
+use Rattle.std.proofs.Common.{◌≡◌, ◌≢◌, ◌≤◌, ◌<◌, ◌+◌, ℕ, Bool, true, false, not, if◌then◌else◌, List, [], ◌∷◌, ◌++◌, reverse, Some, None, refl, sym, ◌∙◌, subst, arith, All, ◌⊎◌, inl, inr}
+use Rattle.std.proofs.lemmas.Bool.{not-true, and_parts}
 use Rattle.std.proofs.lemmas.List.Elements.{All-nil, All-cons, All-weaker}
 use Rattle.esc_base.specs.declared.kind.Kind.{Kind}
-use Rattle.esc_base.specs.declared.kind.Kind.TheVariants as kind
 use Rattle.esc_base.specs.declared.event.Event.{Event}
 use Rattle.esc_base.specs.declared.note.Note.{Note}
 use Rattle.esc_base.specs.Journal.{time_of}
@@ -17,50 +16,40 @@ use Rattle.interrupt_machine.specs.Did.{most, accessed}
 use Rattle.interrupt_machine.specs.Open.{is_open, due_now, next_entry, IsStack}
 use Rattle.interrupt_machine.specs.Response.{is_waiting}
 use Rattle.interrupt_machine.specs.Turn.{open_after}
-use Rattle.interrupt_machine.proofs.OpenKinds.{entry_above, same_kind}
+use Rattle.interrupt_machine.proofs.OpenKinds.{closed_above, entry_above, same_kind}
 use Rattle.interrupt_machine.proofs.Waiting.{entry_patient, own_patient, entry_highest, entry_masked, highest_is_due, highest_most, self_open}
-use Rattle.arming.specs.ControlAt.{number_at}
-use Rattle.esc_core.specs.declared.state.CapAt.{CapAt}
-use Rattle.esc_core.specs.declared.state.TickAt.{TickAt}
-use Rattle.esc_core.specs.declared.state.TickAt.TheVariants as tick
 use Rattle.esc_core.specs.Brain.{Brain}
 use Rattle.esc_core.specs.Stepped.{Stepped, is_return}
-use Rattle.esc_core.specs.Firmware.{left_of, need_of, tick_need, entered_core, kind_step, counted_down}
+use Rattle.esc_core.specs.Firmware.{left_of, entered_core, kind_step, counted_down}
 use Rattle.esc_core.proofs.Bounds.{Bounds, bounds, core_step-goes}
-use Rattle.esc_laws.specs.Place.{place}
-use Rattle.esc_laws.specs.Seen.{sees}
+use Rattle.esc_laws.specs.Place.{Place}
+use Rattle.esc_laws.specs.Seen.{sees, sees_at}
 use Rattle.esc_laws.specs.Steps.{Turned, notes_in, journal, after, uses, is_of, is_entry, own_steps, steps_since, entered_at, called, StepFits, Below}
-use Rattle.esc_laws.specs.Tied.{Keeps, SignalTied, cap_view, IsBuilt}
-use Rattle.esc_laws.specs.Logged.{Marks, Ties, Logged}
+use Rattle.esc_laws.specs.Tied.{Keeps}
+use Rattle.esc_laws.specs.World.{world, enters, step_notes, open_left}
+use Rattle.esc_laws.specs.Rooms.{Ground, Tie}
+use Rattle.esc_laws.specs.Logged.{Logged}
 use Rattle.esc_laws.proofs.Pushes.{own-push, since-push}
 use Rattle.esc_laws.proofs.Stalls.{free_ended}
-use Rattle.esc_laws.proofs.Facts.{of_self, of_other, some_open, outer_open, left_open, same_gates, due_built, tick_due, cap_shut}
-use Rattle.esc_laws.proofs.Dues.{cap_called}
-use Rattle.esc_laws.proofs.Entries.{enters, entry_same, entered_others, entry_out, keeps_entry}
-use Rattle.esc_laws.proofs.OwnTurns.{IsOwn, steady, step_notes, step_own, open_left}
-use Rattle.esc_laws.proofs.OwnKeeps.{keeps_own, own_out}
-use Rattle.esc_laws.proofs.Turns.{reached_on, reached_new, by_on, by_new, own_in, logged_after}
+use Rattle.esc_laws.proofs.Facts.{of_self, of_other, some_open, outer_open, left_open, same_gates}
+use Rattle.esc_laws.proofs.Laws.{law}
+use Rattle.esc_laws.proofs.Stages.{IsOwn, placed-is, enter_time, enter_stood, step_made}
+use Rattle.esc_laws.proofs.Entries.{entered_others, entered_most, entry_above_all, keeps_entry}
+use Rattle.esc_laws.proofs.OwnTurns.{steady, keeps_own}
+use Rattle.esc_laws.proofs.Turns.{reached_on, reached_new, by_on, by_new, stood, logged_after}
 
 -- ---- what is seen due, and isn't open, is due
 
-waits_due : (loaded : Loaded) (nest : Nest) (trace : List Event) (c : Brain) (b : Bank) (stack : List Kind) (log : List Turned) → Keeps c b stack → Marks loaded nest trace c b stack log → Ties loaded trace c b log
+waits_due : (loaded : Loaded) (nest : Nest) (trace : List Event) (c : Brain) (b : Bank) (stack : List Kind) (log : List Turned) → Keeps c b stack → Ground (world loaded nest trace c b log) → ((j : Kind) → Tie j (world loaded nest trace c b log))
     → (k : Kind) → sees trace (journal loaded log) b.time k ≡ true → is_open stack k ≡ false → due_now c.orders.save_asked b k ≡ true
-waits_due loaded nest trace c b stack log keeps m t kind.Tick s f =
-    tick_due c.orders.save_asked b (rw (t.number, m.control.ties.number_is) (ltb-true (number_at (reverse (journal loaded log))) (b.time / 2400) s))
-waits_due loaded nest trace c b stack log keeps m t kind.Cap s f =
-    cap_called c.orders.save_asked (place (journal loaded log)).signal trace c b (place (journal loaded log))
-    (subst (λ (at : CapAt). SignalTied (place (journal loaded log)).signal at (cap_view trace c b (place (journal loaded log)))) (cap_shut c.cap_at (keeps.shut kind.Cap f)) t.signal) s
-waits_due loaded nest trace c b stack log keeps m t kind.Main s f = t.orders.save_is ∙ s
-waits_due loaded nest trace c b stack log keeps m t kind.Uart s f = cc
-waits_due loaded nest trace c b stack log keeps m t kind.Cmp s f = cc
-waits_due loaded nest trace c b stack log keeps m t kind.Pwm s f = cc
-waits_due loaded nest trace c b stack log keeps m t kind.Comm s f = cc
+waits_due loaded nest trace c b stack log keeps g t k s f =
+    (law k).called (world loaded nest trace c b log) g t (keeps.shut k f) (subst (λ (p : Place). sees_at trace p (reverse (journal loaded log)) b.time k ≡ true) (sym (placed-is (journal loaded log))) s)
 
-pub sees_due : (loaded : Loaded) (nest : Nest) (trace : List Event) (c : Brain) (b : Bank) (stack : List Kind) (log : List Turned) → Keeps c b stack → Marks loaded nest trace c b stack log → Ties loaded trace c b log
+pub sees_due : (loaded : Loaded) (nest : Nest) (trace : List Event) (c : Brain) (b : Bank) (stack : List Kind) (log : List Turned) → Keeps c b stack → Ground (world loaded nest trace c b log) → ((j : Kind) → Tie j (world loaded nest trace c b log))
     → (k : Kind) → is_waiting (sees trace (journal loaded log) b.time) stack k ≡ true → due_now c.orders.save_asked b k ≡ true
-sees_due loaded nest trace c b stack log keeps m t k e =
+sees_due loaded nest trace c b stack log keeps g t k e =
     let parts = and_parts (sees trace (journal loaded log) b.time k) (not (is_open stack k)) e in
-    waits_due loaded nest trace c b stack log keeps m t k parts.0 (not-true (is_open stack k) parts.1)
+    waits_due loaded nest trace c b stack log keeps g t k parts.0 (not-true (is_open stack k) parts.1)
 
 -- ---- an entry
 
@@ -80,7 +69,7 @@ entry_fits loaded nest cost trace c b stack log k l chosen calls = record {
   first = λ o. (
     refl,
     λ j s. highest_most (due_now c.orders.save_asked b) k j
-        (waits_due loaded nest trace c b stack log l.keeps l.marks l.ties j s (empty_open stack j (l.marks.stack_is ∙ o))) (entry_highest nest stack (due_now c.orders.save_asked b) k chosen),
+        (waits_due loaded nest trace c b stack log l.keeps l.ground l.ties j s (empty_open stack j (l.marks.stack_is ∙ o))) (entry_highest nest stack (due_now c.orders.save_asked b) k chosen),
   );
   entry = λ e. refl;
   own = λ e. cc;
@@ -96,24 +85,13 @@ other_open : (k j : Kind) (stack : List Kind) → j ≢ k → is_open (k ∷ sta
 other_open k j stack ne o = sym (outer_open k j stack ne) ∙ o
 
 -- an open kind has as many steps left as its places show
-entry_owes : (c : Brain) (b : Bank) (stack : List Kind) (log : List Turned) (k : Kind) → ((j : Kind) → is_open stack j ≡ true → own_steps j log + left_of c j ≤ most j) → IsBuilt k
+entry_owes : (c : Brain) (b : Bank) (stack : List Kind) (log : List Turned) (k : Kind) → ((j : Kind) → is_open stack j ≡ true → own_steps j log + left_of c j ≤ most j)
     → (j : Kind) → is_open (k ∷ stack) j ≡ true → own_steps j (log ++ entry_of b.time k ∷ []) + left_of (entered_core c k) j ≤ most j
-entry_owes c b stack log k owes t j o = elim (same_kind j k) [
-  | inl s ↦ subst (λ (x : Kind). own_steps x (log ++ entry_of b.time k ∷ []) + left_of (entered_core c k) x ≤ most x) (sym s) (entered_owes k t)
-  | inr ne ↦ rw (own-push j log (entry_of b.time k), of_other j k ne, entered_other k j t ne) (owes j (other_open k j stack ne o))
+entry_owes c b stack log k owes j o = elim (same_kind j k) [
+  | inl s ↦ subst (λ (x : Kind). own_steps x (log ++ entry_of b.time k ∷ []) + left_of (entered_core c k) x ≤ most x) (sym s)
+      (rw (own-push k log (entry_of b.time k), of_self k) (let m = entered_most k c in omega arith))
+  | inr ne ↦ rw (own-push j log (entry_of b.time k), of_other j k ne, (entered_others k c j ne).0) (owes j (other_open k j stack ne o))
 ]
-  where
-    entered_owes : (k : Kind) → IsBuilt k → own_steps k (log ++ entry_of b.time k ∷ []) + left_of (entered_core c k) k ≤ most k
-    entered_owes kind.Tick t = rw (own-push kind.Tick log (entry_of b.time kind.Tick)) (omega arith)
-    entered_owes kind.Cap t = rw (own-push kind.Cap log (entry_of b.time kind.Cap)) (omega arith)
-    entered_owes kind.Main t = rw (own-push kind.Main log (entry_of b.time kind.Main)) (omega arith)
-    entered_owes kind.Uart t = absurd t
-    entered_owes kind.Cmp t = absurd t
-    entered_owes kind.Pwm t = absurd t
-    entered_owes kind.Comm t = absurd t
-
-    entered_other : (k j : Kind) → IsBuilt k → j ≢ k → left_of (entered_core c k) j ≡ left_of c j
-    entered_other k j t ne = entered_others k t c j ne
 
 entry_reached : (cost : ℕ) (trace : List Event) (b : Bank) (stack : List Kind) (log : List Turned) (k : Kind) → (stack ≢ [] → b.time ≡ after cost trace log)
     → ((j : Kind) → is_open stack j ≡ true → after cost trace log ≡ uses cost trace (steps_since j log + 1) (entered_at j log))
@@ -138,39 +116,22 @@ pub entry_turn : (loaded : Loaded) (nest : Nest) (cost : ℕ) (trace : List Even
     → Logged loaded nest cost trace (b.time + cost) (entered_core c k) (after_entry b k) (k ∷ stack) (log ++ entry_of b.time k ∷ [])
 entry_turn loaded nest cost trace c b stack log k some l down chosen =
     let due = highest_is_due (due_now c.orders.save_asked b) k (entry_highest nest stack (due_now c.orders.save_asked b) k chosen) in
-    let built : IsBuilt k = due_built c.orders.save_asked b k due in
-    let s = entry_same k built c b in
+    let none : left_of c k ≡ 0 = l.keeps.shut k (closed_above stack k l.sorted (entry_above nest stack (due_now c.orders.save_asked b) k chosen)) in
     let still : (after_entry b k).masked ≡ false = entry_masked b k ∙ down in
     logged_after loaded nest cost trace c (entered_core c k) b (after_entry b k) stack (k ∷ stack) log (entry_of b.time k) some refl l (record {
       keeps = keeps_entry nest c b stack k l.keeps l.sorted down chosen;
       sorted = (entry_above nest stack (due_now c.orders.save_asked b) k chosen, l.sorted);
-      same = record { time = s.time; level = s.level };
-      out = entry_out loaded nest trace c b (notes_in log) stack k (own_in loaded nest trace c b stack log l.marks l.ties) l.keeps l.sorted l.marks.stack_is chosen;
+      time = enter_time k b;
+      out = enter_stood k loaded nest trace c b (notes_in log) stack (stood loaded nest cost trace b.time c b stack log l) none due (entry_above_all nest stack (due_now c.orders.save_asked b) k l.sorted chosen);
       patient = rw still (entry_patient nest stack (due_now c.orders.save_asked b) (sees trace (journal loaded log) b.time) (sees trace (journal loaded (log ++ entry_of b.time k ∷ [])) b.time) k c.hold (entered_core c k).hold (called loaded nest trace log)
-          (sees_due loaded nest trace c b stack log l.keeps l.marks l.ties) chosen (rw down at l.patient));
-      owes = entry_owes c b stack log k l.owes built;
+          (sees_due loaded nest trace c b stack log l.keeps l.ground l.ties) chosen (rw down at l.patient));
+      owes = entry_owes c b stack log k l.owes;
       reached = entry_reached cost trace b stack log k l.at_next l.reached;
       reached_by = entry_by cost trace b stack log k l.at_next l.reached;
       fits = entry_fits loaded nest cost trace c b stack log k l chosen;
     })
 
 -- ---- an own step
-
-need_some : (k : Kind) (c : Brain) → 1 ≤ need_of c k
-need_some kind.Tick c = tick_some c.tick_at
-  where
-    tick_some : (at : TickAt) → 1 ≤ tick_need at
-    tick_some tick.Shut = omega arith
-    tick_some tick.Raise = omega arith
-    tick_some tick.Read = omega arith
-    tick_some tick.Lower = omega arith
-    tick_some tick.Back = omega arith
-need_some kind.Cap c = omega arith
-need_some kind.Main c = omega arith
-need_some kind.Uart c = omega arith
-need_some kind.Cmp c = omega arith
-need_some kind.Pwm c = omega arith
-need_some kind.Comm c = omega arith
 
 abbrev own_of : ℕ → Kind → List Note → Turned
 own_of t k notes = record { tick = t; kind = k; enters = false; notes = notes }
@@ -225,22 +186,22 @@ own_turn loaded nest cost trace c b outer log k saved some l none =
     let b' : Bank = accessed b s.access in
     let notes : List Note = step_notes b.time k s in
     let inside : is_open (k ∷ outer) k ≡ true = self_open k outer in
-    let built : IsBuilt k = l.keeps.built k inside in
     let left : 0 < left_of c k = l.keeps.live k inside in
-    let held : b.masked ≡ true → 0 < c.hold = (λ m. (let a = l.keeps.enough m k refl in let n = need_some k c in omega arith)) in
+    let held : b.masked ≡ true → 0 < c.hold = (λ m. (let a = l.keeps.enough m k refl in let n = (law k).need c in omega arith)) in
     let bound : Bounds k c b s = subst (λ (x : Stepped). Bounds k c b x) (core_step-goes k saved c b (steady k c b (k ∷ outer) l.keeps refl)) (bounds k saved c b left l.keeps.hold held) in
     let gates = same_gates b s.access in
+    let made = step_made k saved loaded nest trace c b (notes_in log) outer (stood loaded nest cost trace b.time c b (k ∷ outer) log l) (λ j above. l.keeps.shut j (closed_above (k ∷ outer) j l.sorted above)) left in
     logged_after loaded nest cost trace c s.core b b' (k ∷ outer) (open_left k outer s) log (own_of b.time k notes) some refl l (record {
-      keeps = keeps_own k saved c b outer built l.sorted l.keeps left bound;
+      keeps = keeps_own k saved c b outer l.sorted l.keeps left bound;
       sorted = left_stack s.over k outer l.sorted;
-      same = record { time = gates.time; level = gates.level };
-      out = own_out loaded k built saved nest trace c b (notes_in log) outer (own_in loaded nest trace c b (k ∷ outer) log l.marks l.ties) (sym l.marks.stack_is) left;
+      time = gates.time;
+      out = made.0;
       patient = own_patient nest k outer (open_left k outer s) (due_now c.orders.save_asked b) (sees trace (journal loaded log) b.time) (sees trace (journal loaded (log ++ own_of b.time k notes ∷ [])) b.time) b.masked b'.masked c.hold s.core.hold (called loaded nest trace log)
-          (sees_due loaded nest trace c b (k ∷ outer) log l.keeps l.marks l.ties) none (left_goes s.over b'.masked k outer bound.back) held bound.mask.most bound.mask.less l.patient;
-      owes = own_owes c s.core outer log k b.time notes s.over l.owes bound.less bound.others;
+          (λ m. sees_due loaded nest trace c b (k ∷ outer) log l.keeps l.ground l.ties) none (left_goes s.over b'.masked k outer bound.back) held bound.mask.most bound.mask.less l.patient;
+      owes = own_owes c s.core outer log k b.time notes s.over l.owes bound.moves.less (λ j ne. (bound.moves.others j ne).0);
       reached = λ j o. reached_on cost trace log (own_of b.time k notes) j refl (l.at_next (λ e. cc)) (l.reached j (left_open s.over k j outer o));
       reached_by = λ j o t below. by_on cost trace log (own_of b.time k notes) j t refl (l.at_next (λ e. cc)) (l.reached j (left_open s.over k j outer o)) below;
-      fits = own_fits loaded nest cost trace c b outer log k notes l (step_own k built saved (counted_down c b) b);
+      fits = own_fits loaded nest cost trace c b outer log k notes l made.1;
     })
 
 -- the open kinds after it, by what the handler did

@@ -6,4 +6,6 @@ pub mod Steps
 pub mod Legal
 pub mod Saves
 pub mod Tied
+pub mod World
+pub mod Rooms
 pub mod Logged

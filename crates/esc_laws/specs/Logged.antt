@@ -1,5 +1,5 @@
 -- For which trace and which log of steps the core, the registers and the open kinds stand.
-use Rattle.std.specs.Prelude.{◌≡◌, ◌≢◌, ◌<◌, ◌≤◌, ◌+◌, ◌/◌, ℕ, true, false, List, [], reverse, All}
+use Rattle.std.specs.Prelude.{◌≡◌, ◌≢◌, ◌<◌, ◌≤◌, ◌+◌, ℕ, true, false, List, [], All}
 use Rattle.std.proofs.Common.{inl, inr}
 use Rattle.esc_base.specs.declared.kind.Kind.{Kind}
 use Rattle.esc_base.specs.declared.event.Event.{Event}
@@ -7,59 +7,37 @@ use Rattle.esc_base.specs.declared.event.Event.TheVariants as event
 use Rattle.esc_base.specs.declared.note.Note.{Note}
 use Rattle.esc_base.specs.Flash.{Told}
 use Rattle.esc_base.specs.Journal.{Journal, time_of}
-use Rattle.esc_base.specs.Trace.{line}
 use Rattle.settings_block.specs.declared.stored.Loaded.{Loaded}
 use Rattle.timer_regs.specs.Bank.{Bank}
-use Rattle.timer_regs.specs.Effects.{after_line, reset, written}
+use Rattle.timer_regs.specs.Effects.{reset, written}
 use Rattle.timer_regs.specs.declared.regs.Reg.TheVariants as reg
 use Rattle.interrupt_machine.specs.declared.nest.Nest.{Nest}
 use Rattle.interrupt_machine.specs.Did.{most}
 use Rattle.interrupt_machine.specs.Open.{is_open, IsStack}
 use Rattle.interrupt_machine.specs.Response.{Patient}
 use Rattle.interrupt_machine.specs.Turn.{Turn}
-use Rattle.arming.specs.Stands.{Stands}
 use Rattle.esc_core.specs.Brain.{Brain}
 use Rattle.esc_core.specs.Saving.{IsMade}
 use Rattle.esc_core.specs.Firmware.{core_step, core_saves, entered_core, left_of}
-use Rattle.esc_laws.specs.Place.{place}
 use Rattle.esc_laws.specs.Windowed.{Windowed}
 use Rattle.esc_laws.specs.Nested.{NestedAfter}
 use Rattle.esc_laws.specs.Seen.{sees}
 use Rattle.esc_laws.specs.Steps.{Turned, opening, notes_in, journal, open_in, free, after, uses, own_steps, steps_since, entered_at, called, EachStep, StepFits, Awaits, Below}
-use Rattle.esc_laws.specs.Tied.{Keeps, SignalTied, cap_view, WindowSound, TickTied, MainTied, OrdersTied}
+use Rattle.esc_laws.specs.Tied.{Keeps}
+use Rattle.esc_laws.specs.World.{world}
+use Rattle.esc_laws.specs.Rooms.{Ground, Tie}
 
 -- the registers at the start of a run: the first window is open in mode 0
 abbrev pub first_bank : Bank
 first_bank = written reset reg.CapArm 0
 
--- what an event at now leaves of the registers: an edge of the signal line changes them, others nothing
-abbrev pub after_event : Bank → Event → Bank
-after_event b (event.Edge at level) = after_line b level
-after_event b (event.Comp at level) = b
-after_event b (event.Serial at byte) = b
-after_event b (event.Stall at n) = b
-
 -- the journal keeps its laws, and is no later than now
-pub record Marks (loaded : Loaded) (nest : Nest) (trace : List Event) (c : Brain) (b : Bank) (stack : List Kind) (log : List Turned) : Type 0 where
+pub record Marks (loaded : Loaded) (nest : Nest) (trace : List Event) (b : Bank) (stack : List Kind) (log : List Turned) : Type 0 where
   pub in_time : Journal (journal loaded log)
   pub windowed : Windowed loaded trace (journal loaded log)
   pub nested : NestedAfter nest (opening loaded) (notes_in log)
-  pub control : Stands c.control (reverse (journal loaded log))
   pub stack_is : stack ≡ open_in loaded log
   pub past : All (λ n. time_of n ≤ b.time) (journal loaded log)
-
--- the core and the registers are what the notes and the trace say
-pub record Ties (loaded : Loaded) (trace : List Event) (c : Brain) (b : Bank) (log : List Turned) : Type 0 where
-  pub signal : SignalTied (place (journal loaded log)).signal c.cap_at (cap_view trace c b (place (journal loaded log)))
-  pub window : WindowSound b.window b.time
-  pub tick : TickTied c.tick_at b.number_read b.time (place (journal loaded log)).ticks
-  pub main : MainTied c.main_at c.orders.save_asked (place (journal loaded log)).saves
-  pub orders : OrdersTied loaded c.orders (reverse (journal loaded log))
-  pub number : b.number_read ≡ c.control.number
-  pub read : b.number_read ≤ b.time / 2400
-  pub level : b.level ≡ (line trace).level
-  pub edges : All (λ e. e.t.0 ≤ b.time) (line trace).edges
-  pub small : b.time < 2147483648
 
 -- the tick at which an event's stall is over, 0 for one that is none
 abbrev pub stall_end : Event → ℕ
@@ -72,8 +50,9 @@ stall_end (event.Serial at byte) = 0
 pub record Logged (loaded : Loaded) (nest : Nest) (cost : ℕ) (trace : List Event) (next : ℕ) (c : Brain) (b : Bank) (stack : List Kind) (log : List Turned) : Type 0 where
   pub keeps : Keeps c b stack
   pub sorted : IsStack stack
-  pub marks : Marks loaded nest trace c b stack log
-  pub ties : Ties loaded trace c b log
+  pub marks : Marks loaded nest trace b stack log
+  pub ground : Ground (world loaded nest trace c b log)
+  pub ties : (k : Kind) → Tie k (world loaded nest trace c b log)
   pub patient : Patient nest c.hold b.masked stack (sees trace (journal loaded log) b.time) (called loaded nest trace log)
   pub owes : (k : Kind) → is_open stack k ≡ true → own_steps k log + left_of c k ≤ most k
   pub reached : (k : Kind) → is_open stack k ≡ true → after cost trace log ≡ uses cost trace (steps_since k log + 1) (entered_at k log)

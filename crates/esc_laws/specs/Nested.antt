@@ -30,21 +30,25 @@ HasDone kind.Cmp p = Unit {0}
 HasDone kind.Pwm p = Unit {0}
 HasDone kind.Comm p = Unit {0}
 
-abbrev pub NestRule : Nest → List Note → Note → Type 0
-NestRule nest before (note.Enter t k) = IsAboveAll nest (place before).stack k
-NestRule nest before (note.Leave t k) = IsIn (kind_of k) (place before) × HasDone (kind_of k) (place before)
-NestRule nest before (note.Window t m) = IsIn kind.Cap (place before)
-NestRule nest before (note.Good t v q) = IsIn kind.Cap (place before)
-NestRule nest before (note.Detected t m) = IsIn kind.Cap (place before)
-NestRule nest before (note.Nothing t) = IsIn kind.Cap (place before)
-NestRule nest before (note.Bad t w) = IsIn kind.Cap (place before)
-NestRule nest before (note.Command t c) = IsIn kind.Cap (place before)
-NestRule nest before (note.Control t n s d) = IsIn kind.Tick (place before)
-NestRule nest before (note.Armed t) = IsIn kind.Tick (place before)
-NestRule nest before (note.Lost t c) = IsIn kind.Tick (place before)
-NestRule nest before (note.Saved t r) = IsIn kind.Main (place before)
+-- the rule of a note at a place
+abbrev pub NestRuleAt : Nest → Place → Note → Type 0
+NestRuleAt nest p (note.Enter t k) = IsAboveAll nest p.stack k
+NestRuleAt nest p (note.Leave t k) = IsIn (kind_of k) p × HasDone (kind_of k) p
+NestRuleAt nest p (note.Window t m) = IsIn kind.Cap p
+NestRuleAt nest p (note.Good t v q) = IsIn kind.Cap p
+NestRuleAt nest p (note.Detected t m) = IsIn kind.Cap p
+NestRuleAt nest p (note.Nothing t) = IsIn kind.Cap p
+NestRuleAt nest p (note.Bad t w) = IsIn kind.Cap p
+NestRuleAt nest p (note.Command t c) = IsIn kind.Cap p
+NestRuleAt nest p (note.Control t n s d) = IsIn kind.Tick p
+NestRuleAt nest p (note.Armed t) = IsIn kind.Tick p
+NestRuleAt nest p (note.Lost t c) = IsIn kind.Tick p
+NestRuleAt nest p (note.Saved t r) = IsIn kind.Main p
 -- the others don't stand in a journal yet
-NestRule nest before n = ⊥
+NestRuleAt nest p n = ⊥
+
+abbrev pub NestRule : Nest → List Note → Note → Type 0
+NestRule nest before n = NestRuleAt nest (place before) n
 
 -- the notes after `before` nest
 abbrev pub NestedAfter : Nest → List Note → List Note → Type 0

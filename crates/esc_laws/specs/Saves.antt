@@ -1,5 +1,5 @@
 -- What the notes say of the settings and of the flash. Places are bytes that are known, or not.
-use Rattle.std.specs.Prelude.{◌≡◌, ◌≤◌, ◌⊎◌, ℕ, ◌+◌, ◌*◌, ◌==◌, if◌then◌else◌, List, [], ◌∷◌, ◌++◌, take, drop, map, replicate, reverse, bit_and, Option, Some, None}
+use Rattle.std.specs.Prelude.{◌≡◌, ◌≤◌, ◌⊎◌, ℕ, Bool, true, false, ◌+◌, ◌*◌, ◌==◌, if◌then◌else◌, List, [], ◌∷◌, ◌++◌, take, drop, map, replicate, reverse, bit_and, Option, Some, None}
 use Rattle.std.specs.Option.{option_map}
 use Rattle.esc_base.specs.declared.note.Note.{Note}
 use Rattle.esc_base.specs.declared.note.Note.TheVariants as note
@@ -21,6 +21,11 @@ abbrev pub settings_at : Settings → List Note → Settings
 settings_at first [] = first
 settings_at first (note.Command t c ∷ back) = changed_by (act_of c) (settings_at first back)
 settings_at first (n ∷ back) = settings_at first back
+
+-- a note of a save
+abbrev pub is_save : Note → Bool
+is_save (note.Saved t r) = true
+is_save n = false
 
 -- ---- the flash
 

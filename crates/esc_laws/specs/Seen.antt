@@ -8,7 +8,7 @@ use Rattle.esc_base.specs.Trace.{line}
 use Rattle.edge_capture.specs.Burst.{close}
 use Rattle.timer_regs.specs.Effects.{mode_of, is_reached}
 use Rattle.arming.specs.ControlAt.{asked_at, number_at}
-use Rattle.esc_laws.specs.Place.{Signal, Silent, Listens, Judged, Rests, place}
+use Rattle.esc_laws.specs.Place.{Signal, Silent, Listens, Judged, Rests, Place, place}
 
 -- CAP is called from the close of a window that has no F; after the F of a bad one, from the latest tick of the window
 -- timer, or from the return of that F's activation if later
@@ -19,11 +19,11 @@ calls_cap trace (Judged f opens) t = false
 calls_cap trace (Rests f r) t = nat_le (max (f + 1200) r) t
 
 -- a kind is seen due at a tick; TICK from the first one of a control tick that no K has, and MAIN while a save is asked for
+abbrev pub sees_at : List Event → Place → List Note → ℕ → Kind → Bool
+sees_at trace p back t kind.Tick = nat_lt (number_at back) (t / 2400)
+sees_at trace p back t kind.Cap = calls_cap trace p.signal t
+sees_at trace p back t kind.Main = asked_at back
+sees_at trace p back t k = false
+
 abbrev pub sees : List Event → List Note → ℕ → Kind → Bool
-sees trace notes t kind.Tick = nat_lt (number_at (reverse notes)) (t / 2400)
-sees trace notes t kind.Cap = calls_cap trace (place notes).signal t
-sees trace notes t kind.Main = asked_at (reverse notes)
-sees trace notes t kind.Uart = false
-sees trace notes t kind.Cmp = false
-sees trace notes t kind.Pwm = false
-sees trace notes t kind.Comm = false
+sees trace notes t k = sees_at trace (place notes) (reverse notes) t k

@@ -2,7 +2,6 @@
 -- between any two steps, whatever higher kinds do meanwhile.
 use Rattle.std.specs.Prelude.{◌≡◌, ◌<◌, ◌≤◌, ◌+◌, ◌-◌, ◌/◌, ◌⊎◌, ℕ, Bool, true, false, List, length, take, Option, Some, None, All}
 use Rattle.esc_base.specs.declared.kind.Kind.{Kind}
-use Rattle.esc_base.specs.declared.kind.Kind.TheVariants as kind
 use Rattle.esc_base.specs.declared.event.Event.{Event}
 use Rattle.esc_base.specs.declared.signal.Edge.{Edge}
 use Rattle.esc_base.specs.declared.signal.Mode.{Mode}
@@ -25,7 +24,7 @@ use Rattle.esc_core.specs.declared.state.MainAt.{MainAt}
 use Rattle.esc_core.specs.declared.state.MainAt.TheVariants as main
 use Rattle.esc_core.specs.declared.orders.Orders.{Orders}
 use Rattle.esc_core.specs.Brain.{Brain}
-use Rattle.esc_core.specs.Firmware.{left_of, need_of, tick_need}
+use Rattle.esc_core.specs.Firmware.{left_of, need_of}
 use Rattle.esc_laws.specs.Saves.{settings_at}
 use Rattle.esc_laws.specs.Place.{Signal, Silent, Listens, Judged, Rests, Place}
 
@@ -166,22 +165,11 @@ pub record OrdersTied (loaded : Loaded) (o : Orders) (back : List Note) : Type 0
   pub settings_are : o.settings ≡ settings_at loaded.settings back
   pub save_is : o.save_asked ≡ asked_at back
 
--- the kinds that are built
-abbrev pub IsBuilt : Kind → Type 0
-IsBuilt kind.Tick = Unit {0}
-IsBuilt kind.Cap = Unit {0}
-IsBuilt kind.Main = Unit {0}
-IsBuilt kind.Uart = ⊥
-IsBuilt kind.Cmp = ⊥
-IsBuilt kind.Pwm = ⊥
-IsBuilt kind.Comm = ⊥
-
 -- what holds between any two steps of the core, the registers and the open kinds
 pub record Keeps (c : Brain) (b : Bank) (stack : List Kind) : Type 0 where
   pub hold : c.hold ≤ 8
-  -- the mask stands long enough for the innermost handler to lower it, which is TICK at a masked place
+  -- the mask stands long enough for the innermost handler to lower it; and a handler at a masked place is the innermost one
   pub enough : b.masked ≡ true → (k : Kind) → innermost stack ≡ Some k → need_of c k ≤ c.hold
-  pub tick_masked : tick_need c.tick_at ≤ 8 → (b.masked ≡ true) × (innermost stack ≡ Some kind.Tick)
+  pub masked : (k : Kind) → need_of c k ≤ 8 → (b.masked ≡ true) × (innermost stack ≡ Some k)
   pub live : (k : Kind) → is_open stack k ≡ true → 0 < left_of c k
   pub shut : (k : Kind) → is_open stack k ≡ false → left_of c k ≡ 0
-  pub built : (k : Kind) → is_open stack k ≡ true → IsBuilt k

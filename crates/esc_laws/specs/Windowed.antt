@@ -14,7 +14,7 @@ use Rattle.esc_core.specs.declared.judge.Judgement.{Judgement}
 use Rattle.esc_core.specs.declared.judge.Judgement.TheVariants.{Good, Bad, Found, Nothing}
 use Rattle.esc_core.specs.Cap.{bit_of, tick_at}
 use Rattle.esc_core.specs.Judge.{inputs_of, judged}
-use Rattle.esc_laws.specs.Place.{Signal, Silent, Listens, Judged, Rests, place}
+use Rattle.esc_laws.specs.Place.{Signal, Silent, Listens, Judged, Rests, Place, place}
 
 -- the F of a window
 abbrev pub verdict_note : ℕ → Judgement → Note
@@ -54,14 +54,18 @@ MayReturn (Listens w m) = Unit {0}
 MayReturn (Judged f opens) = opens ≡ false
 MayReturn (Rests f r) = Unit {0}
 
+-- the rule of a note at a place, after these notes with the newest first
+abbrev pub WindowRuleAt : Loaded → List Event → Place → List Note → Note → Type 0
+WindowRuleAt loaded trace p back (note.Window t m) = OpensAt p.signal t.0 × (m ≡ mode_at back)
+WindowRuleAt loaded trace p back (note.Good t v q) = AnswersAt loaded trace p.signal p.cap_entered t.0 (note.Good t v q)
+WindowRuleAt loaded trace p back (note.Detected t m) = AnswersAt loaded trace p.signal p.cap_entered t.0 (note.Detected t m)
+WindowRuleAt loaded trace p back (note.Nothing t) = AnswersAt loaded trace p.signal p.cap_entered t.0 (note.Nothing t)
+WindowRuleAt loaded trace p back (note.Bad t w) = AnswersAt loaded trace p.signal p.cap_entered t.0 (note.Bad t w)
+WindowRuleAt loaded trace p back (note.Leave t k) = k ≡ 3 → MayReturn p.signal
+WindowRuleAt loaded trace p back n = Unit {0}
+
 abbrev pub WindowRule : Loaded → List Event → List Note → Note → Type 0
-WindowRule loaded trace before (note.Window t m) = OpensAt (place before).signal t.0 × (m ≡ mode_at (reverse before))
-WindowRule loaded trace before (note.Good t v q) = AnswersAt loaded trace (place before).signal (place before).cap_entered t.0 (note.Good t v q)
-WindowRule loaded trace before (note.Detected t m) = AnswersAt loaded trace (place before).signal (place before).cap_entered t.0 (note.Detected t m)
-WindowRule loaded trace before (note.Nothing t) = AnswersAt loaded trace (place before).signal (place before).cap_entered t.0 (note.Nothing t)
-WindowRule loaded trace before (note.Bad t w) = AnswersAt loaded trace (place before).signal (place before).cap_entered t.0 (note.Bad t w)
-WindowRule loaded trace before (note.Leave t k) = k ≡ 3 → MayReturn (place before).signal
-WindowRule loaded trace before n = Unit {0}
+WindowRule loaded trace before n = WindowRuleAt loaded trace (place before) (reverse before) n
 
 abbrev pub Windowed : Loaded → List Event → List Note → Type 0
 Windowed loaded trace notes = Each (WindowRule loaded trace) [] notes

@@ -202,94 +202,86 @@ pub entry_patient : (nest : Nest) (stack : List Kind) (due seen seen' : Kind →
     → ((k : Kind) → is_waiting seen stack k ≡ true → due k ≡ true) → next_entry nest stack due ≡ Some j → Patient nest hold false stack seen w
     → Patient nest hold' false (j ∷ stack) seen' (λ k. wait_next nest k (is_waiting seen stack k) (is_waiting seen' (j ∷ stack) k) (Some j) (w k))
 entry_patient nest stack due seen seen' j hold hold' w sees chosen p = record {
-  bound = λ k after. rest_zero (is_behind nest (Some j) k) false _ hold' refl (elim (cases_Bool (is_waiting seen stack k)) [
-    | inl before ↦ (
-        let ne = other_kind k j stack (waits_parts seen' (j ∷ stack) k after).1 in
-        let le = highest_most due j k (sees k before) (entry_highest nest stack due j chosen) in
-        rw (wait_uncounted nest k (is_waiting seen stack k) (is_waiting seen' (j ∷ stack) k) (Some j) (w k) before after (entry_uncounted nest k j le ne))
-        (drop_rest (w k) _ (p.bound k before)))
-    | inr fresh ↦ rw (wait_fresh nest k (is_waiting seen stack k) (is_waiting seen' (j ∷ stack) k) (Some j) (w k) fresh) (omega arith)
+  bound = λ k. rest_zero (is_behind nest (Some j) k) false _ hold' refl (elim (cases_Bool (is_waiting seen' (j ∷ stack) k)) [
+    | inr over ↦ rw (wait_over nest k (is_waiting seen stack k) (is_waiting seen' (j ∷ stack) k) (Some j) (w k) over) (omega arith)
+    | inl after ↦ elim (cases_Bool (is_waiting seen stack k)) [
+      | inl before ↦ (
+          let ne = other_kind k j stack (waits_parts seen' (j ∷ stack) k after).1 in
+          let le = highest_most due j k (sees k before) (entry_highest nest stack due j chosen) in
+          rw (wait_uncounted nest k (is_waiting seen stack k) (is_waiting seen' (j ∷ stack) k) (Some j) (w k) before after (entry_uncounted nest k j le ne))
+          (drop_rest (w k) _ (p.bound k)))
+      | inr fresh ↦ rw (wait_fresh nest k (is_waiting seen stack k) (is_waiting seen' (j ∷ stack) k) (Some j) (w k) fresh) (omega arith)
+    ]
   ]);
-  calm = λ k over. wait_over nest k (is_waiting seen stack k) (is_waiting seen' (j ∷ stack) k) (Some j) (w k) over;
   held = λ m. cc;
 }
 
--- after a step of the innermost kind, which goes on, or returns with the mask down
+-- after a step of the innermost kind, which goes on, or returns with the mask down; what is seen due while the mask is
+-- down is due
 pub own_patient : (nest : Nest) (j : Kind) (outer stack' : List Kind) (due seen seen' : Kind → Bool) (masked masked' : Bool) (hold hold' : ℕ) (w : Kind → ℕ)
-    → ((k : Kind) → is_waiting seen (j ∷ outer) k ≡ true → due k ≡ true) → (masked ≡ false → next_entry nest (j ∷ outer) due ≡ None)
+    → (masked ≡ false → (k : Kind) → is_waiting seen (j ∷ outer) k ≡ true → due k ≡ true) → (masked ≡ false → next_entry nest (j ∷ outer) due ≡ None)
     → (stack' ≡ j ∷ outer) ⊎ (masked' ≡ false)
     → (masked ≡ true → 0 < hold) → (masked' ≡ true → hold' ≤ 8) → (masked ≡ true → masked' ≡ true → hold' < hold)
     → Patient nest hold masked (j ∷ outer) seen w
     → Patient nest hold' masked' stack' seen' (λ k. wait_next nest k (is_waiting seen (j ∷ outer) k) (is_waiting seen' stack' k) (Some j) (w k))
 own_patient nest j outer stack' due seen seen' masked masked' hold hold' w sees none goes some most less p = record {
-  bound = λ k after. elim (cases_Bool (is_waiting seen (j ∷ outer) k)) [
-    | inr fresh ↦ rw (wait_fresh nest k (is_waiting seen (j ∷ outer) k) (is_waiting seen' stack' k) (Some j) (w k) fresh)
+  bound = λ k. elim (cases_Bool (is_waiting seen' stack' k)) [
+    | inr over ↦ rw (wait_over nest k (is_waiting seen (j ∷ outer) k) (is_waiting seen' stack' k) (Some j) (w k) over)
         (rest_room (is_behind nest (innermost stack') k) masked' hold' most)
-    | inl before ↦ (
-        let parts = waits_parts seen (j ∷ outer) k before in
-        let ne = other_kind k j outer parts.1 in
-        elim (cases_Bool (counts nest k (Some j))) [
-          | inl c ↦ rw (wait_counted nest k (is_waiting seen (j ∷ outer) k) (is_waiting seen' stack' k) (Some j) (w k) before after c) (elim (cases_Bool masked) [
-            | inl m ↦ rest_kept (is_behind nest (innermost stack') k) masked' (w k + 1) hold'
-                (less_room masked masked' hold hold' (w k) m (some m) (less m) (rw (not_behind nest k j c) at (p.bound k before)))
-            | inr m ↦ absurd (none_kept nest j k outer due c ne (sees k before) (none m))
+    | inl after ↦ elim (cases_Bool (is_waiting seen (j ∷ outer) k)) [
+      | inr fresh ↦ rw (wait_fresh nest k (is_waiting seen (j ∷ outer) k) (is_waiting seen' stack' k) (Some j) (w k) fresh)
+          (rest_room (is_behind nest (innermost stack') k) masked' hold' most)
+      | inl before ↦ (
+          let parts = waits_parts seen (j ∷ outer) k before in
+          let ne = other_kind k j outer parts.1 in
+          elim (cases_Bool (counts nest k (Some j))) [
+            | inl c ↦ rw (wait_counted nest k (is_waiting seen (j ∷ outer) k) (is_waiting seen' stack' k) (Some j) (w k) before after c) (elim (cases_Bool masked) [
+              | inl m ↦ rest_kept (is_behind nest (innermost stack') k) masked' (w k + 1) hold'
+                  (less_room masked masked' hold hold' (w k) m (some m) (less m) (rw (not_behind nest k j c) at (p.bound k)))
+              | inr m ↦ absurd (none_kept nest j k outer due c ne (sees m k before) (none m))
+            ])
+            | inr n ↦ rw (wait_uncounted nest k (is_waiting seen (j ∷ outer) k) (is_waiting seen' stack' k) (Some j) (w k) before after n) (
+                let le = drop_rest (w k) _ (p.bound k) in
+                elim goes [
+                  | inl s ↦ rest_behind (is_behind nest (innermost stack') k) masked' (w k) hold' (rw s (behind_by nest k j n)) le
+                  | inr u ↦ rest_zero (is_behind nest (innermost stack') k) masked' (w k) hold' u le
+                ])
           ])
-          | inr n ↦ rw (wait_uncounted nest k (is_waiting seen (j ∷ outer) k) (is_waiting seen' stack' k) (Some j) (w k) before after n) (
-              let le = drop_rest (w k) _ (p.bound k before) in
-              elim goes [
-                | inl s ↦ rest_behind (is_behind nest (innermost stack') k) masked' (w k) hold' (rw s (behind_by nest k j n)) le
-                | inr u ↦ rest_zero (is_behind nest (innermost stack') k) masked' (w k) hold' u le
-              ])
-        ])
+    ]
   ];
-  calm = λ k over. wait_over nest k (is_waiting seen (j ∷ outer) k) (is_waiting seen' stack' k) (Some j) (w k) over;
   held = most;
 }
 
--- after time has passed, or the outside has acted
+-- after time has passed, or the outside has acted: what was seen due may no longer be, and what wasn't may be
 pub pass_patient : (nest : Nest) (stack : List Kind) (seen seen' : Kind → Bool) (masked : Bool) (hold : ℕ) (w : Kind → ℕ)
     → Patient nest hold masked stack seen w
     → Patient nest hold masked stack seen' (λ k. wait_next nest k (is_waiting seen stack k) (is_waiting seen' stack k) None (w k))
 pass_patient nest stack seen seen' masked hold w p = record {
-  bound = λ k after. elim (cases_Bool (is_waiting seen stack k)) [
-    | inl before ↦ rw (wait_uncounted nest k (is_waiting seen stack k) (is_waiting seen' stack k) None (w k) before after refl) (p.bound k before)
-    | inr fresh ↦ rw (wait_fresh nest k (is_waiting seen stack k) (is_waiting seen' stack k) None (w k) fresh) (rest_room (is_behind nest (innermost stack) k) masked hold p.held)
+  bound = λ k. elim (cases_Bool (is_waiting seen' stack k)) [
+    | inr over ↦ rw (wait_over nest k (is_waiting seen stack k) (is_waiting seen' stack k) None (w k) over) (rest_room (is_behind nest (innermost stack) k) masked hold p.held)
+    | inl after ↦ elim (cases_Bool (is_waiting seen stack k)) [
+      | inl before ↦ rw (wait_uncounted nest k (is_waiting seen stack k) (is_waiting seen' stack k) None (w k) before after refl) (p.bound k)
+      | inr fresh ↦ rw (wait_fresh nest k (is_waiting seen stack k) (is_waiting seen' stack k) None (w k) fresh) (rest_room (is_behind nest (innermost stack) k) masked hold p.held)
+    ]
   ];
-  calm = λ k over. wait_over nest k (is_waiting seen stack k) (is_waiting seen' stack k) None (w k) over;
   held = p.held;
 }
 
--- where each kind that waited still waits
-pub grow_patient : (nest : Nest) (stack : List Kind) (seen seen' : Kind → Bool) (masked : Bool) (hold : ℕ) (w : Kind → ℕ)
-    → ((k : Kind) → is_waiting seen stack k ≡ true → is_waiting seen' stack k ≡ true)
-    → Patient nest hold masked stack seen w → Patient nest hold masked stack seen' w
-grow_patient nest stack seen seen' masked hold w grows p = record {
-  bound = λ k after. elim (cases_Bool (is_waiting seen stack k)) [
-    | inl before ↦ p.bound k before
-    | inr fresh ↦ rw (p.calm k fresh) (rest_room (is_behind nest (innermost stack) k) masked hold p.held)
-  ];
-  calm = λ k over. elim (cases_Bool (is_waiting seen stack k)) [
-    | inl before ↦ absurd (let g = grows k before in (let z = sym g ∙ over in cc))
-    | inr fresh ↦ p.calm k fresh
-  ];
-  held = p.held;
-}
+-- the same where the count is by steps alone
+pub grow_patient : (nest : Nest) (stack : List Kind) (seen seen' : Kind → Bool) (masked : Bool) (hold : ℕ) (w : Kind → ℕ) → Patient nest hold masked stack seen w → Patient nest hold masked stack seen' w
+grow_patient nest stack seen seen' masked hold w p = record { bound = p.bound; held = p.held }
 
 -- equal counts
 pub same_patient : (nest : Nest) (hold : ℕ) (masked : Bool) (stack : List Kind) (due : Kind → Bool) (w w' : Kind → ℕ) → ((k : Kind) → w' k ≡ w k) → Patient nest hold masked stack due w → Patient nest hold masked stack due w'
 same_patient nest hold masked stack due w w' e p = record {
-  bound = λ k b. rw (e k) (p.bound k b);
-  calm = λ k b. e k ∙ p.calm k b;
+  bound = λ k. rw (e k) (p.bound k);
   held = p.held;
 }
 
 -- ---- along a log
 
 pub patient_most : (nest : Nest) (hold : ℕ) (masked : Bool) (stack : List Kind) (due : Kind → Bool) (w : Kind → ℕ) → Patient nest hold masked stack due w → (k : Kind) → w k ≤ 8
-patient_most nest hold masked stack due w p k = elim (cases_Bool (is_waiting due stack k)) [
-  | inl b ↦ drop_rest (w k) _ (p.bound k b)
-  | inr b ↦ rw (p.calm k b) (omega arith)
-]
+patient_most nest hold masked stack due w p k = drop_rest (w k) _ (p.bound k)
 
 responds : (nest : Nest) (hold : ℕ) (masked : Bool) (stack : List Kind) (due : Kind → Bool) (log : List Moment) → Patient nest hold masked stack due (waited nest log) → Responds nest hold masked stack due log
 responds nest hold masked stack due log p = record { patient = p; most = patient_most nest hold masked stack due (waited nest log) p }
@@ -301,8 +293,7 @@ waited-none nest k = refl
 -- at the start
 pub start_responds : (nest : Nest) (hold : ℕ) (due : Kind → Bool) → Responds nest hold false [] due []
 start_responds nest hold due = responds nest hold false [] due [] (record {
-  bound = λ k b. rest_zero false false (waited nest [] k) hold refl (rw (waited-none nest k) (omega arith));
-  calm = λ k b. waited-none nest k;
+  bound = λ k. rest_zero false false (waited nest [] k) hold refl (rw (waited-none nest k) (omega arith));
   held = λ m. cc;
 })
 
@@ -337,7 +328,7 @@ own_responds : (nest : Nest) (hold hold' : ℕ) (masked masked' : Bool) (j : Kin
 own_responds nest hold hold' masked masked' j outer stack' due due' none goes by some most less log r =
     responds nest hold' masked' stack' due' _ (same_patient nest hold' masked' stack' due' _ _
     (λ k. waited-push nest log (Stepped (j ∷ outer) due stack' due') k ∙ ap (λ (o : Option Kind). wait_next nest k (is_waiting due (j ∷ outer) k) (is_waiting due' stack' k) o (waited nest log k)) by)
-    (own_patient nest j outer stack' due due due' masked masked' hold hold' (waited nest log) (λ k s. (waits_parts due (j ∷ outer) k s).0) none goes some most less r.patient))
+    (own_patient nest j outer stack' due due due' masked masked' hold hold' (waited nest log) (λ m k s. (waits_parts due (j ∷ outer) k s).0) none goes some most less r.patient))
 
 -- an own step that goes on
 pub own_logged : (nest : Nest) (hold hold' : ℕ) (masked masked' : Bool) (stack : List Kind) (due due' : Kind → Bool) (j : Kind)

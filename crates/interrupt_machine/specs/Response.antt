@@ -50,11 +50,10 @@ waited nest log k = fold (waited_next nest k) 0 log
 abbrev pub room : Bool → ℕ → ℕ
 room masked hold = if masked then hold else 0
 
--- Each waiting kind has waited for at most 8 counted steps, those for which the mask can still stand included; the
--- other kinds don't wait; and the mask can stand for 8 steps at most.
+-- Each kind has waited for at most 8 counted steps, those for which the mask can still stand included; and the mask can
+-- stand for 8 steps at most. A kind that no longer waits isn't asked about: its count begins anew at the next step.
 pub record Patient (nest : Nest) (hold : ℕ) (masked : Bool) (stack : List Kind) (due : Kind → Bool) (waits : Kind → ℕ) : Type 0 where
-  pub bound : (k : Kind) → is_waiting due stack k ≡ true → waits k + (if is_behind nest (innermost stack) k then 0 else room masked hold) ≤ 8
-  pub calm : (k : Kind) → is_waiting due stack k ≡ false → waits k ≡ 0
+  pub bound : (k : Kind) → waits k + (if is_behind nest (innermost stack) k then 0 else room masked hold) ≤ 8
   pub held : masked ≡ true → hold ≤ 8
 
 -- what the machine promises at the end of a log: no kind has waited for more than 8 counted steps, nor will

@@ -21,7 +21,8 @@ use Rattle.interrupt_machine.specs.Open.{due_now, is_idle}
 use Rattle.esc_core.specs.Brain.{Brain}
 use Rattle.esc_laws.specs.Steps.{Turned, journal, past_stall, Below, EachStep, StepFits}
 use Rattle.esc_laws.specs.Legal.{Legal}
-use Rattle.esc_laws.specs.Logged.{after_event, Logged, CoreTurn, turned}
+use Rattle.esc_laws.specs.Logged.{Logged, CoreTurn, turned}
+use Rattle.esc_laws.specs.World.{after_event}
 use Rattle.esc_laws.proofs.Pushes.{journal-push, step-push}
 use Rattle.trace_runner.specs.Run.{IsApart, StepBound, Outset, Runs, LeftBelow, StandsFor, nest_of, cost_of, newest}
 use Rattle.trace_runner.specs.declared.state.Runner.{Runner}

@@ -1,0 +1,194 @@
+-- Each stage of a run, once for all handlers: an entry, an own step, time, an event.
+use Rattle.std.proofs.Common.{◌≡◌, ◌≤◌, ◌<◌, ℕ, Bool, true, false, if◌then◌else◌, List, [], ◌∷◌, ◌++◌, reverse, refl, sym, ◌∙◌, ap, subst, arith, All, inl, inr, append-nil, append_assoc}
+use Rattle.std.proofs.lemmas.List.{reverse-append, reverse-reverse}
+use Rattle.std.proofs.lemmas.List.Elements.{All-nil, All-cons, All-push}
+use Rattle.esc_base.specs.declared.kind.Kind.{Kind}
+use Rattle.esc_base.specs.declared.kind.Kind.TheVariants as kind
+use Rattle.esc_base.specs.declared.event.Event.{Event}
+use Rattle.esc_base.specs.declared.event.Event.TheVariants as event
+use Rattle.esc_base.specs.declared.note.Note.{Note}
+use Rattle.esc_base.specs.Journal.{time_of}
+use Rattle.esc_base.specs.Numbers.{kind_number}
+use Rattle.esc_base.specs.Trace.{Line, line, tick_of, differ}
+use Rattle.esc_base.proofs.TraceLaws.{line-push}
+use Rattle.settings_block.specs.declared.stored.Loaded.{Loaded}
+use Rattle.timer_regs.specs.Bank.{Bank}
+use Rattle.timer_regs.specs.Effects.{after_entry, after_line}
+use Rattle.interrupt_machine.specs.declared.nest.Nest.{Nest}
+use Rattle.interrupt_machine.specs.Did.{accessed}
+use Rattle.interrupt_machine.specs.Open.{due_now}
+use Rattle.interrupt_machine.proofs.OpenKinds.{same_kind}
+use Rattle.arming.proofs.InOrder.{reverse-push}
+use Rattle.esc_core.specs.Brain.{Brain}
+use Rattle.esc_core.specs.Cap.{tick_at}
+use Rattle.esc_core.specs.Stepped.{Stepped}
+use Rattle.esc_core.specs.Firmware.{left_of, kind_step, counted_down, entered_core}
+use Rattle.esc_laws.specs.Place.{Place, next, place}
+use Rattle.esc_laws.specs.Windowed.{WindowRuleAt, WindowRule}
+use Rattle.esc_laws.specs.Nested.{NestRuleAt, NestRule, IsAboveAll}
+use Rattle.esc_laws.specs.Steps.{opening, is_entry}
+use Rattle.esc_laws.specs.Saves.{is_save}
+use Rattle.esc_laws.specs.World.{World, placed, so_far, onto, noted, enters, after_enter, after_step, step_notes, counted, open_left, at_time, after_event, after_outside}
+use Rattle.esc_laws.specs.Rooms.{Ground, Tie, Ties, AllFit, StepKeeps}
+use Rattle.esc_laws.proofs.Pushes.{All-later, place-push}
+use Rattle.esc_laws.proofs.Notes.{Said, said_push}
+use Rattle.esc_laws.proofs.Facts.{same_gates}
+use Rattle.esc_laws.proofs.Lines.{edge_now, edge_bank, line_changes, line_same}
+use Rattle.esc_laws.proofs.RoomSteps.{ground_noted}
+use Rattle.esc_laws.proofs.Laws.{law}
+
+-- ---- the notes in both orders
+
+place-none : place [] ≡ placed []
+unfolding place
+place-none = refl
+
+placed-reverse : (back : List Note) → placed back ≡ place (reverse back)
+placed-reverse [] = sym place-none
+placed-reverse (n ∷ back) = ap (λ (p : Place). next p n) (placed-reverse back) ∙ sym (place-push (reverse back) n) ∙ ap place (sym (reverse-append (n ∷ []) back))
+
+pub placed-is : (notes : List Note) → placed (reverse notes) ≡ place notes
+placed-is notes = placed-reverse (reverse notes) ∙ ap place (reverse-reverse notes)
+
+onto-reverse : (notes more : List Note) → onto more (reverse notes) ≡ reverse (notes ++ more)
+onto-reverse notes [] = ap reverse (sym (append-nil notes))
+onto-reverse notes (n ∷ more) = ap (λ (back : List Note). onto more back) (sym (reverse-push notes n)) ∙ onto-reverse (notes ++ n ∷ []) more ∙ ap reverse (append_assoc notes (n ∷ []) more)
+
+-- ---- what holds between two steps, in the words of the rooms
+
+abbrev pub world_of : Loaded → Nest → List Event → Brain → Bank → List Note → World
+world_of loaded nest trace c b rest = record { loaded = loaded; nest = nest; trace = trace; core = c; bank = b; back = reverse (opening loaded ++ rest) }
+
+pub record Stood (loaded : Loaded) (nest : Nest) (trace : List Event) (c : Brain) (b : Bank) (rest : List Note) (stack : List Kind) : Type 0 where
+  pub said : Said loaded nest trace b.time rest
+  pub ground : Ground (world_of loaded nest trace c b rest)
+  pub ties : (j : Kind) → Tie j (world_of loaded nest trace c b rest)
+  pub stack_is : (place (opening loaded ++ rest)).stack ≡ stack
+
+-- notes that fit are said
+all_said : (k : Kind) (w : World) (rest notes : List Note) → reverse (opening w.loaded ++ rest) ≡ w.back → Said w.loaded w.nest w.trace w.bank.time rest → AllFit k w notes → Said w.loaded w.nest w.trace w.bank.time (rest ++ notes)
+all_said k w rest [] e s f = subst (λ (r : List Note). Said w.loaded w.nest w.trace w.bank.time r) (sym (append-nil rest)) s
+all_said k w rest (n ∷ notes) e s f =
+    let at : placed w.back ≡ place (opening w.loaded ++ rest) = ap placed (sym e) ∙ placed-is (opening w.loaded ++ rest) in
+    let window : WindowRule w.loaded w.trace (opening w.loaded ++ rest) n =
+    subst (λ (back : List Note). WindowRuleAt w.loaded w.trace (place (opening w.loaded ++ rest)) back n) (sym e) (subst (λ (p : Place). WindowRuleAt w.loaded w.trace p w.back n) at f.0.window) in
+    let nest : NestRule w.nest (opening w.loaded ++ rest) n = subst (λ (p : Place). NestRuleAt w.nest p n) at f.0.nest in
+    subst (λ (r : List Note). Said w.loaded w.nest w.trace w.bank.time r) (append_assoc rest (n ∷ []) notes)
+    (all_said k (noted w n) (rest ++ n ∷ []) notes (reverse-push (opening w.loaded ++ rest) n ∙ ap (λ (back : List Note). n ∷ back) e)
+    (said_push w.loaded w.nest w.trace w.bank.time rest n s f.0.at window nest) f.1)
+
+-- ---- an own step
+
+counted_tie : (j : Kind) (w : World) → Tie j w → Tie j (counted w)
+counted_tie kind.Main w t = t
+counted_tie j w t = t
+
+counted_left : (k : Kind) (c : Brain) (b : Bank) → left_of (counted_down c b) k ≡ left_of c k
+counted_left kind.Main c b = refl
+counted_left k c b = refl
+
+-- a note of a handler's own step stands at its tick, is no I, and a P is MAIN's
+abbrev pub IsOwn : Kind → ℕ → Note → Type 0
+IsOwn k t n = (time_of n ≡ t) × (is_entry n ≡ false) × (is_save n ≡ true → k ≡ kind.Main)
+
+all_own : (k : Kind) (w : World) (notes : List Note) → AllFit k w notes → All (IsOwn k w.bank.time) notes
+all_own k w [] f = All-nil (IsOwn k w.bank.time)
+all_own k w (n ∷ notes) f = All-cons (IsOwn k w.bank.time) n notes (f.0.at, f.0.no_entry, f.0.save) (all_own k (noted w n) notes f.1)
+
+pub step_made : (k : Kind) (saved : Bool) (loaded : Loaded) (nest : Nest) (trace : List Event) (c : Brain) (b : Bank) (rest : List Note) (outer : List Kind) → Stood loaded nest trace c b rest (k ∷ outer) → ((j : Kind) → kind_number k < kind_number j → left_of c j ≡ 0) → 0 < left_of c k
+    → Stood loaded nest trace (kind_step k saved (counted_down c b) b).core (accessed b (kind_step k saved (counted_down c b) b).access) (rest ++ step_notes b.time k (kind_step k saved (counted_down c b) b)) (open_left k outer (kind_step k saved (counted_down c b) b))
+    × All (IsOwn k b.time) (step_notes b.time k (kind_step k saved (counted_down c b) b))
+step_made k saved loaded nest trace c b rest outer i above left =
+    let s : Stepped = kind_step k saved (counted_down c b) b in
+    let before : World = world_of loaded nest trace c b rest in
+    let w : World = counted before in
+    let on : (so_far w).stack ≡ k ∷ outer = ap (λ (p : Place). p.stack) (placed-is (opening loaded ++ rest)) ∙ i.stack_is in
+    let keeps : StepKeeps k outer w s = (law k).steps w saved outer i.ground (λ j. counted_tie j before (i.ties j)) (λ j l. counted_left j c b ∙ above j l) on (rw (counted_left k c b) left) in
+    let back : onto (step_notes b.time k s) (reverse (opening loaded ++ rest)) ≡ reverse (opening loaded ++ (rest ++ step_notes b.time k s)) =
+    onto-reverse (opening loaded ++ rest) (step_notes b.time k s) ∙ ap reverse (append_assoc (opening loaded) rest (step_notes b.time k s)) in
+    let gates = same_gates b s.access in (
+      record {
+        said = subst (λ (t : ℕ). Said loaded nest trace t (rest ++ step_notes b.time k s)) (sym gates.time) (all_said k w rest (step_notes b.time k s) refl i.said keeps.fits);
+        ground = subst (λ (ns : List Note). Ground (record (after_step k w s) { back = ns })) back keeps.ground;
+        ties = λ j. subst (λ (ns : List Note). Tie j (record (after_step k w s) { back = ns })) back (elim (same_kind j k) [
+          | inl e ↦ subst (λ (x : Kind). Tie x (after_step k w s)) (sym e) keeps.tie
+          | inr ne ↦ keeps.others j ne (counted_tie j before (i.ties j))
+        ]);
+        stack_is = ap (λ (p : Place). p.stack) (sym (placed-is (opening loaded ++ (rest ++ step_notes b.time k s))) ∙ ap placed (sym back)) ∙ keeps.stack_is;
+      },
+      all_own k w (step_notes b.time k s) keeps.fits,
+    )
+
+-- ---- an entry
+
+ground_enter : (k : Kind) (w : World) → Ground w → Ground (after_enter k w)
+ground_enter kind.Main w g = ground_noted w (enters kind.Main w.bank.time) refl refl tt refl g
+ground_enter k w g = ground_noted w (enters k w.bank.time) refl refl tt refl g
+
+pub enter_time : (k : Kind) (b : Bank) → (after_entry b k).time ≡ b.time
+enter_time kind.Main b = refl
+enter_time k b = refl
+
+enter_stack : (k : Kind) (p : Place) (t : ℕ) → (next p (enters k t)).stack ≡ k ∷ p.stack
+enter_stack kind.Main p t = refl
+enter_stack k p t = refl
+
+pub enter_stood : (k : Kind) (loaded : Loaded) (nest : Nest) (trace : List Event) (c : Brain) (b : Bank) (rest : List Note) (stack : List Kind) → Stood loaded nest trace c b rest stack → left_of c k ≡ 0 → due_now c.orders.save_asked b k ≡ true
+    → IsAboveAll nest stack (kind_number k) → Stood loaded nest trace (entered_core c k) (after_entry b k) (rest ++ enters k b.time ∷ []) (k ∷ stack)
+enter_stood k loaded nest trace c b rest stack i none due above =
+    let w : World = world_of loaded nest trace c b rest in
+    let n : Note = enters k b.time in
+    let back : n ∷ reverse (opening loaded ++ rest) ≡ reverse (opening loaded ++ (rest ++ n ∷ [])) = sym (reverse-push (opening loaded ++ rest) n) ∙ ap reverse (append_assoc (opening loaded) rest (n ∷ [])) in
+    record {
+      said = subst (λ (t : ℕ). Said loaded nest trace t (rest ++ n ∷ [])) (sym (enter_time k b)) (said_push loaded nest trace b.time rest n i.said refl tt (subst (λ (st : List Kind). IsAboveAll nest st (kind_number k)) (sym i.stack_is) above));
+      ground = subst (λ (ns : List Note). Ground (record (after_enter k w) { back = ns })) back (ground_enter k w i.ground);
+      ties = λ j. subst (λ (ns : List Note). Tie j (record (after_enter k w) { back = ns })) back (elim (same_kind j k) [
+        | inl e ↦ subst (λ (x : Kind). Tie x (after_enter k w)) (sym e) ((law k).entered w i.ground i.ties none due)
+        | inr ne ↦ (law k).beside w j ne (i.ties j)
+      ]);
+      stack_is = ap (λ (ns : List Note). (place ns).stack) (sym (append_assoc (opening loaded) rest (n ∷ []))) ∙ ap (λ (p : Place). p.stack) (place-push (opening loaded ++ rest) n) ∙ enter_stack k (place (opening loaded ++ rest)) b.time ∙ ap (λ (st : List Kind). k ∷ st) i.stack_is;
+    }
+
+-- ---- time goes on
+
+pub later_ground : (w : World) (u : ℕ) → w.bank.time ≤ u → u < 2147483648 → Ground w → Ground (at_time w u)
+later_ground w u from small g = record { control = g.control; orders = g.orders; level = g.level; edges = All-later (λ e. e.t.0) (line w.trace).edges w.bank.time u from g.edges; small = small }
+
+-- ---- an event at now
+
+outside_is : (b : Bank) (e : Event) → after_event b e ≡ record b { level = (after_event b e).level; window = (after_event b e).window }
+outside_is b (event.Edge at level) = by_test (differ b.level level)
+  where
+    by_test : (v : Bool) → (if v then edge_bank b level else b) ≡ record b { level = (if v then edge_bank b level else b).level; window = (if v then edge_bank b level else b).window }
+    by_test true = refl
+    by_test false = refl
+outside_is b e = refl
+
+edge_ground : (v : Bool) (w : World) (level : Bool) → differ w.bank.level level ≡ v → Ground w
+    → Ground (record w { trace = w.trace ++ event.Edge (tick_at w.bank.time) level ∷ []; bank = record w.bank { level = (if v then edge_bank w.bank level else w.bank).level } })
+edge_ground true w level d g =
+    let new = line_changes w.trace w.bank level (subst (λ (l : Bool). differ l level ≡ true) g.level d) in
+    record {
+      control = g.control;
+      orders = g.orders;
+      level = ap (λ (l : Line). l.level) (sym new);
+      edges = rw new (All-push (λ y. y.t.0 ≤ w.bank.time) (line w.trace).edges (edge_now w.bank level) g.edges (omega arith));
+      small = g.small;
+    }
+edge_ground false w level d g =
+    let same = line_same w.trace w.bank level (subst (λ (l : Bool). differ l level ≡ false) g.level d) in
+    record { control = g.control; orders = g.orders; level = rw same g.level; edges = rw same g.edges; small = g.small }
+
+outside_ground : (w : World) (e : Event) → tick_of e ≡ w.bank.time → Ground w → Ground (after_outside w e)
+outside_ground w (event.Edge at level) is g =
+    subst (λ (n : ℕ). Ground (record w { trace = w.trace ++ event.Edge (tick_at n) level ∷ []; bank = record w.bank { level = (after_line w.bank level).level; window = (after_line w.bank level).window } })) (sym is)
+    (edge_ground (differ w.bank.level level) w level refl g)
+outside_ground w (event.Comp at level) is g = record { control = g.control; orders = g.orders; level = rw (line-push w.trace (event.Comp at level)) g.level; edges = rw (line-push w.trace (event.Comp at level)) g.edges; small = g.small }
+outside_ground w (event.Serial at byte) is g = record { control = g.control; orders = g.orders; level = rw (line-push w.trace (event.Serial at byte)) g.level; edges = rw (line-push w.trace (event.Serial at byte)) g.edges; small = g.small }
+outside_ground w (event.Stall at n) is g = record { control = g.control; orders = g.orders; level = rw (line-push w.trace (event.Stall at n)) g.level; edges = rw (line-push w.trace (event.Stall at n)) g.edges; small = g.small }
+
+pub event_ground : (w : World) (e : Event) → tick_of e ≡ w.bank.time → Ground w → Ground (record w { trace = w.trace ++ e ∷ []; bank = after_event w.bank e })
+event_ground w e is g = subst (λ (b : Bank). Ground (record w { trace = w.trace ++ e ∷ []; bank = b })) (sym (outside_is w.bank e)) (outside_ground w e is g)
+
+pub event_tie : (j : Kind) (w : World) (e : Event) → tick_of e ≡ w.bank.time → Ground w → Ties w → Tie j (record w { trace = w.trace ++ e ∷ []; bank = after_event w.bank e })
+event_tie j w e is g t = subst (λ (b : Bank). Tie j (record w { trace = w.trace ++ e ∷ []; bank = b })) (sym (outside_is w.bank e)) ((law j).outside w e is g t)

@@ -1,0 +1,84 @@
+-- What a step finds: the trace, the core, the registers, and the notes so far.
+use Rattle.std.specs.Prelude.{ℕ, if◌then◌else◌, List, [], ◌∷◌, ◌++◌, reverse}
+use Rattle.esc_base.specs.declared.kind.Kind.{Kind}
+use Rattle.esc_base.specs.declared.event.Event.{Event}
+use Rattle.esc_base.specs.declared.event.Event.TheVariants as event
+use Rattle.esc_base.specs.declared.note.Note.{Note}
+use Rattle.esc_base.specs.declared.note.Note.TheVariants as note
+use Rattle.esc_base.specs.Numbers.{kind_number}
+use Rattle.settings_block.specs.declared.stored.Loaded.{Loaded}
+use Rattle.timer_regs.specs.Bank.{Bank}
+use Rattle.timer_regs.specs.Effects.{advanced, after_entry, after_line}
+use Rattle.interrupt_machine.specs.declared.nest.Nest.{Nest}
+use Rattle.interrupt_machine.specs.Did.{accessed}
+use Rattle.esc_core.specs.Brain.{Brain}
+use Rattle.esc_core.specs.Cap.{tick_at}
+use Rattle.esc_core.specs.Firmware.{entered_core, counted_down}
+use Rattle.esc_core.specs.Stepped.{Stepped}
+use Rattle.esc_laws.specs.Place.{Place, next, nowhere}
+use Rattle.esc_laws.specs.Steps.{Turned, journal}
+
+pub record World : Type 0 where
+  pub loaded : Loaded
+  pub nest : Nest
+  pub trace : List Event
+  pub core : Brain
+  pub bank : Bank
+  -- the notes so far, the newest first
+  pub back : List Note
+
+abbrev pub world : Loaded → Nest → List Event → Brain → Bank → List Turned → World
+world loaded nest trace c b log = record { loaded = loaded; nest = nest; trace = trace; core = c; bank = b; back = reverse (journal loaded log) }
+
+-- the place after these notes, the newest first
+abbrev pub placed : List Note → Place
+placed [] = nowhere
+placed (n ∷ back) = next (placed back) n
+
+abbrev pub so_far : World → Place
+so_far w = placed w.back
+
+-- notes, the oldest first, on those before
+abbrev pub onto : List Note → List Note → List Note
+onto [] back = back
+onto (n ∷ notes) back = onto notes (n ∷ back)
+
+-- ---- what happens
+
+abbrev pub noted : World → Note → World
+noted w n = record w { back = n ∷ w.back }
+
+abbrev pub enters : Kind → ℕ → Note
+enters k t = note.Enter (tick_at t) (kind_number k)
+
+abbrev pub after_enter : Kind → World → World
+after_enter k w = record w { core = entered_core w.core k; bank = after_entry w.bank k; back = enters k w.bank.time ∷ w.back }
+
+-- the notes of a step, with its return
+abbrev pub step_notes : ℕ → Kind → Stepped → List Note
+step_notes t k s = s.notes ++ (if s.over then note.Leave (tick_at t) (kind_number k) ∷ [] else [])
+
+abbrev pub after_step : Kind → World → Stepped → World
+after_step k w s = record w { core = s.core; bank = accessed w.bank s.access; back = onto (step_notes w.bank.time k s) w.back }
+
+-- a masked step is counted
+abbrev pub counted : World → World
+counted w = record w { core = counted_down w.core w.bank }
+
+-- the open kinds after a step
+abbrev pub open_left : Kind → List Kind → Stepped → List Kind
+open_left k outer s = if s.over then outer else k ∷ outer
+
+abbrev pub at_time : World → ℕ → World
+at_time w u = record w { bank = advanced w.bank u }
+
+-- what an event at now leaves of the registers: an edge of the signal line changes them, others nothing
+abbrev pub after_event : Bank → Event → Bank
+after_event b (event.Edge at level) = after_line b level
+after_event b (event.Comp at level) = b
+after_event b (event.Serial at byte) = b
+after_event b (event.Stall at n) = b
+
+-- an event touches these registers alone
+abbrev pub after_outside : World → Event → World
+after_outside w e = record w { trace = w.trace ++ e ∷ []; bank = record w.bank { level = (after_event w.bank e).level; window = (after_event w.bank e).window } }
