@@ -1,6 +1,7 @@
 -- The steps of MAIN: where a save is asked for it saves, and then it returns.
 use Rattle.std.specs.Prelude.{ℕ, Bool, true, false, if◌then◌else◌, List, [], ◌∷◌, Option, Some, None}
 use Rattle.esc_base.specs.declared.note.Note.TheVariants as note
+use Rattle.esc_base.specs.Numbers.{as_tick}
 use Rattle.timer_regs.specs.Bank.{Bank}
 use Rattle.interrupt_machine.specs.Did.{NoAccess}
 use Rattle.settings_block.specs.Block.{block_of}
@@ -8,7 +9,6 @@ use Rattle.esc_core.specs.declared.state.MainAt.{MainAt}
 use Rattle.esc_core.specs.declared.state.MainAt.TheVariants as main
 use Rattle.esc_core.specs.declared.orders.Orders.{Orders}
 use Rattle.esc_core.specs.Brain.{Brain}
-use Rattle.esc_core.specs.Cap.{tick_at}
 use Rattle.esc_core.specs.Stepped.{Stepped, goes_on, goes_back}
 
 -- the result of a save in a P
@@ -21,7 +21,7 @@ abbrev pub saving_step : Bool → Brain → Bank → Stepped
 saving_step saved c b = record {
   core = record c { orders = record c.orders { save_asked = false } };
   access = NoAccess;
-  notes = note.Saved (tick_at b.time) (result_of saved) ∷ [];
+  notes = note.Saved (as_tick b.time) (result_of saved) ∷ [];
   over = false;
 }
 

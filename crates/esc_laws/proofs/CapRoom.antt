@@ -9,7 +9,7 @@ use Rattle.esc_base.specs.declared.event.Event.{Event}
 use Rattle.esc_base.specs.declared.event.Event.TheVariants as event
 use Rattle.esc_base.specs.declared.note.Note.{Note}
 use Rattle.esc_base.specs.declared.note.Note.TheVariants as note
-use Rattle.esc_base.specs.Numbers.{mode_number, why_number}
+use Rattle.esc_base.specs.Numbers.{mode_number, why_number, as_tick, bit_of}
 use Rattle.esc_base.specs.Trace.{Line, line, tick_of, differ}
 use Rattle.esc_base.proofs.TraceLaws.{line-push}
 use Rattle.edge_capture.specs.Modes.{most}
@@ -33,7 +33,7 @@ use Rattle.esc_core.specs.declared.orders.Orders.{Orders}
 use Rattle.esc_core.specs.Judge.{Inputs, inputs_of, judged}
 use Rattle.esc_core.specs.Orders.{obeyed_if}
 use Rattle.esc_core.specs.Stepped.{goes_on}
-use Rattle.esc_core.specs.Cap.{tick_at, bit_of, act_in, after_edges, after_copy, command_note, judge_step, next_edge, opens, takes, cap_step}
+use Rattle.esc_core.specs.Cap.{act_in, after_edges, after_copy, command_note, judge_step, next_edge, opens, takes, cap_step}
 use Rattle.esc_core.specs.Firmware.{cap_left, counted_down}
 use Rattle.esc_core.proofs.Bounds.{cap_moves}
 use Rattle.esc_laws.specs.Place.{Signal, Listens, Judged, Rests}
@@ -86,7 +86,7 @@ open_window : (x : World) (outer : List Kind) (s : Signal) → Ground x → (so_
     → ((so_far x).verdicts ≡ 1) ⊎ (((so_far x).verdicts ≡ 0) × ((so_far x).windows ≡ 0)) → (so_far x).stack ≡ kind.Cap ∷ outer → StepKeeps kind.Cap outer x (opens x.core x.bank)
 open_window x outer s g e may none done on = record {
   fits = (record { at = refl; no_entry = refl; save = λ e. cc; window = (rw e may, g.control.ties.mode_is); nest = inside (so_far x).stack kind.Cap outer on }, tt);
-  ground = ground_noted x (note.Window (tick_at x.bank.time) (mode_number x.core.control.mode)) refl refl tt refl g;
+  ground = ground_noted x (note.Window (as_tick x.bank.time) (mode_number x.core.control.mode)) refl refl tt refl g;
   tie = (opens_tied x.trace x.core x.bank (so_far x) g.edges none done, record { past = λ k d l. absurd (omega arith); order = λ a b le l. absurd (omega arith); few = omega arith });
   others = elim [ kind.Cap ↦ λ ne t. absurd (ne refl) | j ↦ λ ne t. t ];
   stack_is = on;
@@ -134,21 +134,21 @@ still_asked main.Work o a saves m = (obeyed_save o a m.0, m.1)
 good : (o : Option Act) (x : World) (outer : List Kind) (frame : Frame) (w m : ℕ) → Ground x → WindowSound x.bank.window x.bank.time → IsClosing (cap_view x.trace x.core x.bank (so_far x)) w m
     → AnswersAt x.loaded x.trace (so_far x).signal (so_far x).cap_entered x.bank.time (verdict_note x.bank.time (Good frame)) → (so_far x).stack ≡ kind.Cap ∷ outer
     → ((act : Act) → o ≡ Some act → act_of (number_of act) ≡ Some act)
-    → Stands (after_frame x.core.control frame.value) (with_frame (tick_at x.bank.time) frame.value (bit_of frame.telemetry) o x.back)
-    → StepKeeps kind.Cap outer x (record { core = record x.core { cap_at = cap.Open; control = after_frame x.core.control frame.value; orders = obeyed_if x.core.orders o }; access = NoAccess; notes = note.Good (tick_at x.bank.time) frame.value (bit_of frame.telemetry) ∷ command_note x.bank.time o; over = false })
+    → Stands (after_frame x.core.control frame.value) (with_frame (as_tick x.bank.time) frame.value (bit_of frame.telemetry) o x.back)
+    → StepKeeps kind.Cap outer x (record { core = record x.core { cap_at = cap.Open; control = after_frame x.core.control frame.value; orders = obeyed_if x.core.orders o }; access = NoAccess; notes = note.Good (as_tick x.bank.time) frame.value (bit_of frame.telemetry) ∷ command_note x.bank.time o; over = false })
 good None x outer frame w m g sound k answers on named st = record {
   fits = (record { at = refl; no_entry = refl; save = λ e. cc; window = answers; nest = inside (so_far x).stack kind.Cap outer on }, tt);
-  ground = record { control = st; orders = orders_other x.loaded x.core.orders (note.Good (tick_at x.bank.time) frame.value (bit_of frame.telemetry)) x.back refl g.orders; level = g.level; edges = g.edges; small = g.small };
+  ground = record { control = st; orders = orders_other x.loaded x.core.orders (note.Good (as_tick x.bank.time) frame.value (bit_of frame.telemetry)) x.back refl g.orders; level = g.level; edges = g.edges; small = g.small };
   tie = (good_tied None frame x.trace x.core x.bank (so_far x) w m k, sound);
   others = elim [ kind.Cap ↦ λ ne t. absurd (ne refl) | j ↦ λ ne t. t ];
   stack_is = on;
 }
 good (Some act) x outer frame w m g sound k answers on named st =
-    let n : Note = note.Good (tick_at x.bank.time) frame.value (bit_of frame.telemetry) in
+    let n : Note = note.Good (as_tick x.bank.time) frame.value (bit_of frame.telemetry) in
     let here = inside (so_far x).stack kind.Cap outer on in
     record {
       fits = (record { at = refl; no_entry = refl; save = λ e. cc; window = answers; nest = here }, (record { at = refl; no_entry = refl; save = λ e. cc; window = tt; nest = here }, tt));
-      ground = record { control = st; orders = obeyed_tied x.loaded x.core.orders act (tick_at x.bank.time) (n ∷ x.back) (named act refl) (orders_other x.loaded x.core.orders n x.back refl g.orders); level = g.level; edges = g.edges; small = g.small };
+      ground = record { control = st; orders = obeyed_tied x.loaded x.core.orders act (as_tick x.bank.time) (n ∷ x.back) (named act refl) (orders_other x.loaded x.core.orders n x.back refl g.orders); level = g.level; edges = g.edges; small = g.small };
       tie = (good_tied (Some act) frame x.trace x.core x.bank (so_far x) w m k, sound);
       others = elim [ kind.Cap ↦ λ ne t. absurd (ne refl) | kind.Main ↦ λ ne t. still_asked x.core.main_at x.core.orders (Some act) (so_far x).saves t | j ↦ λ ne t. t ];
       stack_is = on;
@@ -158,24 +158,24 @@ judges : (j : Judgement) (x : World) (outer : List Kind) (w m : ℕ) → Ground 
     → AnswersAt x.loaded x.trace (so_far x).signal (so_far x).cap_entered x.bank.time (verdict_note x.bank.time j) → (so_far x).stack ≡ kind.Cap ∷ outer → StepKeeps kind.Cap outer x (judge_step j x.core x.bank)
 judges (Good frame) x outer w m g sound k answers on =
     good (act_in x.core frame) x outer frame w m g sound k answers on (λ act e. acting_named (after_frame x.core.control frame.value).run.frames frame.value act e)
-    (frame_stands x.core.control x.back (tick_at x.bank.time) frame.value (bit_of frame.telemetry) g.control)
+    (frame_stands x.core.control x.back (as_tick x.bank.time) frame.value (bit_of frame.telemetry) g.control)
 judges (Bad why) x outer w m g sound k answers on = record {
   fits = (record { at = refl; no_entry = refl; save = λ e. cc; window = answers; nest = inside (so_far x).stack kind.Cap outer on }, tt);
-  ground = ground_noted x (note.Bad (tick_at x.bank.time) (why_number why)) refl refl tt refl g;
+  ground = ground_noted x (note.Bad (as_tick x.bank.time) (why_number why)) refl refl tt refl g;
   tie = ((record { verdict = ap (λ (n : ℕ). n + 1) k.no_verdict; taken = k.taken; running = k.hears.running; no_timer = k.hears.no_timer }, (refl, refl)), sound);
   others = elim [ kind.Cap ↦ λ ne t. absurd (ne refl) | j ↦ λ ne t. t ];
   stack_is = on;
 }
 judges (Found mode) x outer w m g sound k answers on = record {
   fits = (record { at = refl; no_entry = refl; save = λ e. cc; window = answers; nest = inside (so_far x).stack kind.Cap outer on }, tt);
-  ground = record { control = found_stands x.core.control x.back (tick_at x.bank.time) mode g.control; orders = orders_other x.loaded x.core.orders (note.Detected (tick_at x.bank.time) (mode_number mode)) x.back refl g.orders; level = g.level; edges = g.edges; small = g.small };
+  ground = record { control = found_stands x.core.control x.back (as_tick x.bank.time) mode g.control; orders = orders_other x.loaded x.core.orders (note.Detected (as_tick x.bank.time) (mode_number mode)) x.back refl g.orders; level = g.level; edges = g.edges; small = g.small };
   tie = ((record { verdict = ap (λ (n : ℕ). n + 1) k.no_verdict; taken = k.taken; running = k.hears.running; no_timer = k.hears.no_timer }, refl), sound);
   others = elim [ kind.Cap ↦ λ ne t. absurd (ne refl) | j ↦ λ ne t. t ];
   stack_is = on;
 }
 judges Nothing x outer w m g sound k answers on = record {
   fits = (record { at = refl; no_entry = refl; save = λ e. cc; window = answers; nest = inside (so_far x).stack kind.Cap outer on }, tt);
-  ground = ground_noted x (note.Nothing (tick_at x.bank.time)) refl refl tt refl g;
+  ground = ground_noted x (note.Nothing (as_tick x.bank.time)) refl refl tt refl g;
   tie = ((record { verdict = ap (λ (n : ℕ). n + 1) k.no_verdict; taken = k.taken; running = k.hears.running; no_timer = k.hears.no_timer }, (refl, refl)), sound);
   others = elim [ kind.Cap ↦ λ ne t. absurd (ne refl) | j ↦ λ ne t. t ];
   stack_is = on;
@@ -196,7 +196,7 @@ returns x outer g tied sound on = record {
     },
     tt,
   );
-  ground = ground_noted x (note.Leave (tick_at x.bank.time) 3) refl refl tt refl g;
+  ground = ground_noted x (note.Leave (as_tick x.bank.time) 3) refl refl tt refl g;
   tie = (back_tied x.trace x.core x.bank (so_far x) (so_far x).signal x.bank.time refl tied, sound);
   others = elim [ kind.Cap ↦ λ ne t. absurd (ne refl) | j ↦ λ ne t. t ];
   stack_is = popped (so_far x).stack kind.Cap outer on;
@@ -242,17 +242,17 @@ plain w e same le t = (
 )
 
 edge : (v : Bool) (w : World) (level : Bool) → differ w.bank.level level ≡ v → Ground w → CapTie w
-    → CapTie (record w { trace = w.trace ++ event.Edge (tick_at w.bank.time) level ∷ []; bank = record w.bank { level = (if v then edge_bank w.bank level else w.bank).level; window = (if v then edge_bank w.bank level else w.bank).window } })
+    → CapTie (record w { trace = w.trace ++ event.Edge (as_tick w.bank.time) level ∷ []; bank = record w.bank { level = (if v then edge_bank w.bank level else w.bank).level; window = (if v then edge_bank w.bank level else w.bank).window } })
 edge true w level d g t = (
-  signal_follows (so_far w).signal w.core.cap_at (cap_view w.trace w.core w.bank (so_far w)) (cap_view (w.trace ++ event.Edge (tick_at w.bank.time) level ∷ []) w.core (edge_bank w.bank level) (so_far w))
+  signal_follows (so_far w).signal w.core.cap_at (cap_view w.trace w.core w.bank (so_far w)) (cap_view (w.trace ++ event.Edge (as_tick w.bank.time) level ∷ []) w.core (edge_bank w.bank level) (so_far w))
       (edge_follows w.trace w.core w.bank (so_far w) level (ap (λ (l : Line). l.edges) (line_changes w.trace w.bank level (subst (λ (l : Bool). differ l level ≡ true) g.level d)))) t.0,
   edge_sound w.bank.window (edge_now w.bank level) t.1,
 )
-edge false w level d g t = plain w (event.Edge (tick_at w.bank.time) level) (line_same w.trace w.bank level (subst (λ (l : Bool). differ l level ≡ false) g.level d)) (omega arith) t
+edge false w level d g t = plain w (event.Edge (as_tick w.bank.time) level) (line_same w.trace w.bank level (subst (λ (l : Bool). differ l level ≡ false) g.level d)) (omega arith) t
 
 outside : (w : World) (e : Event) → tick_of e ≡ w.bank.time → Ground w → CapTie w → CapTie (after_outside w e)
 outside w (event.Edge at level) is g t =
-    subst (λ (n : ℕ). CapTie (record w { trace = w.trace ++ event.Edge (tick_at n) level ∷ []; bank = record w.bank { level = (after_line w.bank level).level; window = (after_line w.bank level).window } })) (sym is)
+    subst (λ (n : ℕ). CapTie (record w { trace = w.trace ++ event.Edge (as_tick n) level ∷ []; bank = record w.bank { level = (after_line w.bank level).level; window = (after_line w.bank level).window } })) (sym is)
     (edge (differ w.bank.level level) w level refl g t)
 outside w (event.Comp at level) is g t = plain w (event.Comp at level) (line-push w.trace (event.Comp at level)) (omega arith) t
 outside w (event.Serial at byte) is g t = plain w (event.Serial at byte) (line-push w.trace (event.Serial at byte)) (omega arith) t

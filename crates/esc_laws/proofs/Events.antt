@@ -5,6 +5,7 @@ use Rattle.esc_base.specs.declared.event.Event.{Event}
 use Rattle.esc_base.specs.declared.event.Event.TheVariants as event
 use Rattle.esc_base.specs.Journal.{time_of}
 use Rattle.esc_base.specs.Trace.{tick_of, differ}
+use Rattle.esc_base.specs.Numbers.{as_tick}
 use Rattle.edge_capture.specs.Window.{after_edge}
 use Rattle.settings_block.specs.declared.stored.Loaded.{Loaded}
 use Rattle.timer_regs.specs.Bank.{Bank}
@@ -13,7 +14,6 @@ use Rattle.interrupt_machine.specs.declared.nest.Nest.{Nest}
 use Rattle.interrupt_machine.specs.Response.{Patient}
 use Rattle.interrupt_machine.proofs.Waiting.{grow_patient, same_patient}
 use Rattle.esc_core.specs.Brain.{Brain}
-use Rattle.esc_core.specs.Cap.{tick_at}
 use Rattle.esc_laws.specs.Seen.{sees}
 use Rattle.esc_laws.specs.Steps.{Turned, journal, called, Below}
 use Rattle.esc_laws.specs.Tied.{Keeps}
@@ -49,7 +49,7 @@ record SameRegs (b b' : Bank) : Type 0 where
   masked : b'.masked ≡ b.masked
 
 same_regs : (b : Bank) (e : Event) → SameRegs b (after_event b e)
-same_regs b (event.Edge at level) = by_test (differ b.level level) (record b { level = level; window = after_edge b.window (record { t = tick_at b.time; level = level }) }) (record { time = refl; masked = refl })
+same_regs b (event.Edge at level) = by_test (differ b.level level) (record b { level = level; window = after_edge b.window (record { t = as_tick b.time; level = level }) }) (record { time = refl; masked = refl })
   where
     by_test : (v : Bool) (b' : Bank) → SameRegs b b' → SameRegs b (if v then b' else b)
     by_test true b' s = s

@@ -9,9 +9,10 @@ use Rattle.esc_base.specs.declared.signal.Mode.{Mode}
 use Rattle.esc_base.specs.declared.signal.Mode.TheVariants as mode
 use Rattle.esc_base.specs.declared.note.Note.{Note}
 use Rattle.esc_base.specs.declared.note.Note.TheVariants as note
-use Rattle.esc_base.specs.Numbers.{kind_number, mode_number}
+use Rattle.esc_base.specs.Numbers.{kind_number, mode_number, mode_of, as_tick}
+use Rattle.esc_base.specs.Times.{is_reached}
 use Rattle.timer_regs.specs.Bank.{Bank}
-use Rattle.timer_regs.specs.Effects.{after_read, written, is_readable, is_reached, mode_of, shown_edge}
+use Rattle.timer_regs.specs.Effects.{after_read, written, is_readable, shown_edge}
 use Rattle.timer_regs.specs.declared.regs.Reg.{Reg}
 use Rattle.timer_regs.specs.declared.regs.Reg.TheVariants as reg
 use Rattle.interrupt_machine.specs.declared.firmware.Did.{Did}
@@ -25,7 +26,7 @@ use Rattle.esc_core.specs.declared.state.TickAt.{TickAt}
 use Rattle.esc_core.specs.declared.state.TickAt.TheVariants as tick
 use Rattle.esc_core.specs.declared.state.MainAt.{MainAt}
 use Rattle.esc_core.specs.declared.state.MainAt.TheVariants as main
-use Rattle.esc_core.specs.Cap.{edge_of, tick_at}
+use Rattle.esc_core.specs.Cap.{edge_of}
 use Rattle.esc_core.specs.Firmware.{cap_left, tick_left, main_left}
 
 -- ---- an access leaves the gates and the time
@@ -157,7 +158,7 @@ mode_of-number mode.Servo = refl
 
 -- an edge at t
 abbrev at_level : ℕ → Bool → Edge
-at_level t level = record { t = tick_at t; level = level }
+at_level t level = record { t = as_tick t; level = level }
 
 falling_shown : (t : ℕ) → t < 2147483648 → (if nat_lt t 2147483648 then at_level t false else at_level (t - 2147483648) true) ≡ at_level t false
 falling_shown t l = rw (lt-ltb t 2147483648 l) refl

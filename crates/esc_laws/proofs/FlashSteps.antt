@@ -7,6 +7,7 @@ use Rattle.esc_base.specs.declared.event.Event.{Event}
 use Rattle.esc_base.specs.declared.note.Note.{Note}
 use Rattle.esc_base.specs.declared.note.Note.TheVariants as note
 use Rattle.esc_base.specs.Flash.{Told, IsWhole}
+use Rattle.esc_base.specs.Numbers.{as_tick}
 use Rattle.settings_block.specs.declared.stored.Loaded.{Loaded}
 use Rattle.settings_block.specs.Block.{block_of}
 use Rattle.timer_regs.specs.Bank.{Bank}
@@ -18,7 +19,6 @@ use Rattle.interrupt_machine.proofs.Waiting.{self_open}
 use Rattle.esc_core.specs.declared.state.MainAt.{MainAt}
 use Rattle.esc_core.specs.declared.state.MainAt.TheVariants as main
 use Rattle.esc_core.specs.Brain.{Brain}
-use Rattle.esc_core.specs.Cap.{tick_at}
 use Rattle.esc_core.specs.Background.{result_of, main_step, main_saves}
 use Rattle.esc_core.specs.Saving.{FlashDid, IsMade}
 use Rattle.esc_core.specs.Stepped.{IsStepped}
@@ -41,7 +41,7 @@ use Rattle.esc_laws.proofs.Stepping.{stepped_by}
 abbrev pub Flashes : Loaded → Told → Told → Told → ℕ → List Note → List Note → Type 0
 Flashes loaded first flash flash' t before notes =
     (All (λ n. is_save n ≡ false) notes × (flash' ≡ flash))
-    ⊎ ((r : ℕ) × (notes ≡ note.Saved (tick_at t) r ∷ []) × (FlashFits loaded first flash before → FlashFits loaded first flash' (before ++ note.Saved (tick_at t) r ∷ [])))
+    ⊎ ((r : ℕ) × (notes ≡ note.Saved (as_tick t) r ∷ []) × (FlashFits loaded first flash before → FlashFits loaded first flash' (before ++ note.Saved (as_tick t) r ∷ [])))
 
 -- ---- a kind but MAIN saves nothing
 
@@ -56,9 +56,9 @@ plain_kind k t notes ne own = All-weaker (IsOwn k t) (λ n. is_save n ≡ false)
 
 -- a save was made
 saved_flash : (saved : Bool) (loaded : Loaded) (first flash flash' : Told) (t : ℕ) (before : List Note) (block : List ℕ) → block ≡ block_of (settings_at loaded.settings (reverse before)) → IsWhole flash.bytes → IsWhole flash'.bytes
-    → FlashDid (Some block) saved flash flash' → FlashFits loaded first flash before → FlashFits loaded first flash' (before ++ note.Saved (tick_at t) (result_of saved) ∷ [])
-saved_flash true loaded first flash flash' t before block is whole whole' did fits = fits_saved loaded first flash flash' before (tick_at t) block is did fits
-saved_flash false loaded first flash flash' t before block is whole whole' did fits = fits_spoilt loaded first flash flash' before (tick_at t) did whole whole' fits
+    → FlashDid (Some block) saved flash flash' → FlashFits loaded first flash before → FlashFits loaded first flash' (before ++ note.Saved (as_tick t) (result_of saved) ∷ [])
+saved_flash true loaded first flash flash' t before block is whole whole' did fits = fits_saved loaded first flash flash' before (as_tick t) block is did fits
+saved_flash false loaded first flash flash' t before block is whole whole' did fits = fits_spoilt loaded first flash flash' before (as_tick t) did whole whole' fits
 
 work_flash : (v : Bool) (saved : Bool) (loaded : Loaded) (first flash flash' : Told) (c : Brain) (b : Bank) (before : List Note) → c.orders.save_asked ≡ v → v ≡ true → c.orders.settings ≡ settings_at loaded.settings (reverse before)
     → IsWhole flash.bytes → IsWhole flash'.bytes → FlashDid (main_saves main.Work c.orders) saved flash flash'
@@ -68,8 +68,8 @@ work_flash true saved loaded first flash flash' c b before e up is whole whole' 
 work_flash false saved loaded first flash flash' c b before e up is whole whole' did = cc
 
 -- another step of MAIN
-back_flash : (loaded : Loaded) (first flash flash' : Told) (t : ℕ) (before : List Note) → flash' ≡ flash → Flashes loaded first flash flash' t before (note.Leave (tick_at t) 0 ∷ [])
-back_flash loaded first flash flash' t before same = inl (All-cons (λ n. is_save n ≡ false) (note.Leave (tick_at t) 0) [] refl (All-nil (λ n. is_save n ≡ false)), same)
+back_flash : (loaded : Loaded) (first flash flash' : Told) (t : ℕ) (before : List Note) → flash' ≡ flash → Flashes loaded first flash flash' t before (note.Leave (as_tick t) 0 ∷ [])
+back_flash loaded first flash flash' t before same = inl (All-cons (λ n. is_save n ≡ false) (note.Leave (as_tick t) 0) [] refl (All-nil (λ n. is_save n ≡ false)), same)
 
 main_flash : (at : MainAt) (saved : Bool) (loaded : Loaded) (first flash flash' : Told) (c : Brain) (b : Bank) (before : List Note) → MainTied at c.orders.save_asked (placed (reverse before)).saves → c.orders.settings ≡ settings_at loaded.settings (reverse before)
     → IsWhole flash.bytes → IsWhole flash'.bytes → FlashDid (main_saves at c.orders) saved flash flash'
@@ -90,7 +90,7 @@ flashes : (loaded : Loaded) (nest : Nest) (cost : ℕ) (trace : List Event) (c c
     → Logged loaded nest cost trace b.time c b stack log → IsWhole flash.bytes → IsWhole flash'.bytes → CoreTurn nest c stack b flash notes c' stack' b' flash'
     → Flashes loaded first flash flash' b.time (journal loaded log) notes
 flashes loaded nest cost trace c c' b b' first flash flash' stack stack' log notes l whole whole' (inl e) =
-    inl (rw e.1.notes_are (All-cons (λ n. is_save n ≡ false) (note.Enter (tick_at b.time) _) [] refl (All-nil (λ n. is_save n ≡ false))), e.2)
+    inl (rw e.1.notes_are (All-cons (λ n. is_save n ≡ false) (note.Enter (as_tick b.time) _) [] refl (All-nil (λ n. is_save n ≡ false))), e.2)
 flashes loaded nest cost trace c c' b b' first flash flash' stack stack' log notes l whole whole' (inr e) =
     own_flash e.0 e.1 e.2 e.3.innermost_is e.3.stepped e.3.notes_are
   where
@@ -134,4 +134,4 @@ front_flash loaded nest cost trace c c' b b' first flash flash' stack stack' log
   where
     by_flash : Flashes loaded first flash flash' b.time (journal loaded log) notes → FlashFits loaded first flash' (journal loaded log ++ (front ++ last ∷ []))
     by_flash (inl f) = rw f.1 (fits_pushes loaded first flash (journal loaded log) (front ++ last ∷ []) (all_front (λ n. is_save n ≡ false) (front ++ last ∷ []) left_out (rw split f.0)) fits)
-    by_flash (inr s) = rw (alone (note.Saved (tick_at b.time) s.0) last front left_out (split ∙ s.1)) (s.2 fits)
+    by_flash (inr s) = rw (alone (note.Saved (as_tick b.time) s.0) last front left_out (split ∙ s.1)) (s.2 fits)

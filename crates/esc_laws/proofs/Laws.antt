@@ -3,8 +3,7 @@ use Rattle.std.proofs.Common.{refl, lit≤}
 use Rattle.esc_base.specs.declared.kind.Kind.{Kind}
 use Rattle.esc_base.specs.declared.kind.Kind.TheVariants as kind
 use Rattle.esc_base.specs.declared.note.Note.TheVariants as note
-use Rattle.esc_base.specs.Numbers.{kind_number}
-use Rattle.esc_core.specs.Cap.{tick_at}
+use Rattle.esc_base.specs.Numbers.{kind_number, as_tick}
 use Rattle.esc_core.specs.Stepped.{goes_back}
 use Rattle.esc_core.specs.Firmware.{left_of, shut, counted_down}
 use Rattle.esc_core.proofs.Bounds.{bare_moves}
@@ -26,7 +25,7 @@ law k = record {
   beside = λ w. elim [ kind.Main ↦ λ ne t. t | j ↦ λ ne t. t ];
   steps = λ w saved outer g t above on left. record {
     fits = (record { at = refl; no_entry = refl; save = λ e. cc; window = λ e. cc; nest = (inside (so_far w).stack k outer on, tt) }, tt);
-    ground = ground_noted w (note.Leave (tick_at w.bank.time) (kind_number k)) refl refl tt refl g;
+    ground = ground_noted w (note.Leave (as_tick w.bank.time) (kind_number k)) refl refl tt refl g;
     tie = tt;
     others = elim [ kind.Main ↦ λ ne t. t | j ↦ λ ne t. t ];
     stack_is = popped (so_far w).stack k outer on;

@@ -3,10 +3,10 @@ use Rattle.std.proofs.Common.{◌≡◌, ◌<◌, ◌+◌, ℕ, Bool, true, List
 use Rattle.esc_base.specs.declared.kind.Kind.{Kind}
 use Rattle.esc_base.specs.declared.kind.Kind.TheVariants as kind
 use Rattle.esc_base.specs.declared.note.Note.TheVariants as note
+use Rattle.esc_base.specs.Numbers.{as_tick}
 use Rattle.arming.proofs.FrameTies.{other_stands}
 use Rattle.esc_core.specs.declared.state.MainAt.{MainAt}
 use Rattle.esc_core.specs.declared.state.MainAt.TheVariants as main
-use Rattle.esc_core.specs.Cap.{tick_at}
 use Rattle.esc_core.specs.Background.{result_of, saving_step, main_step}
 use Rattle.esc_core.specs.Firmware.{main_left, counted_down}
 use Rattle.esc_core.proofs.Bounds.{main_moves}
@@ -22,8 +22,8 @@ saves : (w : World) (saved : Bool) (outer : List Kind) → Ground w → w.core.o
 saves w saved outer g asked none on = record {
   fits = (record { at = refl; no_entry = refl; save = λ e. refl; window = tt; nest = inside (so_far w).stack kind.Main outer on }, tt);
   ground = record {
-    control = other_stands (note.Saved (tick_at w.bank.time) (result_of saved)) w.core.control w.back refl refl (sym g.orders.save_is ∙ asked) g.control;
-    orders = saved_tied w.loaded w.core.orders (tick_at w.bank.time) (result_of saved) w.back g.orders;
+    control = other_stands (note.Saved (as_tick w.bank.time) (result_of saved)) w.core.control w.back refl refl (sym g.orders.save_is ∙ asked) g.control;
+    orders = saved_tied w.loaded w.core.orders (as_tick w.bank.time) (result_of saved) w.back g.orders;
     level = g.level;
     edges = g.edges;
     small = g.small;
@@ -39,7 +39,7 @@ steps main.Shut w saved outer g t on left = absurd (omega arith)
 steps main.Work w saved outer g t on left = if_true w.core.orders.save_asked kind.Main outer w _ _ t.0 (saves w saved outer g t.0 t.1 on)
 steps main.Back w saved outer g t on left = record {
   fits = (record { at = refl; no_entry = refl; save = λ e. cc; window = λ e. cc; nest = (inside (so_far w).stack kind.Main outer on, t) }, tt);
-  ground = ground_noted w (note.Leave (tick_at w.bank.time) 0) refl refl tt refl g;
+  ground = ground_noted w (note.Leave (as_tick w.bank.time) 0) refl refl tt refl g;
   tie = tt;
   others = elim [ kind.Main ↦ λ ne t. absurd (ne refl) | j ↦ λ ne t. t ];
   stack_is = popped (so_far w).stack kind.Main outer on;

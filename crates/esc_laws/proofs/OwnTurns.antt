@@ -4,7 +4,7 @@ use Rattle.std.proofs.lemmas.Bool.{le-ltb}
 use Rattle.esc_base.specs.declared.kind.Kind.{Kind}
 use Rattle.esc_base.specs.declared.note.Note.{Note}
 use Rattle.esc_base.specs.declared.note.Note.TheVariants as note
-use Rattle.esc_base.specs.Numbers.{kind_number}
+use Rattle.esc_base.specs.Numbers.{kind_number, as_tick}
 use Rattle.timer_regs.specs.Bank.{Bank}
 use Rattle.interrupt_machine.specs.declared.firmware.Did.{Did}
 use Rattle.interrupt_machine.specs.declared.firmware.Did.TheVariants.{More, Return}
@@ -13,7 +13,6 @@ use Rattle.interrupt_machine.specs.Open.{innermost, is_open, IsStack}
 use Rattle.interrupt_machine.specs.Turn.{leave_note, own_notes}
 use Rattle.interrupt_machine.proofs.OpenKinds.{live_more, live_less, same_kind}
 use Rattle.esc_core.specs.Brain.{Brain}
-use Rattle.esc_core.specs.Cap.{tick_at}
 use Rattle.esc_core.specs.Stepped.{Stepped, IsStepped, is_return}
 use Rattle.esc_core.specs.Firmware.{left_of, need_of, kind_step, counted_down, is_stray}
 use Rattle.esc_core.proofs.Bounds.{Bounds}
@@ -33,7 +32,7 @@ steady k c b stack keeps i = by_mask b.masked c.hold (need_of c k) (λ m. keeps.
 
 -- ---- its notes
 
-leave_is : (did : Did) (b' : Bank) (k : Kind) (v : Bool) → is_return did ≡ v → leave_note b' k did ≡ (if v then note.Leave (tick_at b'.time) (kind_number k) ∷ [] else [])
+leave_is : (did : Did) (b' : Bank) (k : Kind) (v : Bool) → is_return did ≡ v → leave_note b' k did ≡ (if v then note.Leave (as_tick b'.time) (kind_number k) ∷ [] else [])
 leave_is (More own) b' k v e = rw (sym e) refl
 leave_is (Return own) b' k v e = rw (sym e) refl
 
@@ -42,7 +41,7 @@ own_are k b b' s did c' i =
     let same : SameGates b b' = subst (λ (x : Bank). SameGates b x) (sym i.bank_is) (same_gates b s.access) in
     plain_notes b b' k did same
     ∙ ap (λ (ns : List Note). ns ++ leave_note b' k did) i.notes_are
-    ∙ ap (λ (ns : List Note). s.notes ++ ns) (leave_is did b' k s.over i.over_is ∙ ap (λ (t : ℕ). if s.over then note.Leave (tick_at t) (kind_number k) ∷ [] else []) same.time)
+    ∙ ap (λ (ns : List Note). s.notes ++ ns) (leave_is did b' k s.over i.over_is ∙ ap (λ (t : ℕ). if s.over then note.Leave (as_tick t) (kind_number k) ∷ [] else []) same.time)
 
 -- ---- what holds between any two steps
 

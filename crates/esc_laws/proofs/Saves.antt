@@ -9,6 +9,7 @@ use Rattle.esc_base.specs.declared.note.Note.{Note}
 use Rattle.esc_base.specs.declared.note.Note.TheVariants as note
 use Rattle.esc_base.specs.Flash.{Told, and_front, blank, erased, programmed, IsWhole}
 use Rattle.esc_base.specs.Outside.{Rose}
+use Rattle.esc_base.specs.Numbers.{as_tick}
 use Rattle.dshot_commands.specs.declared.act.Act.{Act}
 use Rattle.dshot_commands.specs.declared.act.Act.TheVariants.{Beacon, Direction, ThreeD, Save, Extended, Spin}
 use Rattle.dshot_commands.specs.Act.{act_of, acting, frames_needed, number_of}
@@ -20,7 +21,6 @@ use Rattle.settings_block.specs.Stored.{KeepsBelow}
 use Rattle.settings_block.specs.Block.{block_of}
 use Rattle.arming.proofs.InOrder.{reverse-push}
 use Rattle.esc_core.specs.declared.orders.Orders.{Orders}
-use Rattle.esc_core.specs.Cap.{tick_at}
 use Rattle.esc_core.specs.Orders.{obeyed}
 use Rattle.esc_core.specs.Judge.{inputs_of}
 use Rattle.esc_core.specs.Saving.{IsSaved, IsSpoilt}
@@ -178,8 +178,8 @@ fits_start loaded first notes a = fits_pushes loaded first first [] notes a (fit
 -- the two first notes are no saves
 pub first_unsaved : (fault : Option BlockFault) → All (λ n. is_save n ≡ false) (first_notes fault)
 first_unsaved fault =
-    All-cons (λ n. is_save n ≡ false) (note.Up (tick_at 0) (load_number fault)) (note.Window (tick_at 0) 0 ∷ []) refl
-    (All-cons (λ n. is_save n ≡ false) (note.Window (tick_at 0) 0) [] refl (All-nil (λ n. is_save n ≡ false)))
+    All-cons (λ n. is_save n ≡ false) (note.Up (as_tick 0) (load_number fault)) (note.Window (as_tick 0) 0 ∷ []) refl
+    (All-cons (λ n. is_save n ≡ false) (note.Window (as_tick 0) 0) [] refl (All-nil (λ n. is_save n ≡ false)))
 
 -- ---- parts of bytes stand in the parts of the places
 

@@ -8,7 +8,7 @@ use Rattle.esc_base.specs.declared.event.Event.{Event}
 use Rattle.esc_base.specs.declared.event.Event.TheVariants as event
 use Rattle.esc_base.specs.declared.note.Note.{Note}
 use Rattle.esc_base.specs.Journal.{time_of}
-use Rattle.esc_base.specs.Numbers.{kind_number}
+use Rattle.esc_base.specs.Numbers.{kind_number, as_tick}
 use Rattle.esc_base.specs.Trace.{Line, line, tick_of, differ}
 use Rattle.esc_base.proofs.TraceLaws.{line-push}
 use Rattle.settings_block.specs.declared.stored.Loaded.{Loaded}
@@ -20,7 +20,6 @@ use Rattle.interrupt_machine.specs.Open.{due_now}
 use Rattle.interrupt_machine.proofs.OpenKinds.{same_kind}
 use Rattle.arming.proofs.InOrder.{reverse-push}
 use Rattle.esc_core.specs.Brain.{Brain}
-use Rattle.esc_core.specs.Cap.{tick_at}
 use Rattle.esc_core.specs.Stepped.{Stepped}
 use Rattle.esc_core.specs.Firmware.{left_of, kind_step, counted_down, entered_core}
 use Rattle.esc_laws.specs.Place.{Place, next, place}
@@ -165,7 +164,7 @@ outside_is b (event.Edge at level) = by_test (differ b.level level)
 outside_is b e = refl
 
 edge_ground : (v : Bool) (w : World) (level : Bool) → differ w.bank.level level ≡ v → Ground w
-    → Ground (record w { trace = w.trace ++ event.Edge (tick_at w.bank.time) level ∷ []; bank = record w.bank { level = (if v then edge_bank w.bank level else w.bank).level } })
+    → Ground (record w { trace = w.trace ++ event.Edge (as_tick w.bank.time) level ∷ []; bank = record w.bank { level = (if v then edge_bank w.bank level else w.bank).level } })
 edge_ground true w level d g =
     let new = line_changes w.trace w.bank level (subst (λ (l : Bool). differ l level ≡ true) g.level d) in
     record {
@@ -181,7 +180,7 @@ edge_ground false w level d g =
 
 outside_ground : (w : World) (e : Event) → tick_of e ≡ w.bank.time → Ground w → Ground (after_outside w e)
 outside_ground w (event.Edge at level) is g =
-    subst (λ (n : ℕ). Ground (record w { trace = w.trace ++ event.Edge (tick_at n) level ∷ []; bank = record w.bank { level = (after_line w.bank level).level; window = (after_line w.bank level).window } })) (sym is)
+    subst (λ (n : ℕ). Ground (record w { trace = w.trace ++ event.Edge (as_tick n) level ∷ []; bank = record w.bank { level = (after_line w.bank level).level; window = (after_line w.bank level).window } })) (sym is)
     (edge_ground (differ w.bank.level level) w level refl g)
 outside_ground w (event.Comp at level) is g = record { control = g.control; orders = g.orders; level = rw (line-push w.trace (event.Comp at level)) g.level; edges = rw (line-push w.trace (event.Comp at level)) g.edges; small = g.small }
 outside_ground w (event.Serial at byte) is g = record { control = g.control; orders = g.orders; level = rw (line-push w.trace (event.Serial at byte)) g.level; edges = rw (line-push w.trace (event.Serial at byte)) g.edges; small = g.small }

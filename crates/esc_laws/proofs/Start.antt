@@ -7,18 +7,17 @@ use Rattle.esc_base.specs.declared.note.Note.TheVariants as note
 use Rattle.esc_base.specs.Range.{InRange}
 use Rattle.esc_base.specs.Journal.{Journal, time_of}
 use Rattle.esc_base.specs.Trace.{Line, line}
+use Rattle.esc_base.specs.Numbers.{mode_of, as_tick}
 use Rattle.edge_capture.proofs.Stable.{burst-nil}
 use Rattle.edge_capture.specs.Burst.{burst}
 use Rattle.settings_block.specs.declared.block.BlockFault.{BlockFault}
 use Rattle.settings_block.specs.declared.block.BlockFault.TheVariants.{Marker, Version, Range}
 use Rattle.settings_block.specs.declared.stored.Loaded.{Loaded}
-use Rattle.timer_regs.specs.Effects.{mode_of}
 use Rattle.interrupt_machine.specs.declared.nest.Nest.{Nest}
 use Rattle.interrupt_machine.specs.Response.{Patient}
 use Rattle.arming.specs.Kept.{start}
 use Rattle.arming.specs.Stands.{Stands}
 use Rattle.arming.proofs.FrameTies.{start_stands, other_stands}
-use Rattle.esc_core.specs.Cap.{tick_at}
 use Rattle.esc_core.specs.Firmware.{left_of, need_of, new_core}
 use Rattle.esc_laws.specs.Place.{Listens, Place, place, nowhere}
 use Rattle.esc_laws.specs.Seen.{sees}
@@ -34,7 +33,7 @@ place-opening : (loaded : Loaded) → place (opening loaded) ≡ record nowhere 
 unfolding place
 place-opening loaded = refl
 
-place-up : (r : ℕ) → place (note.Up (tick_at 0) r ∷ []) ≡ nowhere
+place-up : (r : ℕ) → place (note.Up (as_tick 0) r ∷ []) ≡ nowhere
 unfolding place
 place-up r = refl
 
@@ -44,8 +43,8 @@ line-none = refl
 
 pub first_in_range : (fault : Option BlockFault) → All InRange (first_notes fault)
 first_in_range fault =
-    All-cons InRange (note.Up (tick_at 0) (load_number fault)) (note.Window (tick_at 0) 0 ∷ []) (refl, few_numbers fault)
-    (All-cons InRange (note.Window (tick_at 0) 0) [] (lit< tt, omega arith) (All-nil InRange))
+    All-cons InRange (note.Up (as_tick 0) (load_number fault)) (note.Window (as_tick 0) 0 ∷ []) (refl, few_numbers fault)
+    (All-cons InRange (note.Window (as_tick 0) 0) [] (lit< tt, omega arith) (All-nil InRange))
   where
     few_numbers : (fault : Option BlockFault) → load_number fault ≤ 3
     few_numbers None = omega arith
@@ -55,14 +54,14 @@ first_in_range fault =
 
 opening_in_time : (loaded : Loaded) → Journal (opening loaded)
 opening_in_time loaded =
-    (All-nil (λ b. time_of b ≤ 0), (All-cons (λ b. time_of b ≤ 0) (note.Up (tick_at 0) (load_number loaded.fault)) [] (omega arith) (All-nil (λ b. time_of b ≤ 0)), tt))
+    (All-nil (λ b. time_of b ≤ 0), (All-cons (λ b. time_of b ≤ 0) (note.Up (as_tick 0) (load_number loaded.fault)) [] (omega arith) (All-nil (λ b. time_of b ≤ 0)), tt))
 
 opening_windowed : (loaded : Loaded) → Windowed loaded [] (opening loaded)
 opening_windowed loaded = (tt, (rw (place-up (load_number loaded.fault)) (refl, refl), tt))
 
 opening_stands : (loaded : Loaded) → Stands start (reverse (opening loaded))
 opening_stands loaded =
-    other_stands (note.Window (tick_at 0) 0) start (note.Up (tick_at 0) (load_number loaded.fault) ∷ []) refl refl tt (other_stands (note.Up (tick_at 0) (load_number loaded.fault)) start [] refl refl tt start_stands)
+    other_stands (note.Window (as_tick 0) 0) start (note.Up (as_tick 0) (load_number loaded.fault) ∷ []) refl refl tt (other_stands (note.Up (as_tick 0) (load_number loaded.fault)) start [] refl refl tt start_stands)
 
 start_keeps : (loaded : Loaded) → Keeps (new_core loaded.settings) first_bank []
 start_keeps loaded = record {
@@ -87,8 +86,8 @@ start_marks loaded nest = record {
   windowed = opening_windowed loaded;
   nested = tt;
   stack_is = ap (λ (p : Place). p.stack) (sym (place-opening loaded));
-  past = All-cons (λ n. time_of n ≤ 0) (note.Up (tick_at 0) (load_number loaded.fault)) (note.Window (tick_at 0) 0 ∷ []) (omega arith)
-      (All-cons (λ n. time_of n ≤ 0) (note.Window (tick_at 0) 0) [] (omega arith) (All-nil (λ n. time_of n ≤ 0)));
+  past = All-cons (λ n. time_of n ≤ 0) (note.Up (as_tick 0) (load_number loaded.fault)) (note.Window (as_tick 0) 0 ∷ []) (omega arith)
+      (All-cons (λ n. time_of n ≤ 0) (note.Window (as_tick 0) 0) [] (omega arith) (All-nil (λ n. time_of n ≤ 0)));
 }
 
 no_burst : [] ≡ burst (line []).edges 0 (mode_of 0)

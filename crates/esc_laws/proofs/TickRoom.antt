@@ -6,7 +6,7 @@ use Rattle.esc_base.specs.declared.kind.Kind.TheVariants as kind
 use Rattle.esc_base.specs.declared.note.Cause.{Cause}
 use Rattle.esc_base.specs.declared.note.Note.{Note}
 use Rattle.esc_base.specs.declared.note.Note.TheVariants as note
-use Rattle.esc_base.specs.Numbers.{cause_number}
+use Rattle.esc_base.specs.Numbers.{cause_number, as_tick}
 use Rattle.timer_regs.specs.Bank.{Bank}
 use Rattle.timer_regs.specs.Effects.{read_value}
 use Rattle.timer_regs.specs.declared.regs.Reg.TheVariants as reg
@@ -20,7 +20,6 @@ use Rattle.esc_core.specs.declared.state.TickAt.{TickAt}
 use Rattle.esc_core.specs.declared.state.TickAt.TheVariants as tick
 use Rattle.esc_core.specs.Brain.{Brain}
 use Rattle.esc_core.specs.Stepped.{goes_on}
-use Rattle.esc_core.specs.Cap.{tick_at}
 use Rattle.esc_core.specs.Tick.{outcome_note, tick_notes, ticked, tick_step}
 use Rattle.esc_core.specs.Firmware.{tick_left, tick_need, counted_down}
 use Rattle.esc_core.proofs.Bounds.{counted_most}
@@ -36,35 +35,35 @@ use Rattle.esc_laws.proofs.Law.{MaskKept, HandlerLaw}
 
 -- it asks control: a K, then an A or an X
 asks : (lost : Option Cause) (armed_now : Bool) (w : World) (outer : List Kind) (demand : ℕ) (kept : Kept) → Ground w → (so_far w).ticks ≡ 0 → (so_far w).stack ≡ kind.Tick ∷ outer
-    → Stands kept (with_outcome (tick_at w.bank.time) lost armed_now (note.Control (tick_at w.bank.time) (w.bank.time / 2400) 0 demand ∷ w.back)) → kept.number ≡ w.bank.time / 2400
+    → Stands kept (with_outcome (as_tick w.bank.time) lost armed_now (note.Control (as_tick w.bank.time) (w.bank.time / 2400) 0 demand ∷ w.back)) → kept.number ≡ w.bank.time / 2400
     → StepKeeps kind.Tick outer w (record {
       core = record w.core { tick_at = tick.Lower; control = kept };
       access = Reads reg.TickState;
-      notes = note.Control (tick_at w.bank.time) (w.bank.time / 2400) 0 demand ∷ outcome_note w.bank.time lost armed_now;
+      notes = note.Control (as_tick w.bank.time) (w.bank.time / 2400) 0 demand ∷ outcome_note w.bank.time lost armed_now;
       over = false;
     })
 asks (Some cause) armed_now w outer demand kept g none on st number =
-    let k : Note = note.Control (tick_at w.bank.time) (w.bank.time / 2400) 0 demand in
+    let k : Note = note.Control (as_tick w.bank.time) (w.bank.time / 2400) 0 demand in
     let here = inside (so_far w).stack kind.Tick outer on in
     record {
       fits = (record { at = refl; no_entry = refl; save = λ e. cc; window = tt; nest = here }, (record { at = refl; no_entry = refl; save = λ e. cc; window = tt; nest = here }, tt));
-      ground = record { control = st; orders = orders_other w.loaded w.core.orders (note.Lost (tick_at w.bank.time) (cause_number cause)) (k ∷ w.back) refl (orders_other w.loaded w.core.orders k w.back refl g.orders); level = g.level; edges = g.edges; small = g.small };
+      ground = record { control = st; orders = orders_other w.loaded w.core.orders (note.Lost (as_tick w.bank.time) (cause_number cause)) (k ∷ w.back) refl (orders_other w.loaded w.core.orders k w.back refl g.orders); level = g.level; edges = g.edges; small = g.small };
       tie = (ap (λ (n : ℕ). n + 1) none, sym number, omega arith);
       others = elim [ kind.Tick ↦ λ ne t. absurd (ne refl) | j ↦ λ ne t. t ];
       stack_is = on;
     }
 asks None true w outer demand kept g none on st number =
-    let k : Note = note.Control (tick_at w.bank.time) (w.bank.time / 2400) 0 demand in
+    let k : Note = note.Control (as_tick w.bank.time) (w.bank.time / 2400) 0 demand in
     let here = inside (so_far w).stack kind.Tick outer on in
     record {
       fits = (record { at = refl; no_entry = refl; save = λ e. cc; window = tt; nest = here }, (record { at = refl; no_entry = refl; save = λ e. cc; window = tt; nest = here }, tt));
-      ground = record { control = st; orders = orders_other w.loaded w.core.orders (note.Armed (tick_at w.bank.time)) (k ∷ w.back) refl (orders_other w.loaded w.core.orders k w.back refl g.orders); level = g.level; edges = g.edges; small = g.small };
+      ground = record { control = st; orders = orders_other w.loaded w.core.orders (note.Armed (as_tick w.bank.time)) (k ∷ w.back) refl (orders_other w.loaded w.core.orders k w.back refl g.orders); level = g.level; edges = g.edges; small = g.small };
       tie = (ap (λ (n : ℕ). n + 1) none, sym number, omega arith);
       others = elim [ kind.Tick ↦ λ ne t. absurd (ne refl) | j ↦ λ ne t. t ];
       stack_is = on;
     }
 asks None false w outer demand kept g none on st number =
-    let k : Note = note.Control (tick_at w.bank.time) (w.bank.time / 2400) 0 demand in
+    let k : Note = note.Control (as_tick w.bank.time) (w.bank.time / 2400) 0 demand in
     record {
       fits = (record { at = refl; no_entry = refl; save = λ e. cc; window = tt; nest = inside (so_far w).stack kind.Tick outer on }, tt);
       ground = record { control = st; orders = orders_other w.loaded w.core.orders k w.back refl g.orders; level = g.level; edges = g.edges; small = g.small };
@@ -74,7 +73,7 @@ asks None false w outer demand kept g none on st number =
     }
 
 -- the number of the newest K
-outcome_number : (lost : Option Cause) (armed_now : Bool) (t n s d : ℕ) (back : List Note) → number_at (with_outcome (tick_at t) lost armed_now (note.Control (tick_at t) n s d ∷ back)) ≡ n
+outcome_number : (lost : Option Cause) (armed_now : Bool) (t n s d : ℕ) (back : List Note) → number_at (with_outcome (as_tick t) lost armed_now (note.Control (as_tick t) n s d ∷ back)) ≡ n
 outcome_number (Some cause) armed_now t n s d back = refl
 outcome_number None true t n s d back = refl
 outcome_number None false t n s d back = refl
@@ -85,7 +84,7 @@ reads w outer g t below none on =
     let n : ℕ = w.bank.time / 2400 in
     let answer = ticked w.core n 0 in
     let less : w.core.control.number < n = (let same = t.1 in omega arith) in
-    let st = tick_stands w.core.control w.back (tick_at w.bank.time) n 0 refl less g.control in
+    let st = tick_stands w.core.control w.back (as_tick w.bank.time) n 0 refl less g.control in
     if_true (nat_lt w.core.control.number n) kind.Tick outer w _ _ (lt-ltb w.core.control.number n less)
     (asks answer.lost answer.armed_now w outer answer.demand (after_tick w.core.control n (decide (view_of w.core.control) n 0)) g none on st
     (st.ties.number_is ∙ outcome_number answer.lost answer.armed_now w.bank.time n 0 answer.demand w.back))
@@ -98,7 +97,7 @@ steps tick.Read w outer g t i on left = reads w outer g t i.0 i.1 on
 steps tick.Lower w outer g t i on left = record { fits = tt; ground = g; tie = (i, t.1, t.2); others = elim [ kind.Tick ↦ λ ne t. absurd (ne refl) | j ↦ λ ne t. t ]; stack_is = on }
 steps tick.Back w outer g t i on left = record {
   fits = (record { at = refl; no_entry = refl; save = λ e. cc; window = λ e. cc; nest = (inside (so_far w).stack kind.Tick outer on, i) }, tt);
-  ground = ground_noted w (note.Leave (tick_at w.bank.time) 2) refl refl tt refl g;
+  ground = ground_noted w (note.Leave (as_tick w.bank.time) 2) refl refl tt refl g;
   tie = (tt, t.1, t.2);
   others = elim [ kind.Tick ↦ λ ne t. absurd (ne refl) | j ↦ λ ne t. t ];
   stack_is = popped (so_far w).stack kind.Tick outer on;

@@ -7,7 +7,7 @@ use Rattle.esc_base.specs.declared.event.Event.{Event}
 use Rattle.esc_base.specs.declared.event.Event.TheVariants as event
 use Rattle.esc_base.specs.declared.note.Note.{Note}
 use Rattle.esc_base.specs.declared.note.Note.TheVariants as note
-use Rattle.esc_base.specs.Numbers.{kind_number}
+use Rattle.esc_base.specs.Numbers.{kind_number, as_tick}
 use Rattle.esc_base.specs.Journal.{time_of}
 use Rattle.settings_block.specs.declared.block.BlockFault.{BlockFault}
 use Rattle.settings_block.specs.declared.block.BlockFault.TheVariants.{Marker, Version, Range}
@@ -16,7 +16,6 @@ use Rattle.interrupt_machine.specs.declared.nest.Nest.{Nest}
 use Rattle.interrupt_machine.specs.Did.{most}
 use Rattle.interrupt_machine.specs.Open.{innermost, is_open}
 use Rattle.interrupt_machine.specs.Response.{is_waiting, wait_next}
-use Rattle.esc_core.specs.Cap.{tick_at}
 use Rattle.esc_laws.specs.Place.{place}
 use Rattle.esc_laws.specs.Seen.{sees}
 
@@ -36,7 +35,7 @@ load_number (Some (Range offset)) = 3
 
 -- the two first notes: the load of the settings, and the first window
 abbrev pub first_notes : Option BlockFault → List Note
-first_notes fault = note.Up (tick_at 0) (load_number fault) ∷ note.Window (tick_at 0) 0 ∷ []
+first_notes fault = note.Up (as_tick 0) (load_number fault) ∷ note.Window (as_tick 0) 0 ∷ []
 
 abbrev pub opening : Loaded → List Note
 opening loaded = first_notes loaded.fault
@@ -139,7 +138,7 @@ pub record StepFits (loaded : Loaded) (nest : Nest) (cost : ℕ) (trace : List E
   pub idle : open_in loaded before ≡ [] → (t : ℕ) → after cost trace before ≤ t → t < e.tick → free trace t ≡ t → (k : Kind) → sees trace (journal loaded before) t k ≡ false
   pub first : open_in loaded before ≡ [] → (e.enters ≡ true) × ((k : Kind) → sees trace (journal loaded before) e.tick k ≡ true → kind_number k ≤ kind_number e.kind)
   -- an entry is its I note, and other steps are those of the innermost kind
-  pub entry : e.enters ≡ true → e.notes ≡ note.Enter (tick_at e.tick) (kind_number e.kind) ∷ []
+  pub entry : e.enters ≡ true → e.notes ≡ note.Enter (as_tick e.tick) (kind_number e.kind) ∷ []
   pub own : e.enters ≡ false → innermost (open_in loaded before) ≡ Some e.kind
   -- an own step, the return too, stands where `next_step` leads from the entry, and is one of 1 to the most of its kind
   pub reached : e.enters ≡ false → e.tick ≡ uses cost trace (steps_since e.kind (before ++ e ∷ [])) (entered_at e.kind before)

@@ -7,12 +7,12 @@ use Rattle.esc_base.specs.declared.signal.Edge.{Edge}
 use Rattle.esc_base.specs.declared.signal.Mode.{Mode}
 use Rattle.esc_base.specs.declared.note.Note.{Note}
 use Rattle.esc_base.specs.Trace.{line}
+use Rattle.esc_base.specs.Numbers.{mode_of}
 use Rattle.edge_capture.specs.Burst.{burst, close}
 use Rattle.edge_capture.specs.Edges.{IsInOrder}
 use Rattle.edge_capture.specs.Modes.{most}
 use Rattle.edge_capture.specs.Window.{Window}
 use Rattle.timer_regs.specs.Bank.{Bank}
-use Rattle.timer_regs.specs.Effects.{mode_of}
 use Rattle.settings_block.specs.declared.stored.Loaded.{Loaded}
 use Rattle.arming.specs.ControlAt.{asked_at}
 use Rattle.interrupt_machine.specs.Open.{innermost, is_open}

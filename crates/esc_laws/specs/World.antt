@@ -5,14 +5,13 @@ use Rattle.esc_base.specs.declared.event.Event.{Event}
 use Rattle.esc_base.specs.declared.event.Event.TheVariants as event
 use Rattle.esc_base.specs.declared.note.Note.{Note}
 use Rattle.esc_base.specs.declared.note.Note.TheVariants as note
-use Rattle.esc_base.specs.Numbers.{kind_number}
+use Rattle.esc_base.specs.Numbers.{kind_number, as_tick}
 use Rattle.settings_block.specs.declared.stored.Loaded.{Loaded}
 use Rattle.timer_regs.specs.Bank.{Bank}
 use Rattle.timer_regs.specs.Effects.{advanced, after_entry, after_line}
 use Rattle.interrupt_machine.specs.declared.nest.Nest.{Nest}
 use Rattle.interrupt_machine.specs.Did.{accessed}
 use Rattle.esc_core.specs.Brain.{Brain}
-use Rattle.esc_core.specs.Cap.{tick_at}
 use Rattle.esc_core.specs.Firmware.{entered_core, counted_down}
 use Rattle.esc_core.specs.Stepped.{Stepped}
 use Rattle.esc_laws.specs.Place.{Place, next, nowhere}
@@ -49,14 +48,14 @@ abbrev pub noted : World → Note → World
 noted w n = record w { back = n ∷ w.back }
 
 abbrev pub enters : Kind → ℕ → Note
-enters k t = note.Enter (tick_at t) (kind_number k)
+enters k t = note.Enter (as_tick t) (kind_number k)
 
 abbrev pub after_enter : Kind → World → World
 after_enter k w = record w { core = entered_core w.core k; bank = after_entry w.bank k; back = enters k w.bank.time ∷ w.back }
 
 -- the notes of a step, with its return
 abbrev pub step_notes : ℕ → Kind → Stepped → List Note
-step_notes t k s = s.notes ++ (if s.over then note.Leave (tick_at t) (kind_number k) ∷ [] else [])
+step_notes t k s = s.notes ++ (if s.over then note.Leave (as_tick t) (kind_number k) ∷ [] else [])
 
 abbrev pub after_step : Kind → World → Stepped → World
 after_step k w s = record w { core = s.core; bank = accessed w.bank s.access; back = onto (step_notes w.bank.time k s) w.back }

@@ -4,8 +4,8 @@ use Rattle.std.specs.Prelude.{◌≡◌, ℕ, ◌+◌, ◌/◌, ◌<◌, ◌≤�
 use Rattle.esc_base.specs.declared.kind.Kind.{Kind}
 use Rattle.esc_base.specs.declared.kind.Kind.TheVariants as kind
 use Rattle.esc_base.specs.declared.signal.Edge.{Edge}
-use Rattle.esc_base.specs.declared.signal.Mode.{Mode}
-use Rattle.esc_base.specs.declared.signal.Mode.TheVariants as mode
+use Rattle.esc_base.specs.Numbers.{mode_of}
+use Rattle.esc_base.specs.Times.{is_reached}
 use Rattle.esc_base.specs.Trace.{differ}
 use Rattle.edge_capture.specs.Edges.{edge_at}
 use Rattle.edge_capture.specs.Window.{unarmed, opened_in, after_edge, window_closed}
@@ -50,16 +50,6 @@ abbrev pub after_read : Bank → Reg → Bank
 after_read b TickState = record b { accesses = b.accesses + 1; number_read = number_at b.time }
 after_read b r = counted b
 
--- the mode with a number
-abbrev pub mode_of : ℕ → Mode
-mode_of m =
-    if m == 1 then mode.D300
-    else if m == 2 then mode.D600
-    else if m == 3 then mode.D300Inv
-    else if m == 4 then mode.D600Inv
-    else if m == 5 then mode.Servo
-    else mode.Unknown
-
 -- what stands after a write; a write to a register that isn't effective has no effect
 abbrev pub written : Bank → Reg → ℕ → Bank
 written b Mask v = record b { accesses = b.accesses + 1; masked = v == 1 }
@@ -100,10 +90,6 @@ after_line b level =
     if differ b.level level
     then record b { level = level; window = after_edge b.window (record { t = record { 0 = b.time }; level = level }) }
     else b
-
-abbrev pub is_reached : Option ℕ → ℕ → Bool
-is_reached None t = false
-is_reached (Some at) t = nat_le at t
 
 -- which kinds are due; MAIN is the firmware's matter
 abbrev pub is_due : Bank → Kind → Bool

@@ -11,11 +11,11 @@ use Rattle.esc_base.specs.Range.{InRange}
 use Rattle.esc_base.specs.Trace.{tick_of as tick_of_event}
 use Rattle.esc_base.specs.declared.kind.Kind.{Kind}
 use Rattle.esc_base.specs.declared.note.Note.{Note}
+use Rattle.esc_base.specs.Numbers.{as_tick}
 use Rattle.settings_block.specs.declared.stored.Loaded.{Loaded}
 use Rattle.timer_regs.specs.Bank.{Bank}
 use Rattle.timer_regs.specs.Effects.{advanced}
 use Rattle.timer_regs.specs.NextDue.{tick_of, IsNext, IsNextDue}
-use Rattle.esc_core.specs.Cap.{tick_at}
 use Rattle.interrupt_machine.specs.declared.nest.Nest.{Nest}
 use Rattle.interrupt_machine.specs.Open.{due_now, is_idle}
 use Rattle.esc_core.specs.Brain.{Brain}
@@ -162,7 +162,7 @@ event_later r e x b' next' at reached is bank put_off o now trace steps st =
     (time_logged o.loaded r.machine.nest r.cost trace r.next.0 r.machine.firmware r.regs r.machine.open_kinds steps r.limit.0 r.before reached (omega arith) st.logged))
 
 -- a stall that begins by the next step puts it off to its end, if that is later
-pub stall_max : (at n next : ℕ) → at ≤ next → max next (at + n) ≡ past_stall next (event.Stall (tick_at at) n)
+pub stall_max : (at n next : ℕ) → at ≤ next → max next (at + n) ≡ past_stall next (event.Stall (as_tick at) n)
 stall_max at n next le = grind (arith, nat_tests)
 
 -- ---- what a runner that stands says
