@@ -4,6 +4,6 @@ pub mod Judge
 pub mod Stepped
 pub mod Cap
 pub mod Tick
+pub mod Calls
 pub mod Background
-pub mod Saving
 pub mod Firmware

@@ -88,6 +88,7 @@ start_marks loaded nest = record {
   stack_is = ap (λ (p : Place). p.stack) (sym (place-opening loaded));
   past = All-cons (λ n. time_of n ≤ 0) (note.Up (as_tick 0) (load_number loaded.fault)) (note.Window (as_tick 0) 0 ∷ []) (omega arith)
       (All-cons (λ n. time_of n ≤ 0) (note.Window (as_tick 0) 0) [] (omega arith) (All-nil (λ n. time_of n ≤ 0)));
+  gates = record { high = refl; low = refl };
 }
 
 no_burst : [] ≡ burst (line []).edges 0 (mode_of 0)

@@ -1,4 +1,5 @@
 pub mod Place
+pub mod Gates
 pub mod Windowed
 pub mod Nested
 pub mod Seen
