@@ -24,3 +24,4 @@ pub mod Events
 pub mod Start
 pub mod Carried
 pub mod FlashSteps
+pub mod Refused
