@@ -28,9 +28,14 @@ enough e period h le =
     rw (more, ← after) (omega arith)
 
 pub few : (e period : ℕ) → period < 65408 → IsExponent e period → e ≤ 7
-few e period h x = ⊎_elim (λ lt. let above = x.least 7 lt in let most : period / 128 ≤ 511 = omega arith in absurd (omega arith)) (λ le. le) (cases_lt 7 e)
+few e period h x =
+    ⊎_elim
+    (λ lt. let above = x.least 7 lt in let most : period / 128 ≤ 511 = omega arith in absurd (omega arith))
+    (λ le. le)
+    (cases_lt 7 e)
 
-pub more_halved : (exponent quotient period : ℕ) → period < 65408 → 511 < quotient → IsHalved exponent quotient period → IsHalved (exponent + 1) (quotient / 2) period
+pub more_halved : (exponent quotient period : ℕ) → period < 65408 → 511 < quotient → IsHalved exponent quotient period
+    → IsHalved (exponent + 1) (quotient / 2) period
 more_halved exponent quotient period h lt s =
     let here : 511 < period / 2 ^ exponent = rw (← s.quotient_is) lt in
     record {
@@ -49,12 +54,16 @@ joined exponent quotient period le s =
     let few = s.small in
     let fits : exponent * 512 % 65536 ≡ exponent * 512 = omega arith in
     let one : bit_or (exponent * 512 % 65536) quotient ≡ exponent * 512 + quotient = rw fits (or_shifted exponent 9 quotient (omega arith)) in
-    rw one (omega arith, record { e = exponent; exponent = halved_enough exponent quotient period le s; value = ap (λ (q : ℕ). exponent * 512 + q) s.quotient_is })
+    let is_least = halved_enough exponent quotient period le s in
+    rw one (omega arith, record { exponent = exponent; is_least = is_least; value = ap (λ (q : ℕ). exponent * 512 + q) s.quotient_is })
 
 same_exponent : (e f period : ℕ) → IsExponent e period → IsExponent f period → e ≡ f
 same_exponent e f period a b =
     ⊎_elim (λ same. same)
-    (λ other. ⊎_elim (λ lt. let above = b.least e lt in let most = a.fits in absurd (omega arith)) (λ lt. let above = a.least f lt in let most = b.fits in absurd (omega arith)) other)
+    (λ other. ⊎_elim
+    (λ lt. let above = b.least e lt in let most = a.fits in absurd (omega arith))
+    (λ lt. let above = a.least f lt in let most = b.fits in absurd (omega arith))
+    other)
     (cases_order e f)
 
 fits_first : (k e period : ℕ) → ((d : ℕ) → d < e → 511 < period / 2 ^ d) → period / 2 ^ (e + k) ≤ 511 → IsExponent (first_fit k e period) period
@@ -81,7 +90,7 @@ same_twelve a b (Some period) s t = by_test (nat_le 65408 period) s t
     by_test : (long : Bool) → MatchBool long (a ≡ 0xFFF) (IsShort a period) → MatchBool long (b ≡ 0xFFF) (IsShort b period) → a ≡ b
     by_test true s t = s ∙ sym t
     by_test false s t =
-        let same = same_exponent s.e t.e period s.exponent t.exponent in
+        let same = same_exponent s.exponent t.exponent period s.is_least t.is_least in
         s.value ∙ ap (λ (e : ℕ). e * 512 + period / 2 ^ e) same ∙ sym t.value
 
 none_before : (period d : ℕ) → d < 0 → 511 < period / 2 ^ d
@@ -93,7 +102,7 @@ short_told period h =
     let least : IsExponent e period = fits_first 7 0 period (none_before period) (omega arith) in
     let most = least.fits in
     let small = few e period h least in
-    (omega arith, record { e = e; exponent = least; value = refl })
+    (omega arith, record { exponent = e; is_least = least; value = refl })
 
 pub twelve_told : (period : Option ℕ) → (twelve_of period < 4096) × Tells (twelve_of period) period
 twelve_told None = (lit< tt, refl)

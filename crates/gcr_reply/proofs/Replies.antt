@@ -61,13 +61,14 @@ pub carries_none : (bits : ℕ) → (bits / 1048576 ≡ 0 → ⊥) → (word : �
 carries_none bits high word = (λ same. absurd (cc), λ c. let low = line_is_low bits (groups_of word) c.line in absurd (high (omega arith)))
 
 pub carries_exactly : (bits : ℕ) (r : Option ℕ) → bits < 2 ^ 20
-    → ((word : ℕ) → (r ≡ Some word) ↔ ((word < 2 ^ 16) × (gcr_of word ≡ bit_xor bits (bits / 2)))) → (word : ℕ) → (r ≡ Some word) ↔ Carries bits word
+    → ((word : ℕ) → (r ≡ Some word) ↔ ((word < 2 ^ 16) × (gcr_of word ≡ bit_xor bits (bits / 2))))
+    → (word : ℕ) → (r ≡ Some word) ↔ Carries bits word
 carries_exactly bits r low exactly word = (
   λ same. let found = (exactly word).0 same in gcr_carries bits word low found.0 found.1,
   λ c. (exactly word).1 (c.of_16_bits, carries_gcr bits word c),
 )
 
-pub tells : (word gcr line : ℕ) (period : Option ℕ) → word < 2 ^ 16 → IsPayload word period → bits_of 20 gcr ≡ groups_of word → IsLine line (bits_of 20 gcr)
-    → ReplyBits line period
+pub tells : (word gcr line : ℕ) (period : Option ℕ) → word < 2 ^ 16 → IsPayload word period
+    → bits_of 20 gcr ≡ groups_of word → IsLine line (bits_of 20 gcr) → ReplyBits line period
 tells word gcr line period h payload groups l =
     record { word = word; carried = record { of_16_bits = h; line = rw groups at l }; payload = payload }

@@ -73,7 +73,8 @@ or_groups a b c d ha hb hc hd =
     let fits_b : b * 1024 % 4294967296 ≡ b * 1024 = omega arith in
     let fits_c : c * 32 % 4294967296 ≡ c * 32 = omega arith in
     let two : bit_or (a * 32768) (b * 1024) ≡ (a * 32 + b) * 1024 = or_shifted a 15 (b * 1024) (omega arith) ∙ omega arith in
-    let three : bit_or ((a * 32 + b) * 1024) (c * 32) ≡ ((a * 32 + b) * 32 + c) * 32 = or_shifted (a * 32 + b) 10 (c * 32) (omega arith) ∙ omega arith in
+    let three : bit_or ((a * 32 + b) * 1024) (c * 32) ≡ ((a * 32 + b) * 32 + c) * 32 =
+    or_shifted (a * 32 + b) 10 (c * 32) (omega arith) ∙ omega arith in
     rw (fits_a, fits_b, fits_c, two, three) (or_shifted ((a * 32 + b) * 32 + c) 5 d hd)
 
 pub gcr_is : (word a b c d : ℕ) → word < 65536
@@ -124,7 +125,8 @@ pub no_word : (r : Option ℕ) (bits : ℕ) → r ≡ None → IsNoGcr bits → 
 no_word r bits e none word = (λ same. absurd (cc), λ found. absurd (none word found.0 found.1))
 
 -- a nibble that is not found
-pub not_found : (r : Option ℕ) (five : ℕ) → r ≡ None → ((n : ℕ) → (r ≡ Some n) ↔ ((n < 16) × (group_of n ≡ five))) → (n : ℕ) → n < 16 → group_of n ≡ five → ⊥
+pub not_found : (r : Option ℕ) (five : ℕ) → r ≡ None → ((n : ℕ) → (r ≡ Some n) ↔ ((n < 16) × (group_of n ≡ five)))
+    → (n : ℕ) → n < 16 → group_of n ≡ five → ⊥
 not_found r five e clause n h g = let same = (clause n).1 (h, g) in cc
 
 word_in : (a b c d : ℕ) → a < 16 → b < 16 → c < 16 → d < 16

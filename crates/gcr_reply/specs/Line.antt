@@ -19,7 +19,7 @@ table = 0x19 ∷ 0x1B ∷ 0x12 ∷ 0x13 ∷ 0x1D ∷ 0x15 ∷ 0x16 ∷ 0x17 ∷ 
 abbrev pub nibbles : ℕ → List ℕ
 nibbles word = word / 4096 % 16 ∷ word / 256 % 16 ∷ word / 16 % 16 ∷ word % 16 ∷ []
 
--- the groups of five bits that stand for them
+-- the twenty bits that stand for a word: a group of five for each nibble
 abbrev pub groups_of : ℕ → List ℕ
 groups_of word = flat_map (λ nibble. bits_of 5 (slice_index table nibble)) (nibbles word)
 

@@ -9,11 +9,11 @@ pub record IsExponent (e period : ℕ) : Type 0 where
 
 -- twelve bits tell a period by its exponent and its quotient
 pub record IsShort (twelve period : ℕ) : Type 0 where
-  pub e : ℕ
-  pub exponent : IsExponent e period
-  pub value : twelve ≡ e * 512 + period / 2 ^ e
+  pub exponent : ℕ
+  pub is_least : IsExponent exponent period
+  pub value : twelve ≡ exponent * 512 + period / 2 ^ exponent
 
--- all ones where there is no period, or none that seven halvings bring to 511
+-- Twelve ones tell that there is no period. They tell one of at least 65408 too, the first whose own bits would be these.
 abbrev pub Tells : ℕ → Option ℕ → Type 0
 Tells twelve None = twelve ≡ 0xFFF
 Tells twelve (Some period) = MatchBool (nat_le 65408 period) (twelve ≡ 0xFFF) (IsShort twelve period)

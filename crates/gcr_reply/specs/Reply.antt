@@ -9,7 +9,7 @@ pub record ReplyBits (bits : ℕ) (period : Option ℕ) : Type 0 where
   pub carried : Carries bits word
   pub payload : IsPayload word period
 
--- ---- how a reply is made, step by step
+-- ---- the reply as it is made: the one number that meets `ReplyBits`
 
 -- the first of k exponents from e on that makes the quotient at most 511, else the one after them
 abbrev pub first_fit : ℕ → ℕ → ℕ → ℕ
@@ -23,9 +23,11 @@ abbrev pub twelve_of : Option ℕ → ℕ
 twelve_of None = 0xFFF
 twelve_of (Some period) = if nat_le 65408 period then 0xFFF else short_of (first_fit 7 0 period) period
 
+-- it makes the exclusive or of the four nibbles 15
 abbrev pub check_of : ℕ → ℕ
 check_of twelve = bit_xor (bit_xor (bit_xor (twelve % 16) (twelve / 16 % 16)) (twelve / 256 % 16)) 15
 
+-- the word for a period
 abbrev pub word_of : Option ℕ → ℕ
 word_of period = twelve_of period * 16 + check_of (twelve_of period)
 
@@ -33,10 +35,11 @@ word_of period = twelve_of period * 16 + check_of (twelve_of period)
 abbrev pub gcr_of : ℕ → ℕ
 gcr_of word = fold (λ bits nibble. bits * 32 + slice_index table nibble) 0 (nibbles word)
 
--- each level is the exclusive or of the k highest bits up to its own
+-- the line of k bits: each level is the exclusive or of all bits up to its own
 unfoldable pub line_of : ℕ → ℕ → ℕ
 line_of zero gcr = 0
 line_of (suc k) gcr = bit_xor gcr (line_of k (gcr / 2))
 
+-- the reply to a period
 unfoldable pub reply_of : Option ℕ → ℕ
 reply_of period = line_of 20 (gcr_of (word_of period))

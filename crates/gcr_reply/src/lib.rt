@@ -1,7 +1,8 @@
 //! Replies of bidirectional DShot: an electrical period as 21 bits of the signal line.
 //!
 //! A period in microseconds becomes twelve bits, `eeemmmmmmmmm`, which with a check nibble are a word of 16. Each
-//! nibble becomes a group of five bits (GCR, group coded recording), and the line changes where a GCR bit is 1.
+//! nibble becomes a group of five bits (GCR, group coded recording), and the line changes where a GCR bit is 1. This
+//! is the reply of the public DShot description.
 #![tactic(auto)]
 
 mod groups;

@@ -17,8 +17,8 @@ pub fn line_bits(gcr: u32) -> u32
     line
 }
 
-/// The word that 21 levels of the line carry, or `None` where no word of 16 bits has these levels: the first is
-/// high, or a group of five changes stands for no nibble.
+/// The word that 21 levels of the line carry, or `None` where no word of 16 bits has these levels: there are more of
+/// them, the first is high, or a group of five changes stands for no nibble.
 pub fn unline(bits: u32) -> Option<u16>
     ensures { (word : ℕ) → (result ≡ Some word) ↔ Carries bits word }
 {
