@@ -1,12 +1,12 @@
 -- The notes of which a timing is told, and those of which it isn't, keep it standing for the notes so far.
-use Rattle.std.proofs.Common.{◌≡◌, ℕ, true, false, ◌&&◌, if◌then◌else◌, List, [], ◌∷◌, take, refl, ap, arith}
+use Rattle.std.proofs.Common.{◌≡◌, ℕ, true, false, List, ◌∷◌, refl, ap, arith}
 use Rattle.std.proofs.lemmas.List.{take-take}
 use Rattle.esc_base.specs.declared.tick.Tick.{Tick}
 use Rattle.esc_base.specs.declared.note.Note.{Note}
 use Rattle.esc_base.specs.declared.note.Note.TheVariants as note
-use Rattle.commutation.specs.Pace.{first_pace, paced}
+use Rattle.commutation.specs.Pace.{paced}
 use Rattle.commutation.specs.Kept.{after_crossing, after_gap, after_restart, Kept}
-use Rattle.commutation.specs.Drive.{changes_timing, pace_at, starts, turns_at, Timed}
+use Rattle.commutation.specs.Drive.{changes_timing, starts, turns_at, Timed}
 
 -- a K that starts a drive
 pub restart_timed : (c : Kept) (back : List Note) (t : Tick) (n s d : ℕ) → starts d back ≡ true → Timed (after_restart c) (note.Control t n s d ∷ back)

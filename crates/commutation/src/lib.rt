@@ -5,6 +5,8 @@
 #![tactic(auto)]
 
 mod sectors;
+#[cfg(test)]
+mod tests;
 mod timing;
 
 pub use sectors::{pair, sector_next};

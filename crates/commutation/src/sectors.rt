@@ -1,4 +1,4 @@
-ghost use Rattle.std.specs.Prelude.{◌≡◌, ◌≤◌};
+ghost use Rattle.std.specs.Prelude.{◌≡◌, ◌≤◌, not};
 ghost use Rattle.commutation.specs.Sectors.{high_of, low_of, next_sector, KeepsALeg};
 
 use esc_base::{Leg, Sector};
@@ -28,6 +28,7 @@ pub fn sector_next(s: Sector, forward: bool) -> Sector
     ensures from_1 { 1 ≤ result.0 }
     ensures to_6 { result.0 ≤ 6 }
     ensures keeps_a_leg { KeepsALeg s.0 result.0 }
+    ensures leads_back { next_sector result.0 (not forward) ≡ s.0 }
 {
     match (forward, s.0) {
         (true, 6) => Sector(1),

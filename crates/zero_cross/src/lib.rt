@@ -7,6 +7,8 @@
 
 mod crossing;
 mod phase;
+#[cfg(test)]
+mod tests;
 
 pub use crossing::Crossing;
 pub use phase::{Next, Phase};

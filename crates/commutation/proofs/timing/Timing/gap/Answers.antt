@@ -1,5 +1,5 @@
 use Rattle.std.proofs.Common.{◌≡◌, ◌≤◌, ◌∷◌, take, slice_set, ap, arith, ℕ, List}
-use Rattle.commutation.specs.Kept.{after_gap, Kept}
+use Rattle.commutation.specs.Kept.{Kept}
 use Rattle.commutation.proofs.TimedNotes.{gap_timed}
 use Rattle.commutation.proofs.TurnList.{turned}
 use Rattle.commutation.proofs.timing.Timing.gap.Goals as goal
