@@ -1,0 +1,2 @@
+pub mod TurnList
+pub mod TimedNotes
