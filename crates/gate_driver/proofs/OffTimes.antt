@@ -43,7 +43,7 @@ both_same a b c d e = (grind (arith, nat_tests), grind (arith, nat_tests))
 
 -- ---- the tie
 
-tied_at : (v : Bool) (g : Gated) (b b' : Bank) (back : List Note) → ((b'.hi == high_at back) && (b'.lo == low_at back)) ≡ v → b'.time ≡ b.time → IsTied g b.hi b.lo back
+pub tied_at : (v : Bool) (g : Gated) (b b' : Bank) (back : List Note) → ((b'.hi == high_at back) && (b'.lo == low_at back)) ≡ v → b'.time ≡ b.time → IsTied g b.hi b.lo back
     → IsTied (gates_after g b b') b'.hi b'.lo (if v then back else note.Gate (as_tick b'.time) b'.hi b'.lo ∷ back)
 tied_at false g b b' back e at t = record {
   hi_is = refl;

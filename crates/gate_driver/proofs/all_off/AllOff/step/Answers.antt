@@ -1,0 +1,5 @@
+use Rattle.gate_driver.proofs.Programs.{all_off_keeps, dead_safe_of}
+use Rattle.gate_driver.proofs.all_off.AllOff.step.Goals as goal
+
+pub returns-clause-dead_safe : goal.returns-clause-dead_safe
+returns-clause-dead_safe c = dead_safe_of c.args.gates.now c.act.new.gates c.args.regs.now c.act.new.regs _ _ _ (all_off_keeps c.args.self.now c.args.gates.now c.args.regs.now) c.act.ensures
