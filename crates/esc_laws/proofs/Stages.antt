@@ -16,16 +16,16 @@ use Rattle.timer_regs.specs.Bank.{Bank}
 use Rattle.timer_regs.specs.Effects.{after_entry, after_line}
 use Rattle.interrupt_machine.specs.declared.nest.Nest.{Nest}
 use Rattle.interrupt_machine.specs.Did.{accessed}
-use Rattle.interrupt_machine.specs.Open.{due_now}
-use Rattle.interrupt_machine.proofs.OpenKinds.{same_kind}
+use Rattle.interrupt_machine.specs.Open.{due_now, kind_of}
+use Rattle.interrupt_machine.proofs.OpenKinds.{kind_of-number, same_kind}
 use Rattle.arming.proofs.InOrder.{reverse-push}
 use Rattle.esc_core.specs.Brain.{Brain}
 use Rattle.esc_core.specs.Stepped.{Stepped}
 use Rattle.esc_core.specs.Firmware.{left_of, kind_step, counted_down, entered_core}
 use Rattle.esc_laws.specs.Place.{Place, next, place}
 use Rattle.esc_laws.specs.Windowed.{WindowRuleAt, WindowRule}
-use Rattle.esc_laws.specs.Nested.{NestRuleAt, NestRule, IsAboveAll}
-use Rattle.esc_laws.specs.Steps.{opening, is_entry}
+use Rattle.esc_laws.specs.Nested.{NestRuleAt, NestRule, IsAboveAll, IsBuilt}
+use Rattle.esc_laws.specs.Steps.{opening, is_entry, ReturnsLast}
 use Rattle.esc_laws.specs.Saves.{is_save}
 use Rattle.esc_laws.specs.World.{World, placed, so_far, onto, noted, enters, after_enter, after_step, step_notes, counted, open_left, at_time, after_event, after_outside}
 use Rattle.esc_laws.specs.Rooms.{Ground, Tie, Ties, AllFit, StepKeeps}
@@ -34,6 +34,7 @@ use Rattle.esc_laws.proofs.Notes.{Said, said_push}
 use Rattle.esc_laws.proofs.Facts.{same_gates}
 use Rattle.esc_laws.proofs.Lines.{edge_now, edge_bank, line_changes, line_same}
 use Rattle.esc_laws.proofs.RoomSteps.{ground_noted}
+use Rattle.esc_laws.proofs.Returns.{returns_last}
 use Rattle.esc_laws.proofs.Laws.{law}
 
 -- ---- the notes in both orders
@@ -96,7 +97,7 @@ all_own k w (n ∷ notes) f = All-cons (IsOwn k w.bank.time) n notes (f.0.at, f.
 
 pub step_made : (k : Kind) (saved : Bool) (loaded : Loaded) (nest : Nest) (trace : List Event) (c : Brain) (b : Bank) (rest : List Note) (outer : List Kind) → Stood loaded nest trace c b rest (k ∷ outer) → ((j : Kind) → kind_number k < kind_number j → left_of c j ≡ 0) → 0 < left_of c k
     → Stood loaded nest trace (kind_step k saved (counted_down c b) b).core (accessed b (kind_step k saved (counted_down c b) b).access) (rest ++ step_notes b.time k (kind_step k saved (counted_down c b) b)) (open_left k outer (kind_step k saved (counted_down c b) b))
-    × All (IsOwn k b.time) (step_notes b.time k (kind_step k saved (counted_down c b) b))
+    × All (IsOwn k b.time) (step_notes b.time k (kind_step k saved (counted_down c b) b)) × ReturnsLast k (step_notes b.time k (kind_step k saved (counted_down c b) b))
 step_made k saved loaded nest trace c b rest outer i above left =
     let s : Stepped = kind_step k saved (counted_down c b) b in
     let before : World = world_of loaded nest trace c b rest in
@@ -116,6 +117,7 @@ step_made k saved loaded nest trace c b rest outer i above left =
         stack_is = ap (λ (p : Place). p.stack) (sym (placed-is (opening loaded ++ (rest ++ step_notes b.time k s))) ∙ ap placed (sym back)) ∙ keeps.stack_is;
       },
       all_own k w (step_notes b.time k s) keeps.fits,
+      returns_last k outer w s on keeps,
     )
 
 -- ---- an entry
@@ -132,6 +134,9 @@ enter_stack : (k : Kind) (p : Place) (t : ℕ) → (next p (enters k t)).stack �
 enter_stack kind.Main p t = refl
 enter_stack k p t = refl
 
+built_number : (k : Kind) → IsBuilt k → IsBuilt (kind_of (kind_number k))
+built_number k built = rw (kind_of-number k) built
+
 pub enter_stood : (k : Kind) (loaded : Loaded) (nest : Nest) (trace : List Event) (c : Brain) (b : Bank) (rest : List Note) (stack : List Kind) → Stood loaded nest trace c b rest stack → left_of c k ≡ 0 → due_now c.orders.save_asked b k ≡ true
     → IsAboveAll nest stack (kind_number k) → Stood loaded nest trace (entered_core c k) (after_entry b k) (rest ++ enters k b.time ∷ []) (k ∷ stack)
 enter_stood k loaded nest trace c b rest stack i none due above =
@@ -139,7 +144,7 @@ enter_stood k loaded nest trace c b rest stack i none due above =
     let n : Note = enters k b.time in
     let back : n ∷ reverse (opening loaded ++ rest) ≡ reverse (opening loaded ++ (rest ++ n ∷ [])) = sym (reverse-push (opening loaded ++ rest) n) ∙ ap reverse (append_assoc (opening loaded) rest (n ∷ [])) in
     record {
-      said = subst (λ (t : ℕ). Said loaded nest trace t (rest ++ n ∷ [])) (sym (enter_time k b)) (said_push loaded nest trace b.time rest n i.said refl tt (subst (λ (st : List Kind). IsAboveAll nest st (kind_number k)) (sym i.stack_is) above));
+      said = subst (λ (t : ℕ). Said loaded nest trace t (rest ++ n ∷ [])) (sym (enter_time k b)) (said_push loaded nest trace b.time rest n i.said refl tt (built_number k ((law k).built c.orders.save_asked b due), subst (λ (st : List Kind). IsAboveAll nest st (kind_number k)) (sym i.stack_is) above));
       ground = subst (λ (ns : List Note). Ground (record (after_enter k w) { back = ns })) back (ground_enter k w i.ground);
       ties = λ j. subst (λ (ns : List Note). Tie j (record (after_enter k w) { back = ns })) back (elim (same_kind j k) [
         | inl e ↦ subst (λ (x : Kind). Tie x (after_enter k w)) (sym e) ((law k).entered w i.ground i.ties none due)
