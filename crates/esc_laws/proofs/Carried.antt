@@ -40,7 +40,7 @@ use Rattle.esc_laws.proofs.Growth.{sees_before}
 use Rattle.esc_laws.proofs.StepGrowth.{fits_grow}
 use Rattle.esc_laws.proofs.Laws.{law}
 use Rattle.esc_laws.proofs.Stages.{later_ground, event_ground, event_tie}
-use Rattle.esc_laws.proofs.OwnTurns.{steady, own_are}
+use Rattle.esc_laws.proofs.OwnTurns.{steady, same_word, own_are}
 use Rattle.esc_laws.proofs.Stepping.{sees_due, entry_turn, own_turn, left_is, stepped_by}
 use Rattle.esc_laws.proofs.Start.{logged_start}
 use Rattle.esc_laws.proofs.Events.{keeps_later, marks_later, patient_later, event_time, patient_grows, marks_grow, keeps_grow}
@@ -64,9 +64,10 @@ own_told loaded nest cost trace c c' b b' stack stack' log notes k outer did sav
     let l' : Logged loaded nest cost trace b.time c b (k ∷ outer) log = subst (λ (st : List Kind). Logged loaded nest cost trace b.time c b st log) same l in
     let none' : b.masked ≡ false → next_entry nest (k ∷ outer) (due_now c.orders.save_asked b) ≡ None = subst (λ (st : List Kind). b.masked ≡ false → next_entry nest st (due_now c.orders.save_asked b) ≡ None) same none in
     let i : IsStepped b (stepped_by k saved c b) did c' b' = rw (core_step-goes k saved c b (steady k c b (k ∷ outer) l'.keeps refl)) at stepped in
-    let told = notes_are ∙ own_are k b b' (stepped_by k saved c b) did c' i in
+    let turned = own_turn loaded nest cost trace c b outer log k saved some l' none' in
+    let told = notes_are ∙ own_are k b b' (stepped_by k saved c b) did c' i (same_word (l'.ties kind.Comm).1 (turned.ties kind.Comm).1) in
     let left = open_is ∙ left_is k outer did (stepped_by k saved c b).over i.over_is in
-    rw (i.core_is, i.bank_is, left, told) (own_turn loaded nest cost trace c b outer log k saved some l' none')
+    rw (i.core_is, i.bank_is, left, told) turned
 
 pub turn_logged : (loaded : Loaded) (nest : Nest) (cost : ℕ) (trace : List Event) (c c' : Brain) (b b' : Bank) (flash flash' : Told) (stack stack' : List Kind) (log : List Turned) (notes : List Note)
     → 1 ≤ cost → b.time + cost < 2147483648 → Logged loaded nest cost trace b.time c b stack log → is_idle stack (due_now c.orders.save_asked b) ≡ false

@@ -29,34 +29,32 @@ use Rattle.esc_core.specs.declared.state.MainAt.TheVariants as main
 use Rattle.esc_core.specs.Cap.{edge_of}
 use Rattle.esc_core.specs.Firmware.{cap_left, tick_left, main_left}
 
--- ---- an access leaves the gates and the time
+-- ---- an access leaves the time and the signal line
 
-pub record SameGates (b b' : Bank) : Type 0 where
-  pub hi : b'.hi ≡ b.hi
-  pub lo : b'.lo ≡ b.lo
+pub record SameTime (b b' : Bank) : Type 0 where
   pub time : b'.time ≡ b.time
   pub level : b'.level ≡ b.level
 
-read_gates : (b : Bank) (r : Reg) → SameGates b (after_read b r)
-read_gates b reg.TickState = record { hi = refl; lo = refl; time = refl; level = refl }
-read_gates b r = record { hi = refl; lo = refl; time = refl; level = refl }
+read_time : (b : Bank) (r : Reg) → SameTime b (after_read b r)
+read_time b reg.TickState = record { time = refl; level = refl }
+read_time b r = record { time = refl; level = refl }
 
-write_gates : (b : Bank) (r : Reg) (v : ℕ) → SameGates b (written b r v)
-write_gates b reg.Mask v = record { hi = refl; lo = refl; time = refl; level = refl }
-write_gates b r v = record { hi = refl; lo = refl; time = refl; level = refl }
+write_time : (b : Bank) (r : Reg) (v : ℕ) → SameTime b (written b r v)
+write_time b reg.Mask v = record { time = refl; level = refl }
+write_time b r v = record { time = refl; level = refl }
 
-pub same_gates : (b : Bank) (a : Access) → SameGates b (accessed b a)
-same_gates b NoAccess = record { hi = refl; lo = refl; time = refl; level = refl }
-same_gates b (Reads r) = read_gates b r
-same_gates b (Writes r v) = write_gates b r v
+pub same_time : (b : Bank) (a : Access) → SameTime b (accessed b a)
+same_time b NoAccess = record { time = refl; level = refl }
+same_time b (Reads r) = read_time b r
+same_time b (Writes r v) = write_time b r v
 
 no_gate : (m n : ℕ) (g : List Note) → (if (m == m) && (n == n) then [] else g) ≡ []
 no_gate m n g = rw (eq-eqb m m refl, eq-eqb n n refl) refl
 
--- so a step gives its own notes, and its return
-pub plain_notes : (b b' : Bank) (k : Kind) (did : Did) → SameGates b b' → own_notes b.hi b.lo b' k did ≡ notes_of did ++ leave_note b' k did
-plain_notes b b' k did s =
-    let none : gate_note b.hi b.lo b' ≡ [] = rw (s.hi, s.lo) (no_gate b.hi b.lo (note.Gate (record { 0 = b'.time }) b.hi b.lo ∷ [])) in
+-- so a step that leaves the gates gives its own notes, and its return
+pub plain_notes : (b b' : Bank) (k : Kind) (did : Did) → b'.hi ≡ b.hi → b'.lo ≡ b.lo → own_notes b.hi b.lo b' k did ≡ notes_of did ++ leave_note b' k did
+plain_notes b b' k did hi lo =
+    let none : gate_note b.hi b.lo b' ≡ [] = rw (hi, lo) (no_gate b.hi b.lo (note.Gate (record { 0 = b'.time }) b.hi b.lo ∷ [])) in
     ap (λ (g : List Note). (g ++ notes_of did) ++ leave_note b' k did) none
 
 -- ---- which kinds are due

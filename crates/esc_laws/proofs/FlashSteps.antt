@@ -34,7 +34,7 @@ use Rattle.esc_laws.specs.Saves.{is_save}
 use Rattle.esc_laws.proofs.Saves.{fits_pushes, fits_saved, fits_spoilt}
 use Rattle.esc_laws.proofs.Stages.{IsOwn, step_made}
 use Rattle.esc_laws.proofs.Turns.{stood}
-use Rattle.esc_laws.proofs.OwnTurns.{steady, own_are}
+use Rattle.esc_laws.proofs.OwnTurns.{steady, same_word, own_are}
 use Rattle.esc_laws.proofs.Stepping.{stepped_by}
 
 -- A step either leaves the flash, and has no P; or its one note is a P, and the flash is as that P says.
@@ -101,9 +101,9 @@ flashes loaded nest cost trace c c' b b' first flash flash' stack stack' log not
         let goes = steady k c b (k ∷ outer) l'.keeps refl in
         let i : IsStepped b (stepped_by k made.saved c b) did c' b' = rw (core_step-goes k made.saved c b goes) at made.stepped in
         let did' : FlashDid (kind_saves k c) made.saved flash flash' = rw (core_saves-goes k c b goes) at made.flash_is in
-        rw (are ∙ own_are k b b' (stepped_by k made.saved c b) did c' i)
-        (kind_flash k made.saved loaded first flash flash' c b (journal loaded log) (l.ties kind.Main) l.ground.orders.settings_are
-        (step_made k made.saved loaded nest trace c b (notes_in log) outer (stood loaded nest cost trace b.time c b (k ∷ outer) log l') (λ j above. l'.keeps.shut j (closed_above (k ∷ outer) j l'.sorted above)) (l'.keeps.live k (self_open k outer))).1 whole whole' did')
+        let after = step_made k made.saved loaded nest trace c b (notes_in log) outer (stood loaded nest cost trace b.time c b (k ∷ outer) log l') (λ j above. l'.keeps.shut j (closed_above (k ∷ outer) j l'.sorted above)) (l'.keeps.live k (self_open k outer)) in
+        rw (are ∙ own_are k b b' (stepped_by k made.saved c b) did c' i (same_word (l'.ties kind.Comm).1 (after.0.ties kind.Comm).1))
+        (kind_flash k made.saved loaded first flash flash' c b (journal loaded log) (l.ties kind.Main) l.ground.orders.settings_are after.1 whole whole' did')
 
 -- ---- what is left of the flash
 

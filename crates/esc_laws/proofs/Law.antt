@@ -25,7 +25,7 @@ pub record MaskKept (k : Kind) (b : Bank) (s : Stepped) : Type 0 where
 pub record HandlerLaw (k : Kind) : Type 0 where
   -- while it is shut, it is due where the notes call for it
   pub called : (w : World) → Ground w → Ties w → left_of w.core k ≡ 0 → sees_at w.trace (so_far w) w.back w.bank.time k ≡ true → due_now w.core.orders.save_asked w.bank k ≡ true
-  pub built : (asked : Bool) (b : Bank) → due_now asked b k ≡ true → IsBuilt k
+  pub built : (w : World) → Ties w → due_now w.core.orders.save_asked w.bank k ≡ true → IsBuilt k
   -- its entry ties it, and leaves the ties of the others
   pub entered : (w : World) → Ground w → Ties w → left_of w.core k ≡ 0 → due_now w.core.orders.save_asked w.bank k ≡ true → Tie k (after_enter k w)
   pub beside : (w : World) (j : Kind) → j ≢ k → Tie j w → Tie j (after_enter k w)

@@ -1,5 +1,5 @@
 -- A whole step of the innermost handler, its return too: which notes it has, and what holds after it between any two steps.
-use Rattle.std.proofs.Common.{◌≡◌, ◌≢◌, ◌≤◌, ◌<◌, ℕ, Bool, true, false, ◌&&◌, nat_lt, if◌then◌else◌, List, [], ◌∷◌, ◌++◌, Some, refl, sym, ◌∙◌, ap, subst, inl, inr}
+use Rattle.std.proofs.Common.{◌≡◌, ◌≢◌, ◌≤◌, ◌<◌, ℕ, Bool, true, false, ◌&&◌, nat_lt, if◌then◌else◌, List, [], ◌∷◌, ◌++◌, Option, Some, refl, sym, ◌∙◌, ap, subst, inl, inr}
 use Rattle.std.proofs.lemmas.Bool.{le-ltb}
 use Rattle.esc_base.specs.declared.kind.Kind.{Kind}
 use Rattle.esc_base.specs.declared.note.Note.{Note}
@@ -18,7 +18,8 @@ use Rattle.esc_core.specs.Firmware.{left_of, need_of, kind_step, counted_down, i
 use Rattle.esc_core.proofs.Bounds.{Bounds}
 use Rattle.esc_laws.specs.Tied.{Keeps}
 use Rattle.esc_laws.specs.World.{step_notes, open_left}
-use Rattle.esc_laws.proofs.Facts.{SameGates, same_gates, plain_notes, outer_open, not_open}
+use Rattle.esc_laws.specs.Rooms.{Undriven}
+use Rattle.esc_laws.proofs.Facts.{SameTime, same_time, plain_notes, outer_open, not_open}
 use Rattle.esc_laws.proofs.Laws.{law}
 
 -- ---- no step of a run is a stray one
@@ -36,10 +37,14 @@ leave_is : (did : Did) (b' : Bank) (k : Kind) (v : Bool) → is_return did ≡ v
 leave_is (More own) b' k v e = rw (sym e) refl
 leave_is (Return own) b' k v e = rw (sym e) refl
 
-pub own_are : (k : Kind) (b b' : Bank) (s : Stepped) (did : Did) (c' : Brain) → IsStepped b s did c' b' → own_notes b.hi b.lo b' k did ≡ step_notes b.time k s
-own_are k b b' s did c' i =
-    let same : SameGates b b' = subst (λ (x : Bank). SameGates b x) (sym i.bank_is) (same_gates b s.access) in
-    plain_notes b b' k did same
+-- a drive that rests before and after has the same word
+pub same_word : {hi lo d hi' lo' d' : ℕ} {f f' m m' : Bool} {c c' : Option ℕ} → Undriven hi lo d f c m → Undriven hi' lo' d' f' c' m' → (hi' ≡ hi) × (lo' ≡ lo)
+same_word {hi} {lo} {d} {hi'} {lo'} {d'} {f} {f'} {m} {m'} {c} {c'} t u = (u.high_off ∙ sym t.high_off, u.low_off ∙ sym t.low_off)
+
+pub own_are : (k : Kind) (b b' : Bank) (s : Stepped) (did : Did) (c' : Brain) → IsStepped b s did c' b' → ((accessed b s.access).hi ≡ b.hi) × ((accessed b s.access).lo ≡ b.lo) → own_notes b.hi b.lo b' k did ≡ step_notes b.time k s
+own_are k b b' s did c' i word =
+    let same : SameTime b b' = subst (λ (x : Bank). SameTime b x) (sym i.bank_is) (same_time b s.access) in
+    plain_notes b b' k did (ap (λ (x : Bank). x.hi) i.bank_is ∙ word.0) (ap (λ (x : Bank). x.lo) i.bank_is ∙ word.1)
     ∙ ap (λ (ns : List Note). ns ++ leave_note b' k did) i.notes_are
     ∙ ap (λ (ns : List Note). s.notes ++ ns) (leave_is did b' k s.over i.over_is ∙ ap (λ (t : ℕ). if s.over then note.Leave (as_tick t) (kind_number k) ∷ [] else []) same.time)
 

@@ -31,7 +31,7 @@ use Rattle.esc_laws.specs.World.{World, placed, so_far, onto, noted, enters, aft
 use Rattle.esc_laws.specs.Rooms.{Ground, Tie, Ties, AllFit, StepKeeps}
 use Rattle.esc_laws.proofs.Pushes.{All-later, place-push}
 use Rattle.esc_laws.proofs.Notes.{Said, said_push}
-use Rattle.esc_laws.proofs.Facts.{same_gates}
+use Rattle.esc_laws.proofs.Facts.{same_time}
 use Rattle.esc_laws.proofs.Lines.{edge_now, edge_bank, line_changes, line_same}
 use Rattle.esc_laws.proofs.RoomSteps.{ground_noted}
 use Rattle.esc_laws.proofs.Returns.{returns_last}
@@ -106,7 +106,7 @@ step_made k saved loaded nest trace c b rest outer i above left =
     let keeps : StepKeeps k outer w s = (law k).steps w saved outer i.ground (λ j. counted_tie j before (i.ties j)) (λ j l. counted_left j c b ∙ above j l) on (rw (counted_left k c b) left) in
     let back : onto (step_notes b.time k s) (reverse (opening loaded ++ rest)) ≡ reverse (opening loaded ++ (rest ++ step_notes b.time k s)) =
     onto-reverse (opening loaded ++ rest) (step_notes b.time k s) ∙ ap reverse (append_assoc (opening loaded) rest (step_notes b.time k s)) in
-    let gates = same_gates b s.access in (
+    let gates = same_time b s.access in (
       record {
         said = subst (λ (t : ℕ). Said loaded nest trace t (rest ++ step_notes b.time k s)) (sym gates.time) (all_said k w rest (step_notes b.time k s) refl i.said keeps.fits);
         ground = subst (λ (ns : List Note). Ground (record (after_step k w s) { back = ns })) back keeps.ground;
@@ -144,7 +144,7 @@ enter_stood k loaded nest trace c b rest stack i none due above =
     let n : Note = enters k b.time in
     let back : n ∷ reverse (opening loaded ++ rest) ≡ reverse (opening loaded ++ (rest ++ n ∷ [])) = sym (reverse-push (opening loaded ++ rest) n) ∙ ap reverse (append_assoc (opening loaded) rest (n ∷ [])) in
     record {
-      said = subst (λ (t : ℕ). Said loaded nest trace t (rest ++ n ∷ [])) (sym (enter_time k b)) (said_push loaded nest trace b.time rest n i.said refl tt (built_number k ((law k).built c.orders.save_asked b due), subst (λ (st : List Kind). IsAboveAll nest st (kind_number k)) (sym i.stack_is) above));
+      said = subst (λ (t : ℕ). Said loaded nest trace t (rest ++ n ∷ [])) (sym (enter_time k b)) (said_push loaded nest trace b.time rest n i.said refl tt (built_number k ((law k).built w i.ties due), subst (λ (st : List Kind). IsAboveAll nest st (kind_number k)) (sym i.stack_is) above));
       ground = subst (λ (ns : List Note). Ground (record (after_enter k w) { back = ns })) back (ground_enter k w i.ground);
       ties = λ j. subst (λ (ns : List Note). Tie j (record (after_enter k w) { back = ns })) back (elim (same_kind j k) [
         | inl e ↦ subst (λ (x : Kind). Tie x (after_enter k w)) (sym e) ((law k).entered w i.ground i.ties none due)

@@ -31,7 +31,7 @@ use Rattle.esc_laws.specs.Rooms.{Ground, Tie}
 use Rattle.esc_laws.specs.Logged.{Logged}
 use Rattle.esc_laws.proofs.Pushes.{own-push, since-push}
 use Rattle.esc_laws.proofs.Stalls.{free_ended}
-use Rattle.esc_laws.proofs.Facts.{of_self, of_other, some_open, outer_open, left_open, same_gates}
+use Rattle.esc_laws.proofs.Facts.{of_self, of_other, some_open, outer_open, left_open, same_time}
 use Rattle.esc_laws.proofs.Laws.{law}
 use Rattle.esc_laws.proofs.Stages.{IsOwn, placed-is, enter_time, enter_stood, step_made}
 use Rattle.esc_laws.proofs.Entries.{entered_others, entered_most, entry_above_all, keeps_entry}
@@ -191,7 +191,7 @@ own_turn loaded nest cost trace c b outer log k saved some l none =
     let left : 0 < left_of c k = l.keeps.live k inside in
     let held : b.masked ≡ true → 0 < c.hold = (λ m. (let a = l.keeps.enough m k refl in let n = (law k).need c in omega arith)) in
     let bound : Bounds k c b s = subst (λ (x : Stepped). Bounds k c b x) (core_step-goes k saved c b (steady k c b (k ∷ outer) l.keeps refl)) (bounds k saved c b left l.keeps.hold held) in
-    let gates = same_gates b s.access in
+    let gates = same_time b s.access in
     let made = step_made k saved loaded nest trace c b (notes_in log) outer (stood loaded nest cost trace b.time c b (k ∷ outer) log l) (λ j above. l.keeps.shut j (closed_above (k ∷ outer) j l.sorted above)) left in
     logged_after loaded nest cost trace c s.core b b' (k ∷ outer) (open_left k outer s) log (own_of b.time k notes) some refl l (record {
       keeps = keeps_own k saved c b outer l.sorted l.keeps left bound;

@@ -1,5 +1,5 @@
 -- Each step of each program: what it leaves of the word, that off times follow it exactly, and that it keeps the dead time.
-use Rattle.std.proofs.Common.{◌≡◌, ◌≤◌, ◌<◌, ◌-◌, ℕ, Bool, true, false, nat_lt, bit_and, Option, Some, None, List, refl, sym, ◌∙◌, ap, subst, arith, lit<, lit≤}
+use Rattle.std.proofs.Common.{◌≡◌, ◌≤◌, ◌<◌, ◌+◌, ◌-◌, ℕ, Bool, true, false, nat_lt, bit_and, Option, Some, None, List, refl, sym, ◌∙◌, ap, subst, arith, lit<, lit≤}
 use Rattle.std.specs.Int.Bits.{and_zero_r}
 use Rattle.esc_base.specs.declared.gate.Leg.{Leg}
 use Rattle.esc_base.specs.declared.note.Note.{Note}
@@ -29,13 +29,15 @@ use Rattle.gate_driver.proofs.DeadTime.{same_keeps, high_off_keeps, low_off_keep
 -- what a step leaves at its registers
 pub record Kept {P : Type 0} (g : Gated) (b : Bank) (s : Acted P) : Type 0 where
   pub time : (accessed b s.access).time ≡ b.time
+  pub count : (accessed b s.access).accesses ≤ b.accesses + 1
   pub off_times : s.gates ≡ gates_after g b (accessed b s.access)
   pub dead_time : IsApart b.hi b.lo → KeepsDeadTime b s.gates (accessed b s.access)
 
 -- a step that leaves the gates
-quiet : {P : Type 0} (g : Gated) (b : Bank) (s : Acted P) → (accessed b s.access).time ≡ b.time → (accessed b s.access).hi ≡ b.hi → (accessed b s.access).lo ≡ b.lo → s.gates ≡ g → Kept g b s
-quiet {P} g b s at hi lo e = record {
+quiet : {P : Type 0} (g : Gated) (b : Bank) (s : Acted P) → (accessed b s.access).time ≡ b.time → (accessed b s.access).accesses ≤ b.accesses + 1 → (accessed b s.access).hi ≡ b.hi → (accessed b s.access).lo ≡ b.lo → s.gates ≡ g → Kept g b s
+quiet {P} g b s at count hi lo e = record {
   time = at;
+  count = count;
   off_times = e ∙ gates_same g b (accessed b s.access) hi lo;
   dead_time = same_keeps s.gates b (accessed b s.access) hi lo;
 }
@@ -43,28 +45,28 @@ quiet {P} g b s at hi lo e = record {
 -- ---- all off
 
 pub all_off_keeps : (at : AllOff) (g : Gated) (b : Bank) → Kept g b (all_off_step at g b)
-all_off_keeps off.High g b = record { time = refl; off_times = refl; dead_time = high_off_keeps _ b _ 0 refl refl }
-all_off_keeps off.Low g b = record { time = refl; off_times = refl; dead_time = low_off_keeps _ b _ 0 refl refl }
-all_off_keeps off.Over g b = quiet g b (all_off_step off.Over g b) refl refl refl refl
+all_off_keeps off.High g b = record { time = refl; count = omega arith; off_times = refl; dead_time = high_off_keeps _ b _ 0 refl refl }
+all_off_keeps off.Low g b = record { time = refl; count = omega arith; off_times = refl; dead_time = low_off_keeps _ b _ 0 refl refl }
+all_off_keeps off.Over g b = quiet g b (all_off_step off.Over g b) refl (omega arith) refl refl refl
 
 -- ---- chopping
 
 on_keeps : (wait : Option ℕ) (x : Leg) (g : Gated) (b : Bank) → high_wait g b x ≡ wait → Kept g b (on_step wait x g b)
-on_keeps None x g b e = record { time = refl; off_times = refl; dead_time = high_on_keeps g _ b _ x refl refl refl e }
-on_keeps (Some t) x g b e = quiet g b (on_step (Some t) x g b) refl refl refl refl
+on_keeps None x g b e = record { time = refl; count = omega arith; off_times = refl; dead_time = high_on_keeps g _ b _ x refl refl refl e }
+on_keeps (Some t) x g b e = quiet g b (on_step (Some t) x g b) refl (omega arith) refl refl refl
 
 write_keeps : (leg : Option Leg) (g : Gated) (b : Bank) → Kept g b (write_step leg g b)
 write_keeps (Some x) g b = on_keeps (high_wait g b x) x g b refl
-write_keeps None g b = record { time = refl; off_times = refl; dead_time = high_off_keeps _ b _ 0 refl refl }
+write_keeps None g b = record { time = refl; count = omega arith; off_times = refl; dead_time = high_off_keeps _ b _ 0 refl refl }
 
 pub chop_keeps : (at : Chop) (g : Gated) (b : Bank) → Kept g b (chop_step at g b)
 chop_keeps (chop.Write leg) g b = write_keeps leg g b
-chop_keeps chop.Raise g b = quiet g b (chop_step chop.Raise g b) refl refl refl refl
-chop_keeps chop.Position g b = quiet g b (chop_step chop.Position g b) refl refl refl refl
-chop_keeps (chop.Duty position) g b = quiet g b (chop_step (chop.Duty position) g b) refl refl refl refl
-chop_keeps (chop.Sector below) g b = quiet g b (chop_step (chop.Sector below) g b) refl refl refl refl
-chop_keeps chop.Lower g b = quiet g b (chop_step chop.Lower g b) refl refl refl refl
-chop_keeps chop.Over g b = quiet g b (chop_step chop.Over g b) refl refl refl refl
+chop_keeps chop.Raise g b = quiet g b (chop_step chop.Raise g b) refl (omega arith) refl refl refl
+chop_keeps chop.Position g b = quiet g b (chop_step chop.Position g b) refl (omega arith) refl refl refl
+chop_keeps (chop.Duty position) g b = quiet g b (chop_step (chop.Duty position) g b) refl (omega arith) refl refl refl
+chop_keeps (chop.Sector below) g b = quiet g b (chop_step (chop.Sector below) g b) refl (omega arith) refl refl refl
+chop_keeps chop.Lower g b = quiet g b (chop_step chop.Lower g b) refl (omega arith) refl refl refl
+chop_keeps chop.Over g b = quiet g b (chop_step chop.Over g b) refl (omega arith) refl refl refl
 
 chopped_at : (wait : Option ℕ) (x : Leg) (g : Gated) (b : Bank) → wait ≡ None → is_on (accessed b (on_step wait x g b).access).hi x ≡ true
 chopped_at None x g b e = or_on b.hi x
@@ -78,26 +80,26 @@ has_chopped None g b = and_zero_r b.hi
 -- ---- a change of sector
 
 low_step_keeps : (wait : Option ℕ) (c : Change) (g : Gated) (b : Bank) → low_wait g b (low_of c.to) ≡ wait → Kept g b (low_step wait c g b)
-low_step_keeps None c g b e = record { time = refl; off_times = refl; dead_time = low_on_keeps g _ b _ (low_of c.to) refl refl refl e }
-low_step_keeps (Some t) c g b e = quiet g b (low_step (Some t) c g b) refl refl refl refl
+low_step_keeps None c g b e = record { time = refl; count = omega arith; off_times = refl; dead_time = low_on_keeps g _ b _ (low_of c.to) refl refl refl e }
+low_step_keeps (Some t) c g b e = quiet g b (low_step (Some t) c g b) refl (omega arith) refl refl refl
 
 high_step_keeps : (wait : Option ℕ) (c : Change) (g : Gated) (b : Bank) → high_wait g b (high_of c.to) ≡ wait → Kept g b (high_step wait c g b)
-high_step_keeps None c g b e = record { time = refl; off_times = refl; dead_time = high_on_keeps g _ b _ (high_of c.to) refl refl refl e }
-high_step_keeps (Some t) c g b e = quiet g b (high_step (Some t) c g b) refl refl refl refl
+high_step_keeps None c g b e = record { time = refl; count = omega arith; off_times = refl; dead_time = high_on_keeps g _ b _ (high_of c.to) refl refl refl e }
+high_step_keeps (Some t) c g b e = quiet g b (high_step (Some t) c g b) refl (omega arith) refl refl refl
 
 duty_step_keeps : (v : Bool) (c : Change) (g : Gated) (b : Bank) → Kept g b (duty_step v c g)
-duty_step_keeps true c g b = quiet g b (duty_step true c g) refl refl refl refl
-duty_step_keeps false c g b = quiet g b (duty_step false c g) refl refl refl refl
+duty_step_keeps true c g b = quiet g b (duty_step true c g) refl (omega arith) refl refl refl
+duty_step_keeps false c g b = quiet g b (duty_step false c g) refl (omega arith) refl refl refl
 
 place_keeps : (at : ChangeAt) (c : Change) (g : Gated) (b : Bank) → Kept g b (place_step at c g b)
-place_keeps change.ClearHigh c g b = record { time = refl; off_times = refl; dead_time = high_off_keeps _ b _ (7 - (7 - mask_of (high_of c.to))) refl refl }
-place_keeps change.ClearLow c g b = record { time = refl; off_times = refl; dead_time = low_off_keeps _ b _ (7 - (7 - mask_of (low_of c.to))) refl refl }
-place_keeps change.SetSector c g b = quiet g b (place_step change.SetSector c g b) refl refl refl refl
+place_keeps change.ClearHigh c g b = record { time = refl; count = omega arith; off_times = refl; dead_time = high_off_keeps _ b _ (7 - (7 - mask_of (high_of c.to))) refl refl }
+place_keeps change.ClearLow c g b = record { time = refl; count = omega arith; off_times = refl; dead_time = low_off_keeps _ b _ (7 - (7 - mask_of (low_of c.to))) refl refl }
+place_keeps change.SetSector c g b = quiet g b (place_step change.SetSector c g b) refl (omega arith) refl refl refl
 place_keeps change.Low c g b = low_step_keeps (low_wait g b (low_of c.to)) c g b refl
-place_keeps change.Position c g b = quiet g b (place_step change.Position c g b) refl refl refl refl
+place_keeps change.Position c g b = quiet g b (place_step change.Position c g b) refl (omega arith) refl refl refl
 place_keeps (change.Duty position) c g b = duty_step_keeps (nat_lt position b.duty) c g b
 place_keeps change.High c g b = high_step_keeps (high_wait g b (high_of c.to)) c g b refl
-place_keeps change.Over c g b = quiet g b (place_step change.Over c g b) refl refl refl refl
+place_keeps change.Over c g b = quiet g b (place_step change.Over c g b) refl (omega arith) refl refl refl
 
 pub change_keeps : (c : Change) (g : Gated) (b : Bank) → Kept g b (change_step c g b)
 change_keeps c g b = place_keeps c.at c g b
@@ -156,8 +158,14 @@ module _ {P : Type 0} (g g' : Gated) (b b' : Bank) (s : Acted P) (answer : Progr
   pub off_times_of : g' ≡ gates_after g b b'
   off_times_of = rw (i.gates_are, i.bank_is) k.off_times
 
+  pub one_access_of : b'.accesses ≤ b.accesses + 1
+  one_access_of = rw i.bank_is k.count
+
+  pub no_time_of : b'.time ≡ b.time
+  no_time_of = rw i.bank_is k.time
+
   pub dead_time_of : IsApart b.hi b.lo → KeepsDeadTime b g' b'
   dead_time_of = rw (i.gates_are, i.bank_is) k.dead_time
 
   pub dead_safe_of : (back : List Note) → IsTied g b.hi b.lo back → IsApart b.hi b.lo → IsSaid back g' b'
-  dead_safe_of back t apart = said_after g g' b b' back (ap (λ (x : Bank). x.time) i.bank_is ∙ k.time) off_times_of t (dead_time_of apart)
+  dead_safe_of back t apart = said_after g g' b b' back no_time_of off_times_of t (dead_time_of apart)

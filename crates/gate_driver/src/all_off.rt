@@ -1,5 +1,5 @@
 //! All switches off.
-ghost use Rattle.std.specs.Prelude.{◌≡◌, ◌<◌, ◌^◌, List};
+ghost use Rattle.std.specs.Prelude.{◌≡◌, ◌+◌, ◌<◌, ◌≤◌, ◌^◌, List};
 ghost use Rattle.esc_base.specs.declared.note.Note.{Note};
 ghost use Rattle.esc_base.specs.Legs.{IsApart};
 ghost use Rattle.gate_driver.specs.Gated.{gates_after};
@@ -36,6 +36,8 @@ impl AllOff {
         ensures low_off { self.old ≡ AllOff.Low → regs.new.lo ≡ 0 }
         ensures spends { Spends (all_off_left self.old) result (all_off_left self.new) }
         ensures off_times { gates.new ≡ gates_after gates.old regs.old regs.new }
+        ensures one_access { regs.new.accesses ≤ regs.old.accesses + 1 }
+        ensures no_time { regs.new.time ≡ regs.old.time }
         ensures dead_time { IsApart regs.old.hi regs.old.lo → KeepsDeadTime regs.old gates.new regs.new }
         ensures dead_safe { (back : List Note) → IsTied gates.old regs.old.hi regs.old.lo back → IsApart regs.old.hi regs.old.lo → IsSaid back gates.new regs.new }
     {

@@ -1,5 +1,5 @@
 //! Chopping: the pair's high switch is on for the first ticks of each period of pulse width modulation.
-ghost use Rattle.std.specs.Prelude.{◌≡◌, ◌<◌, ◌≤◌, ◌^◌, List, false, Option};
+ghost use Rattle.std.specs.Prelude.{◌≡◌, ◌+◌, ◌<◌, ◌≤◌, ◌^◌, List, false, Option};
 ghost use Rattle.esc_base.specs.declared.gate.Leg.{Leg as ALeg};
 ghost use Rattle.esc_base.specs.declared.note.Note.{Note};
 ghost use Rattle.esc_base.specs.Legs.{IsApart};
@@ -51,6 +51,8 @@ impl Chop {
         ensures low_stays { regs.new.lo ≡ regs.old.lo }
         ensures spends { Spends (chop_left self.old) result (chop_left self.new) }
         ensures off_times { gates.new ≡ gates_after gates.old regs.old regs.new }
+        ensures one_access { regs.new.accesses ≤ regs.old.accesses + 1 }
+        ensures no_time { regs.new.time ≡ regs.old.time }
         ensures dead_time { IsApart regs.old.hi regs.old.lo → KeepsDeadTime regs.old gates.new regs.new }
         ensures dead_safe { (back : List Note) → IsTied gates.old regs.old.hi regs.old.lo back → IsApart regs.old.hi regs.old.lo → IsSaid back gates.new regs.new }
     {

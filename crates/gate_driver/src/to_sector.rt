@@ -1,5 +1,5 @@
 //! A change of sector.
-ghost use Rattle.std.specs.Prelude.{◌≡◌, ◌<◌, ◌≤◌, ◌^◌, List};
+ghost use Rattle.std.specs.Prelude.{◌≡◌, ◌+◌, ◌<◌, ◌≤◌, ◌^◌, List};
 ghost use Rattle.esc_base.specs.declared.note.Note.{Note};
 ghost use Rattle.esc_base.specs.declared.tick.Tick.{Tick as ATick};
 ghost use Rattle.esc_base.specs.Legs.{IsApart};
@@ -93,6 +93,8 @@ impl ToSector {
         ensures waits { (t : ATick) → result ≡ Progress.Later t → (self.new ≡ self.old) × (regs.new ≡ regs.old) }
         ensures spends { Spends (change_left self.old.at) result (change_left self.new.at) }
         ensures off_times { gates.new ≡ gates_after gates.old regs.old regs.new }
+        ensures one_access { regs.new.accesses ≤ regs.old.accesses + 1 }
+        ensures no_time { regs.new.time ≡ regs.old.time }
         ensures dead_time { IsApart regs.old.hi regs.old.lo → KeepsDeadTime regs.old gates.new regs.new }
         ensures dead_safe { (back : List Note) → IsTied gates.old regs.old.hi regs.old.lo back → IsApart regs.old.hi regs.old.lo → IsSaid back gates.new regs.new }
     {

@@ -38,7 +38,7 @@ number_at t = t / 2400
 
 -- that number as it is read: 2^30 more with the stuck mark
 abbrev pub tick_state : Bank → ℕ
-tick_state b = number_at b.time + (if b.stuck then 1073741824 else 0)
+tick_state b = if b.stuck then number_at b.time + 1073741824 else number_at b.time
 
 -- a word of switches with those of another one off
 abbrev pub without : ℕ → ℕ → ℕ
