@@ -276,7 +276,7 @@ outside w (event.Stall at n) is g t = plain w (event.Stall at n) (line-push w.tr
 pub cap_law : HandlerLaw kind.Cap
 cap_law = record {
   called = λ w g t none s. cap_called w.core.orders.save_asked (so_far w).signal w.trace w.core w.bank (so_far w) (shut_tie w (t kind.Cap) none) s;
-  built = λ asked b due. tt;
+  built = λ w t due. tt;
   entered = λ w g t none due. (cap_entered w.core.orders.save_asked (so_far w).signal w.trace w.core w.bank (so_far w) refl (shut_tie w (t kind.Cap) none) due, (t kind.Cap).1);
   beside = λ w. elim [ kind.Cap ↦ λ ne t. absurd (ne refl) | j ↦ λ ne t. t ];
   steps = λ w answers outer g t above on left. steps (so_far w).signal w.core.cap_at w outer g (t kind.Cap).1 refl (t kind.Cap).0 on left;

@@ -238,7 +238,7 @@ enter_stood k loaded nest trace c b rest stack i none due above =
     let back : n ∷ reverse (opening loaded ++ rest) ≡ reverse (opening loaded ++ (rest ++ n ∷ [])) = sym (reverse-push (opening loaded ++ rest) n) ∙ ap reverse (append_assoc (opening loaded) rest (n ∷ [])) in
     record {
       said = subst (λ (t : ℕ). Said loaded nest trace t (rest ++ n ∷ [])) (sym (enter_time k b)) (said_push loaded nest trace b.time rest n i.said refl tt
-          (built_number k ((law k).built c.orders.save_asked b due), subst (λ (st : List Kind). IsAboveAll nest st (kind_number k)) (sym i.stack_is) above));
+          (built_number k ((law k).built w i.ties due), subst (λ (st : List Kind). IsAboveAll nest st (kind_number k)) (sym i.stack_is) above));
       gates = subst (λ (ns : List Note). GatesTied (after_entry b k).hi (after_entry b k).lo ns) back (enter_word k b (reverse (opening loaded ++ rest)) i.gates);
       ground = subst (λ (ns : List Note). Ground (record (after_enter k w) { back = ns })) back (ground_enter k w i.ground);
       ties = λ j. subst (λ (ns : List Note). Tie j (record (after_enter k w) { back = ns })) back (elim (same_kind j k) [

@@ -111,6 +111,7 @@ start_ties loaded nest kind.Cap = (
 )
 start_ties loaded nest kind.Tick = (tt, refl, omega arith)
 start_ties loaded nest kind.Main = tt
+start_ties loaded nest kind.Comm = (refl, record { high_off = refl; low_off = refl; no_duty = refl; no_event = refl; disarmed = refl; no_mark = refl })
 start_ties loaded nest k = refl
 
 start_patient : (loaded : Loaded) (nest : Nest) → Patient nest 0 false [] (sees [] (journal loaded []) 0) (called loaded nest [] [])
