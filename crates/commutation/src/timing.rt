@@ -36,7 +36,7 @@ pub struct Timing {
     advance: u8,
     interval: u32,
     last: Option<Tick>,
-    turns: [u32; 7],
+    turns: [u32; TURNS],
     turn_count: usize,
 }
 
@@ -63,7 +63,7 @@ impl Timing {
             advance,
             interval: FIRST_INTERVAL,
             last: None,
-            turns: [0; 7],
+            turns: [0; TURNS],
             turn_count: 0,
         }
     }
@@ -148,7 +148,7 @@ impl Timing {
         ensures timed { (back : List Note) → Timed self.now back → result ≡ six_of (turns_at back) }
     {
         if self.turn_count == TURNS {
-            self.turns[0].saturating_sub(self.turns[6])
+            self.turns[0].saturating_sub(self.turns[TURNS - 1])
         } else {
             0
         }
