@@ -1,5 +1,5 @@
 //! The timing of sector changes, by the zero crossings and by the changes themselves.
-ghost use Rattle.std.specs.Prelude.{◌≡◌, ◌≤◌, ◌<◌, ◌^◌, ◌∷◌, [], ℕ, true, false, sum, length, List, Option, IsNone, IsTrue};
+ghost use Rattle.std.specs.Prelude.{◌≡◌, ◌≤◌, ◌<◌, ◌^◌, ◌∷◌, [], ◌↔◌, ℕ, true, false, sum, length, List, IsNone};
 ghost use Rattle.esc_base.specs.declared.tick.Tick.{Tick};
 ghost use Rattle.esc_base.specs.declared.note.Note.{Note};
 ghost use Rattle.esc_base.specs.declared.note.Note.TheVariants as note;
@@ -36,7 +36,7 @@ pub struct Timing {
     advance: u8,
     interval: u32,
     last: Option<Tick>,
-    turns: [u32; 7],
+    turns: [u32; TURNS],
     turn_count: usize,
 }
 
@@ -63,7 +63,7 @@ impl Timing {
             advance,
             interval: FIRST_INTERVAL,
             last: None,
-            turns: [0; 7],
+            turns: [0; TURNS],
             turn_count: 0,
         }
     }
@@ -132,6 +132,7 @@ impl Timing {
     /// restart.
     pub fn period_us(&self) -> Option<u32>
         ensures period { result ≡ period_of self.now.turns }
+        ensures few { IsNone result ↔ (length self.now.turns < 7) }
         ensures timed { (back : List Note) → Timed self.now back → rests_at back ≡ false → result ≡ period_at back }
     {
         if self.turn_count == TURNS {
@@ -148,7 +149,7 @@ impl Timing {
         ensures timed { (back : List Note) → Timed self.now back → result ≡ six_of (turns_at back) }
     {
         if self.turn_count == TURNS {
-            self.turns[0].saturating_sub(self.turns[6])
+            self.turns[0].saturating_sub(self.turns[TURNS - 1])
         } else {
             0
         }
