@@ -108,3 +108,73 @@ pub record ControlRefuses : Type 0 where
   -- a P stands only where command 12 has asked for it since the last one
   pub save_that_nobody_asked_for : Uncontrolled (saves 2404 0 ∷ [])
   pub saved_twice : Uncontrolled (armed (frames 6 12 (acts 12000100 12 ∷ saves 12000200 0 ∷ saves 12000300 0 ∷ [])))
+
+-- ---- windows
+
+-- these notes, behind the first two, break the rules of windows for this trace, whatever stands behind them
+abbrev pub Unwindowed : List Event → List Note → Type 0
+Unwindowed trace notes = (loaded : Loaded) (after : List Note) → Windowed loaded trace (first_two ++ (notes ++ after)) → ⊥
+
+-- the signal line rises at tick 100, and no more
+abbrev pub one_edge : List Event
+one_edge = event.Edge (as_tick 100) true ∷ []
+
+pub record WindowsRefuse : Type 0 where
+  -- the first window opens at tick 0, in mode 0
+  pub first_window_at_5 : (loaded : Loaded) (trace : List Event) (after : List Note) → Windowed loaded trace (window 5 0 ∷ after) → ⊥
+  pub first_window_in_a_mode : (loaded : Loaded) (trace : List Event) (after : List Note) → Windowed loaded trace (window 0 2 ∷ after) → ⊥
+  -- W and F alternate
+  pub window_while_one_is_open : (trace : List Event) → Unwindowed trace (enters 100 3 ∷ window 106 0 ∷ [])
+  pub second_verdict_on_a_window : (trace : List Event) → Unwindowed trace (enters 5000 3 ∷ nothing 5006 ∷ nothing 5008 ∷ [])
+  -- an F stands in an activation that was entered at or after the window's close, and a window without an edge doesn't close
+  pub verdict_without_an_edge : Unwindowed [] (enters 5000 3 ∷ nothing 5006 ∷ [])
+  pub entered_before_the_close : Unwindowed one_edge (enters 3000 3 ∷ nothing 200000 ∷ [])
+  -- it is the verdict on the window's whole burst, and a window of mode 0 has no frames
+  pub detection_from_one_edge : Unwindowed one_edge (enters 130000 3 ∷ found 130006 2 ∷ [])
+  pub frame_from_one_edge : Unwindowed one_edge (enters 130000 3 ∷ good 130006 1000 ∷ [])
+  pub fault_where_no_mode_is_known : Unwindowed one_edge (enters 130000 3 ∷ bad 130006 1 ∷ [])
+  -- after a good frame and after a detection the next window opens in the same activation
+  pub no_window_after_a_frame : (trace : List Event) → Unwindowed trace (enters 5000 3 ∷ good 5080 1000 ∷ leaves 5084 3 ∷ [])
+  pub no_window_after_a_detection : (trace : List Event) → Unwindowed trace (enters 5000 3 ∷ found 5080 2 ∷ leaves 5084 3 ∷ [])
+  -- after a bad one and after nothing it opens in a later one, at least 600 ticks after the F
+  pub window_right_behind_a_bad_one : (trace : List Event) → Unwindowed trace (enters 5000 3 ∷ bad 5006 1 ∷ window 5010 0 ∷ [])
+  pub window_after_599_ticks : (trace : List Event) → Unwindowed trace (enters 5000 3 ∷ nothing 5006 ∷ leaves 5010 3 ∷ enters 5602 3 ∷ window 5605 0 ∷ [])
+  -- it opens in the mode that control is in
+  pub window_in_another_mode : (trace : List Event) → Unwindowed trace (enters 5000 3 ∷ found 5080 2 ∷ window 5084 1 ∷ [])
+
+-- ---- nesting
+
+-- these notes, behind the first two, don't nest, whatever stands behind them
+abbrev pub Unnested : Nest → List Note → Type 0
+Unnested nest notes = (loaded : Loaded) (after : List Note) → NestedAfter nest (opening loaded) (notes ++ after) → ⊥
+
+pub record NestingRefuses : Type 0 where
+  -- O stands for the innermost open kind
+  pub return_without_an_entry : (nest : Nest) → Unnested nest (leaves 100 2 ∷ [])
+  pub return_of_an_outer_kind : (nest : Nest) → Unnested nest (enters 2400 2 ∷ enters 2402 3 ∷ leaves 2404 2 ∷ [])
+  -- a kind enters above all open ones, and with nest 1 above MAIN alone
+  pub lower_kind_enters : (nest : Nest) → Unnested nest (enters 2400 3 ∷ enters 2402 2 ∷ [])
+  pub kind_enters_twice : (nest : Nest) → Unnested nest (enters 2400 2 ∷ enters 2402 2 ∷ [])
+  pub enters_above_another_with_nest_1 : Unnested One (enters 2400 2 ∷ enters 2402 3 ∷ [])
+  -- kinds that aren't built don't enter
+  pub uart_enters : (nest : Nest) → Unnested nest (enters 2400 1 ∷ [])
+  pub cmp_enters : (nest : Nest) → Unnested nest (enters 2400 4 ∷ [])
+  pub pwm_enters : (nest : Nest) → Unnested nest (enters 2400 5 ∷ [])
+  pub comm_enters : (nest : Nest) → Unnested nest (enters 2400 6 ∷ [])
+  -- W, F and M stand in CAP; K, A and X in TICK; P in MAIN
+  pub window_in_tick : (nest : Nest) → Unnested nest (enters 2400 2 ∷ window 2402 0 ∷ [])
+  pub verdict_where_none_is_open : (nest : Nest) → Unnested nest (nothing 5000 ∷ [])
+  pub act_in_main : (nest : Nest) → Unnested nest (enters 2400 0 ∷ acts 2402 3 ∷ [])
+  pub control_tick_in_cap : (nest : Nest) → Unnested nest (enters 2400 3 ∷ ticks 2402 1 0 0 ∷ [])
+  pub arming_in_cap : (nest : Nest) → Unnested nest (enters 2400 3 ∷ arms 2402 ∷ [])
+  pub loss_in_main : (nest : Nest) → Unnested nest (enters 2400 0 ∷ loses 2402 0 ∷ [])
+  pub save_in_tick : (nest : Nest) → Unnested nest (enters 2400 2 ∷ saves 2402 0 ∷ [])
+  -- a TICK that returns has one K
+  pub tick_returns_without_one : (nest : Nest) → Unnested nest (enters 2400 2 ∷ leaves 2408 2 ∷ [])
+  pub tick_returns_with_two : (nest : Nest) → Unnested nest (enters 4800 2 ∷ ticks 4802 1 0 0 ∷ ticks 4804 2 0 0 ∷ leaves 4808 2 ∷ [])
+  -- a CAP that returns has one F, or one W without an F
+  pub cap_returns_without_either : (nest : Nest) → Unnested nest (enters 5000 3 ∷ leaves 5008 3 ∷ [])
+  pub cap_returns_with_two_verdicts : (nest : Nest) → Unnested nest (enters 5000 3 ∷ good 5006 1000 ∷ window 5008 2 ∷ nothing 5010 ∷ leaves 5012 3 ∷ [])
+  -- a MAIN that returns has one P
+  pub main_returns_without_one : (nest : Nest) → Unnested nest (enters 2400 0 ∷ leaves 2404 0 ∷ [])
+  pub main_returns_with_two : (nest : Nest) → Unnested nest (enters 2400 0 ∷ saves 2402 0 ∷ saves 2404 0 ∷ leaves 2406 0 ∷ [])

@@ -4,4 +4,4 @@
 
 mod shown;
 
-pub use shown::control_refuses;
+pub use shown::{control_refuses, nesting_refuses, windows_refuse};

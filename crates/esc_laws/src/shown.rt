@@ -1,7 +1,17 @@
 //! What the laws refuse.
-ghost use Rattle.esc_laws.specs.Refused.{ControlRefuses};
+ghost use Rattle.esc_laws.specs.Refused.{ControlRefuses, NestingRefuses, WindowsRefuse};
 
 /// The rules of control refuse each of these small journals.
 pub fn control_refuses()
     ensures { ControlRefuses }
+{}
+
+/// The rules of windows and their verdicts refuse each of these.
+pub fn windows_refuse()
+    ensures { WindowsRefuse }
+{}
+
+/// The rules of which note stands in which activation refuse each of these.
+pub fn nesting_refuses()
+    ensures { NestingRefuses }
 {}
