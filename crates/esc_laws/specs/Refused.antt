@@ -1,20 +1,21 @@
 -- What the laws refuse: small wrong journals, each with the sentence that it breaks. Each is proved to break its law, so whoever
 -- weakens a law meets them.
-use Rattle.std.specs.Prelude.{◌≡◌, ◌<◌, ◌+◌, ℕ, zero, suc, Bool, true, false, List, [], ◌∷◌, ◌++◌}
+use Rattle.std.specs.Prelude.{◌≡◌, ◌<◌, ◌+◌, ℕ, zero, suc, true, false, List, [], ◌∷◌, ◌++◌}
 use Rattle.esc_base.specs.declared.kind.Kind.{Kind}
 use Rattle.esc_base.specs.declared.kind.Kind.TheVariants as kind
 use Rattle.esc_base.specs.declared.event.Event.{Event}
 use Rattle.esc_base.specs.declared.event.Event.TheVariants as event
 use Rattle.esc_base.specs.declared.note.Note.{Note}
 use Rattle.esc_base.specs.declared.note.Note.TheVariants as note
-use Rattle.esc_base.specs.Numbers.{as_tick}
+use Rattle.esc_base.specs.Numbers.{as_tick, kind_number}
 use Rattle.settings_block.specs.declared.stored.Loaded.{Loaded}
 use Rattle.interrupt_machine.specs.declared.nest.Nest.{Nest}
 use Rattle.interrupt_machine.specs.declared.nest.Nest.TheVariants.{One, Full}
 use Rattle.arming.specs.Controlled.{Controlled}
 use Rattle.esc_laws.specs.Windowed.{Windowed}
 use Rattle.esc_laws.specs.Nested.{NestedAfter}
-use Rattle.esc_laws.specs.Steps.{Turned, opening}
+use Rattle.esc_laws.specs.Steps.{Turned, opening, own_steps, EachStep, StepFits}
+use Rattle.esc_laws.specs.Legal.{Legal}
 
 -- ---- notes, each at its tick
 
@@ -178,3 +179,49 @@ pub record NestingRefuses : Type 0 where
   -- a MAIN that returns has one P
   pub main_returns_without_one : (nest : Nest) → Unnested nest (enters 2400 0 ∷ leaves 2404 0 ∷ [])
   pub main_returns_with_two : (nest : Nest) → Unnested nest (enters 2400 0 ∷ saves 2402 0 ∷ saves 2404 0 ∷ leaves 2406 0 ∷ [])
+
+-- ---- steps
+
+-- a kind's entry, and an own step with its notes
+abbrev pub entry : ℕ → Kind → Turned
+entry t k = record { tick = t; kind = k; enters = true; notes = enters t (kind_number k) ∷ [] }
+
+abbrev pub own : ℕ → Kind → List Note → Turned
+own t k notes = record { tick = t; kind = k; enters = false; notes = notes }
+
+-- no run makes this step behind those before
+abbrev pub Unmade : List Event → List Turned → Turned → Type 0
+Unmade trace before e = (loaded : Loaded) (nest : Nest) (cost : ℕ) → StepFits loaded nest cost trace before e → ⊥
+
+-- the window of mode 0 closes at 4200
+abbrev pub two_edges : List Event
+two_edges = event.Edge (as_tick 100) true ∷ event.Edge (as_tick 200) false ∷ []
+
+-- CAP waits from 4200 on, and TICK goes on for nine steps
+abbrev pub cap_waits : List Turned
+cap_waits =
+    entry 4190 kind.Tick ∷ own 4200 kind.Tick [] ∷ own 4202 kind.Tick [] ∷ own 4204 kind.Tick [] ∷ own 4206 kind.Tick [] ∷ own 4208 kind.Tick [] ∷ own 4210 kind.Tick []
+    ∷ own 4212 kind.Tick [] ∷ own 4214 kind.Tick [] ∷ own 4216 kind.Tick [] ∷ []
+
+pub record StepsRefuse : Type 0 where
+  -- an entry is its I and no more, and an own step has none
+  pub entry_without_its_note : (trace : List Event) (before : List Turned) → Unmade trace before (record { tick = 2400; kind = kind.Tick; enters = true; notes = [] })
+  pub entry_within_a_step : (trace : List Event) (before : List Turned) → Unmade trace before (own 2402 kind.Tick (enters 2402 3 ∷ []))
+  -- only the last note of an own step may be an O, and it is its own kind's: no MAIN saves and returns in a step of TICK
+  pub save_within_a_step_of_tick : (trace : List Event) (before : List Turned) → Unmade trace before (own 2404 kind.Tick (leaves 2404 2 ∷ saves 2404 0 ∷ leaves 2404 0 ∷ []))
+  pub return_of_another_kind : (trace : List Event) (before : List Turned) → Unmade trace before (own 2404 kind.Tick (leaves 2404 0 ∷ []))
+  -- its notes stand at its tick
+  pub note_at_another_tick : (trace : List Event) (before : List Turned) → Unmade trace before (own 2404 kind.Tick (ticks 2406 1 0 0 ∷ []))
+  -- while no kind is open a step is an entry, of the highest kind that is due or a higher one, at the first tick at which one is
+  pub own_step_where_none_is_open : (trace : List Event) → Unmade trace [] (own 2404 kind.Tick [])
+  pub main_enters_before_tick : Unmade [] [] (entry 2400 kind.Main)
+  pub tick_enters_a_tick_late : Unmade [] [] (entry 2401 kind.Tick)
+  -- steps are as far apart as the cost, and none stands in a stall
+  pub step_before_the_cost : (loaded : Loaded) (nest : Nest) (cost : ℕ) (trace : List Event) (before : List Turned) (e later : Turned) → later.tick < e.tick + cost → StepFits loaded nest cost trace (before ++ e ∷ []) later → ⊥
+  pub step_in_a_stall : (before : List Turned) → Unmade (event.Stall (as_tick 100) 50 ∷ []) before (entry 120 kind.Tick)
+  -- an activation of TICK has at most 48 own steps
+  pub step_49_of_tick : (trace : List Event) (before : List Turned) (t : ℕ) (notes : List Note) → own_steps kind.Tick before ≡ 48 → Unmade trace before (own t kind.Tick notes)
+  -- a kind that is due, and above the open ones, waits for no more than 8 steps of those
+  pub cap_waits_for_nine_steps : (loaded : Loaded) (cost : ℕ) → EachStep (StepFits loaded Full cost two_edges) [] cap_waits → ⊥
+  -- no step that is due is left out
+  pub control_tick_left_out : (loaded : Loaded) (nest : Nest) (cost : ℕ) → Legal loaded nest cost [] 2401 (opening loaded) → ⊥

@@ -4,4 +4,4 @@
 
 mod shown;
 
-pub use shown::{control_refuses, nesting_refuses, windows_refuse};
+pub use shown::{control_refuses, nesting_refuses, steps_refuse, windows_refuse};

@@ -1,5 +1,5 @@
 //! What the laws refuse.
-ghost use Rattle.esc_laws.specs.Refused.{ControlRefuses, NestingRefuses, WindowsRefuse};
+ghost use Rattle.esc_laws.specs.Refused.{ControlRefuses, NestingRefuses, StepsRefuse, WindowsRefuse};
 
 /// The rules of control refuse each of these small journals.
 pub fn control_refuses()
@@ -14,4 +14,9 @@ pub fn windows_refuse()
 /// The rules of which note stands in which activation refuse each of these.
 pub fn nesting_refuses()
     ensures { NestingRefuses }
+{}
+
+/// The rules of steps and their ticks refuse each of these.
+pub fn steps_refuse()
+    ensures { StepsRefuse }
 {}
