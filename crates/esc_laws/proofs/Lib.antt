@@ -26,3 +26,4 @@ pub mod Carried
 pub mod FlashSteps
 pub mod Refused
 pub mod RefusedSteps
+pub mod Allowed

@@ -6,6 +6,7 @@ pub mod Steps
 pub mod Legal
 pub mod Saves
 pub mod Refused
+pub mod Allowed
 pub mod Tied
 pub mod World
 pub mod Rooms

@@ -1,4 +1,5 @@
-//! What the laws refuse.
+//! What the laws refuse, and what they don't.
+ghost use Rattle.esc_laws.specs.Allowed.{SomeAreLegal};
 ghost use Rattle.esc_laws.specs.Refused.{ControlRefuses, NestingRefuses, StepsRefuse, WindowsRefuse};
 
 /// The rules of control refuse each of these small journals.
@@ -19,4 +20,9 @@ pub fn nesting_refuses()
 /// The rules of steps and their ticks refuse each of these.
 pub fn steps_refuse()
     ensures { StepsRefuse }
+{}
+
+/// Some whole journals are legal.
+pub fn some_are_legal()
+    ensures { SomeAreLegal }
 {}
