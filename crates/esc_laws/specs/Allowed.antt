@@ -1,3 +1,4 @@
+-- Shown of the laws, and no law.
 -- Small whole journals that are legal: the laws don't refuse all.
 use Rattle.std.specs.Prelude.{ℕ, List, [], ◌∷◌, ◌++◌}
 use Rattle.esc_base.specs.declared.note.Note.{Note}

@@ -1,3 +1,4 @@
+-- Shown of the laws, and no law.
 -- What the laws refuse: small wrong journals, each with the sentence that it breaks. Each is proved to break its law, so whoever
 -- weakens a law meets them.
 use Rattle.std.specs.Prelude.{◌≡◌, ◌<◌, ◌+◌, ℕ, zero, suc, true, false, List, [], ◌∷◌, ◌++◌}
