@@ -15,9 +15,10 @@ use Rattle.settings_block.specs.declared.stored.Loaded.{Loaded}
 use Rattle.interrupt_machine.specs.declared.nest.Nest.{Nest}
 use Rattle.interrupt_machine.specs.declared.nest.Nest.TheVariants.{Full}
 use Rattle.esc_laws.specs.Place.{place}
-use Rattle.esc_laws.specs.Steps.{Turned, opening, notes_in, open_in, free, after, next_step, own_steps, called, is_entry, EachStep, StepFits, Awaits}
+use Rattle.esc_laws.specs.Seen.{sees}
+use Rattle.esc_laws.specs.Steps.{Turned, opening, notes_in, journal, open_in, free, after, next_step, own_steps, called, is_entry, EachStep, StepFits, Awaits}
 use Rattle.esc_laws.specs.Legal.{Legal}
-use Rattle.esc_laws.specs.Refused.{enters, leaves, ticks, saves, entry, own, two_edges, cap_waits, StepsRefuse}
+use Rattle.esc_laws.specs.Refused.{enters, leaves, ticks, saves, entry, own, two_edges, cap_waits, two_later_edges, cap_rests, StepsRefuse}
 use Rattle.esc_laws.proofs.Pushes.{after-push, after-none, free-none, own-push}
 use Rattle.esc_laws.proofs.Stalls.{free_later}
 
@@ -31,6 +32,42 @@ from_0 cost = after-none cost [] ∙ free-none 0
 stalled : free (event.Stall (as_tick 100) 50 ∷ []) 120 ≡ 150
 unfolding free
 stalled = refl
+
+rested_open : (loaded : Loaded) → open_in loaded cap_rests ≡ []
+unfolding place
+rested_open loaded = refl
+
+rested_after : (cost : ℕ) → after cost two_later_edges cap_rests ≡ 5002 + cost
+unfolding after free
+rested_after cost = refl
+
+no_stall : (t : ℕ) → free two_later_edges t ≡ t
+unfolding free
+no_stall t = refl
+
+calls_again : (loaded : Loaded) → sees two_later_edges (journal loaded cap_rests) 6202 kind.Cap ≡ true
+unfolding place line burst
+calls_again loaded = refl
+
+not_so_late : (loaded : Loaded) (nest : Nest) (cost : ℕ) → cost ≤ 1200 → StepFits loaded nest cost two_later_edges cap_rests (entry 6203 kind.Cap) → ⊥
+not_so_late loaded nest cost le f =
+    let from = rested_after cost in
+    let z : true ≡ false = sym (calls_again loaded) ∙ f.idle (rested_open loaded) 6202 (omega arith) (omega arith) (no_stall 6202) kind.Cap in
+    absurd (cc)
+
+tick_open : (loaded : Loaded) → open_in loaded (entry 2400 kind.Tick ∷ []) ≡ kind.Tick ∷ []
+unfolding place
+tick_open loaded = refl
+
+after_entry : after 2 [] (entry 2400 kind.Tick ∷ []) ≡ 2402
+unfolding after free
+after_entry = refl
+
+late : (loaded : Loaded) (nest : Nest) → StepFits loaded nest 2 [] (entry 2400 kind.Tick ∷ []) (own 2404 kind.Tick []) → ⊥
+late loaded nest f =
+    let at = f.open_step (λ o. (let z : kind.Tick ∷ [] ≡ [] = sym (tick_open loaded) ∙ o in cc)) in
+    let next = after_entry in
+    omega arith
 
 waited : (loaded : Loaded) → called loaded Full two_edges cap_waits kind.Cap ≡ 9
 unfolding called place line burst
@@ -59,6 +96,7 @@ rest_is loaded rest e = cc
 pub steps_refuse : StepsRefuse
 steps_refuse = record {
   entry_without_its_note = λ trace before loaded nest cost f. (let e = f.entry refl in absurd (cc));
+  entry_that_returns_at_once = λ trace before loaded nest cost f. (let e = f.entry refl in absurd (cc));
   entry_within_a_step = λ trace before loaded nest cost f. (let e : true ≡ false = All-head (λ n. is_entry n ≡ false) (enters 2402 3) [] (f.no_entry refl) in absurd (cc));
   save_within_a_step_of_tick = λ trace before loaded nest cost f. (let e = (f.returns refl).1 in absurd (cc));
   return_of_another_kind = λ trace before loaded nest cost f. (let e = (f.returns refl).0 in absurd (omega arith));
@@ -69,9 +107,12 @@ steps_refuse = record {
       let from = from_0 cost in
       let z : true ≡ false = f.idle (none_open loaded) 2400 (omega arith) (omega arith) (free-none 2400) kind.Tick in
       absurd (cc));
+  cap_enters_late_after_nothing = not_so_late;
+  own_step_late = late;
   step_before_the_cost = λ loaded nest cost trace before e later lt f. before_cost cost trace before e later lt f.later;
   step_in_a_stall = λ before loaded nest cost f. (let e = f.free_at in let s = stalled in absurd (omega arith));
   step_49_of_tick = λ trace before t notes all loaded nest cost f. (let most = f.few refl in let next = own-push kind.Tick before (own t kind.Tick notes) in absurd (omega arith));
+  open_after_48_steps = λ loaded log open_is all few. (let fewer = few kind.Tick (rw open_is refl) in absurd (omega arith));
   cap_waits_for_nine_steps = λ loaded cost each. (let most = each.1.1.1.1.1.1.1.1.1.0.patient kind.Cap in let nine = waited loaded in absurd (omega arith));
   control_tick_left_out = λ loaded nest cost l. no_log loaded nest cost l.log (rest_is loaded l.rest l.begins ∙ l.steps_are) l.fits l.all_made;
 }
