@@ -1,34 +1,31 @@
 -- The small legal journals: the first by what a run that has made no step carries, the others step by step.
-use Rattle.std.proofs.Common.{◌≡◌, ◌≢◌, ◌<◌, ◌≤◌, ◌+◌, ◌*◌, ◌/◌, inl, ℕ, Bool, true, false, nat_lt, nat_le, List, [], ◌∷◌, ◌++◌, reverse, Some, None, refl, sym, ◌∙◌, ap, subst, arith, lit<, lit≤, All}
+use Rattle.std.proofs.Common.{◌≡◌, ◌<◌, ◌≤◌, ◌+◌, ◌*◌, ◌/◌, inl, ℕ, true, false, nat_lt, nat_le, List, [], ◌∷◌, ◌++◌, refl, sym, ◌∙◌, subst, arith, lit<, All}
 use Rattle.std.proofs.lemmas.Bool.{le-ltb}
 use Rattle.std.proofs.lemmas.Bool.Decides.{nat_tests}
 use Rattle.std.proofs.lemmas.List.Elements.{All-nil, All-cons, All-push}
 use Rattle.esc_base.specs.declared.kind.Kind.{Kind}
 use Rattle.esc_base.specs.declared.kind.Kind.TheVariants as kind
 use Rattle.esc_base.specs.declared.note.Note.{Note}
-use Rattle.esc_base.specs.declared.note.Note.TheVariants as note
 use Rattle.esc_base.specs.Journal.{time_of}
-use Rattle.esc_base.specs.Numbers.{as_tick, kind_number, mode_of}
+use Rattle.esc_base.specs.Numbers.{kind_number, mode_of}
 use Rattle.esc_base.specs.Range.{InRange}
 use Rattle.esc_base.specs.Trace.{line}
 use Rattle.edge_capture.specs.Burst.{burst}
 use Rattle.servo_input.specs.declared.servo.Servo.{Servo}
 use Rattle.servo_input.specs.declared.servo.InputKind.{InputKind}
 use Rattle.servo_input.specs.declared.servo.InputKind.TheVariants as input
-use Rattle.input_detect.specs.declared.window.Judgement.TheVariants.{Nothing}
 use Rattle.input_detect.specs.Judge.{judged}
 use Rattle.settings_block.specs.declared.stored.Loaded.{Loaded}
 use Rattle.settings_block.specs.Settings.{servo_of}
 use Rattle.interrupt_machine.specs.declared.nest.Nest.{Nest}
 use Rattle.interrupt_machine.specs.declared.nest.Nest.TheVariants.{One, Full}
-use Rattle.interrupt_machine.specs.Did.{most}
 use Rattle.interrupt_machine.specs.Open.{is_open}
 use Rattle.arming.specs.Controlled.{Controlled}
 use Rattle.esc_laws.specs.Place.{place}
 use Rattle.esc_laws.specs.Seen.{sees}
 use Rattle.esc_laws.specs.Windowed.{verdict_note, Answers, WindowRule}
 use Rattle.esc_laws.specs.Nested.{IsAboveAll, NestRule}
-use Rattle.esc_laws.specs.Steps.{Turned, opening, notes_in, journal, open_in, free, after, uses, own_steps, steps_since, entered_at, called, is_entry, StepFits, Awaits, OpenFew, Below}
+use Rattle.esc_laws.specs.Steps.{Turned, opening, journal, open_in, free, after, uses, own_steps, steps_since, entered_at, called, is_entry, StepFits, OpenFew}
 use Rattle.esc_laws.specs.Legal.{Legal}
 use Rattle.esc_laws.specs.Refused.{enters, leaves, nothing, ticks, entry, own, two_edges}
 use Rattle.esc_laws.specs.Allowed.{tick_and_verdict, SomeAreLegal}
@@ -315,13 +312,20 @@ one_controlled loaded = (record { paid = refl; tick = tt; save = tt }, (record {
 
 all_controlled : (loaded : Loaded) → Controlled (opening loaded ++ tick_and_verdict)
 all_controlled loaded = (
-  record { paid = refl; tick = tt; save = tt }, (
-    record { paid = refl; tick = tt; save = tt }, (
-      record { paid = refl; tick = tt; save = tt }, (
-        record { paid = refl; tick = record { number_is = refl; rises = omega arith; marks_are = refl; demand_is = refl }; save = tt }, (
-          record { paid = refl; tick = tt; save = tt }, (
-            record { paid = refl; tick = tt; save = tt }, (
-              record { paid = refl; tick = tt; save = tt }, (
+  record { paid = refl; tick = tt; save = tt },
+  (
+    record { paid = refl; tick = tt; save = tt },
+    (
+      record { paid = refl; tick = tt; save = tt },
+      (
+        record { paid = refl; tick = record { number_is = refl; rises = omega arith; marks_are = refl; demand_is = refl }; save = tt },
+        (
+          record { paid = refl; tick = tt; save = tt },
+          (
+            record { paid = refl; tick = tt; save = tt },
+            (
+              record { paid = refl; tick = tt; save = tt },
+              (
                 record { paid = refl; tick = tt; save = tt },
                 tt,
               ),

@@ -1,5 +1,5 @@
 -- The wrong journals break their laws: each at one of its notes.
-use Rattle.std.proofs.Common.{◌≡◌, ◌<◌, ◌≤◌, ◌+◌, ◌⊎◌, inl, inr, ℕ, Bool, true, false, List, [], ◌∷◌, ◌++◌, reverse, Option, Some, None, refl, sym, ◌∙◌, ap, subst, arith}
+use Rattle.std.proofs.Common.{◌≡◌, ◌<◌, ◌≤◌, ◌⊎◌, inl, inr, ℕ, true, false, List, [], ◌∷◌, ◌++◌, reverse, Some, refl, sym, ◌∙◌, ap, subst, arith}
 use Rattle.std.proofs.lemmas.List.Elements.{All-head}
 use Rattle.esc_base.specs.declared.kind.Kind.{Kind}
 use Rattle.esc_base.specs.declared.kind.Kind.TheVariants as kind
@@ -8,8 +8,8 @@ use Rattle.esc_base.specs.declared.signal.Edge.{Edge}
 use Rattle.esc_base.specs.declared.note.Note.{Note}
 use Rattle.esc_base.specs.declared.note.Note.TheVariants as note
 use Rattle.esc_base.specs.Numbers.{as_tick, kind_number, mode_of}
-use Rattle.esc_base.specs.Trace.{Line, line}
-use Rattle.edge_capture.specs.Burst.{burst, close, close_of}
+use Rattle.esc_base.specs.Trace.{line}
+use Rattle.edge_capture.specs.Burst.{burst, close}
 use Rattle.servo_input.specs.declared.servo.Servo.{Servo}
 use Rattle.servo_input.specs.declared.servo.InputKind.{InputKind}
 use Rattle.servo_input.specs.declared.servo.InputKind.TheVariants as input
@@ -20,9 +20,9 @@ use Rattle.settings_block.specs.declared.stored.Loaded.{Loaded}
 use Rattle.settings_block.specs.Settings.{servo_of}
 use Rattle.interrupt_machine.specs.declared.nest.Nest.{Nest}
 use Rattle.interrupt_machine.specs.declared.nest.Nest.TheVariants.{One, Full}
-use Rattle.arming.specs.Controlled.{Controlled, FitsControl, Outcome}
+use Rattle.arming.specs.Controlled.{Controlled, FitsControl}
 use Rattle.arming.proofs.InOrder.{back_to, each_at}
-use Rattle.esc_laws.specs.Place.{Place, place}
+use Rattle.esc_laws.specs.Place.{Place}
 use Rattle.esc_laws.specs.Windowed.{verdict_note, Answers, WindowRule, WindowRuleAt, Windowed}
 use Rattle.esc_laws.specs.Nested.{IsAboveAll, NestRule, NestRuleAt, NestedAfter}
 use Rattle.esc_laws.specs.Steps.{opening}

@@ -1,7 +1,6 @@
 -- The wrong steps break the rules of steps.
-use Rattle.std.proofs.Common.{◌≡◌, ◌<◌, ◌≤◌, ◌+◌, ℕ, Bool, true, false, List, [], ◌∷◌, ◌++◌, refl, sym, ◌∙◌, ap, subst, arith}
+use Rattle.std.proofs.Common.{◌≡◌, ◌<◌, ◌≤◌, ◌+◌, ℕ, true, false, List, [], ◌∷◌, ◌++◌, refl, sym, ◌∙◌, ap, arith}
 use Rattle.std.proofs.lemmas.List.Elements.{All-head}
-use Rattle.esc_base.specs.declared.kind.Kind.{Kind}
 use Rattle.esc_base.specs.declared.kind.Kind.TheVariants as kind
 use Rattle.esc_base.specs.declared.event.Event.{Event}
 use Rattle.esc_base.specs.declared.event.Event.TheVariants as event
@@ -16,9 +15,8 @@ use Rattle.interrupt_machine.specs.declared.nest.Nest.{Nest}
 use Rattle.interrupt_machine.specs.declared.nest.Nest.TheVariants.{Full}
 use Rattle.esc_laws.specs.Place.{place}
 use Rattle.esc_laws.specs.Seen.{sees}
-use Rattle.esc_laws.specs.Steps.{Turned, opening, notes_in, journal, open_in, free, after, next_step, own_steps, called, is_entry, EachStep, StepFits, Awaits}
-use Rattle.esc_laws.specs.Legal.{Legal}
-use Rattle.esc_laws.specs.Refused.{enters, leaves, ticks, saves, entry, own, two_edges, cap_waits, two_later_edges, cap_rests, StepsRefuse}
+use Rattle.esc_laws.specs.Steps.{Turned, opening, notes_in, journal, open_in, free, after, called, is_entry, EachStep, StepFits, Awaits}
+use Rattle.esc_laws.specs.Refused.{enters, ticks, entry, own, two_edges, cap_waits, two_later_edges, cap_rests, StepsRefuse}
 use Rattle.esc_laws.proofs.Pushes.{after-push, after-none, free-none, own-push}
 use Rattle.esc_laws.proofs.Stalls.{free_later}
 
