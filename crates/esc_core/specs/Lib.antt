@@ -3,6 +3,6 @@ pub mod Brain
 pub mod Stepped
 pub mod Cap
 pub mod Tick
+pub mod Calls
 pub mod Background
-pub mod Saving
 pub mod Firmware

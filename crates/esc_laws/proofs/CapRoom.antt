@@ -1,5 +1,5 @@
 -- CAP's room.
-use Rattle.std.proofs.Common.{◌≡◌, ◌≤◌, ◌<◌, ◌+◌, ℕ, Bool, true, false, if◌then◌else◌, List, [], ◌∷◌, ◌++◌, length, Option, Some, None, refl, sym, ◌∙◌, ap, subst, arith, lit≤, ◌⊎◌, inl, inr}
+use Rattle.std.proofs.Common.{◌≡◌, ◌≤◌, ◌<◌, ◌+◌, ℕ, Bool, true, false, if◌then◌else◌, List, [], ◌∷◌, ◌++◌, length, Option, Some, None, refl, sym, ◌∙◌, ap, subst, arith, ◌⊎◌, inl, inr}
 use Rattle.esc_base.specs.declared.kind.Kind.{Kind}
 use Rattle.esc_base.specs.declared.kind.Kind.TheVariants as kind
 use Rattle.esc_base.specs.declared.signal.Frame.{Frame}
@@ -38,8 +38,7 @@ use Rattle.settings_block.specs.Settings.{servo_of}
 use Rattle.esc_core.specs.Orders.{obeyed_if}
 use Rattle.esc_core.specs.Stepped.{goes_on}
 use Rattle.esc_core.specs.Cap.{act_in, after_edges, after_copy, command_note, judge_step, next_edge, opens, takes, cap_step}
-use Rattle.esc_core.specs.Firmware.{cap_left, counted_down}
-use Rattle.esc_core.proofs.Bounds.{cap_moves}
+use Rattle.esc_core.specs.Firmware.{cap_left}
 use Rattle.esc_laws.specs.Place.{Signal, Listens, Judged, Rests}
 use Rattle.esc_laws.specs.Windowed.{verdict_note, Answers, AnswersAt, OpensAt}
 use Rattle.esc_laws.specs.Tied.{cap_view, IsClosing, IsCopying, IsJudged, SignalTied, WindowSound, MainTied}
@@ -51,7 +50,7 @@ use Rattle.esc_laws.proofs.Saves.{input_kept, servo_kept, acting_named, obeyed_t
 use Rattle.esc_laws.proofs.CapTies.{start_tied, copy_goes, copy_tied, good_tied, opens_tied, pause_tied, back_tied, back_done, back_may}
 use Rattle.esc_laws.proofs.Lines.{plain_follows, edge_now, edge_bank, edge_follows, edge_sound, line_changes, line_same}
 use Rattle.esc_laws.proofs.Dues.{cap_called, cap_entered, signal_follows, time_follows}
-use Rattle.esc_laws.proofs.Law.{HandlerLaw, mask_free}
+use Rattle.esc_laws.proofs.Law.{HandlerLaw}
 use Rattle.esc_laws.proofs.RoomSteps.{ground_noted, inside, popped, if_true, if_false}
 
 most_few : (m : Mode) (n : ℕ) → n ≤ most m → n ≤ 32
@@ -66,6 +65,7 @@ few b w = most_few b.window.mode (length b.window.edges) w.few
 begins : (x : World) (outer : List Kind) (w m : ℕ) → Ground x → WindowSound x.bank.window x.bank.time → (so_far x).signal ≡ Listens w m → IsClosing (cap_view x.trace x.core x.bank (so_far x)) w m → (so_far x).stack ≡ kind.Cap ∷ outer
     → StepKeeps kind.Cap outer x (goes_on (record x.core { burst = []; cap_at = after_edges (read_value x.bank reg.CapState) }) (Reads reg.CapState))
 begins x outer w m g sound e k on = record {
+  gate = λ word moved. absurd (moved refl refl);
   fits = tt;
   ground = g;
   tie = (start_tied x.trace x.core x.bank (so_far x) w m e (few x.bank sound) k, sound);
@@ -76,6 +76,7 @@ begins x outer w m g sound e k on = record {
 copies : (v : Bool) (x : World) (outer : List Kind) (w m left : ℕ) → v ≡ true → Ground x → WindowSound x.bank.window x.bank.time → (so_far x).signal ≡ Listens w m → IsCopying (cap_view x.trace x.core x.bank (so_far x)) w m left → (so_far x).stack ≡ kind.Cap ∷ outer
     → StepKeeps kind.Cap outer x (goes_on (if v then record x.core { burst = x.core.burst ++ next_edge x.core x.bank ∷ []; cap_at = after_copy left } else record x.core { cap_at = cap.Back }) (Reads (reg.CapEdge (length x.core.burst))))
 copies true x outer w m left v g sound e k on = record {
+  gate = λ word moved. absurd (moved refl refl);
   fits = tt;
   ground = g;
   tie = (copy_tied x.trace x.core x.bank (so_far x) w m left e sound g.small k, sound);
@@ -89,7 +90,8 @@ copies false x outer w m left v g sound e k on = cc
 open_window : (x : World) (outer : List Kind) (s : Signal) → Ground x → (so_far x).signal ≡ s → OpensAt s x.bank.time → x.bank.timer ≡ None
     → ((so_far x).verdicts ≡ 1) ⊎ (((so_far x).verdicts ≡ 0) × ((so_far x).windows ≡ 0)) → (so_far x).stack ≡ kind.Cap ∷ outer → StepKeeps kind.Cap outer x (opens x.core x.bank)
 open_window x outer s g e may none done on = record {
-  fits = (record { at = refl; no_entry = refl; save = λ e. cc; window = (rw e may, g.control.ties.mode_is); nest = inside (so_far x).stack kind.Cap outer on }, tt);
+  gate = λ word moved. absurd (moved refl refl);
+  fits = (record { at = refl; owned = refl; window = (rw e may, g.control.ties.mode_is); nest = inside (so_far x).stack kind.Cap outer on }, tt);
   ground = ground_noted x (note.Window (as_tick x.bank.time) (mode_number x.core.control.mode)) refl refl tt refl g;
   tie = (opens_tied x.trace x.core x.bank (so_far x) g.edges none done, record { past = λ k d l. absurd (omega arith); order = λ a b le l. absurd (omega arith); few = omega arith });
   others = elim [ kind.Cap ↦ λ ne t. absurd (ne refl) | j ↦ λ ne t. t ];
@@ -99,6 +101,7 @@ open_window x outer s g e may none done on = record {
 pauses : (x : World) (outer : List Kind) (f at : ℕ) (opens_next : Bool) → Ground x → WindowSound x.bank.window x.bank.time → (so_far x).signal ≡ Judged f opens_next → IsJudged (cap_view x.trace x.core x.bank (so_far x)) → opens_next ≡ false → at ≡ f + 600
     → (so_far x).stack ≡ kind.Cap ∷ outer → StepKeeps kind.Cap outer x (cap_step (cap.Pause at) x.core x.bank)
 pauses x outer f at opens_next g sound e k shut is on = record {
+  gate = λ word moved. absurd (moved refl refl);
   fits = tt;
   ground = g;
   tie = (pause_tied x.trace x.core x.bank (so_far x) f at opens_next e k shut is, sound);
@@ -144,7 +147,8 @@ good : (o : Option Act) (x : World) (outer : List Kind) (frame : Frame) (w m : �
     → Stands (after_frame x.core.control frame.value) (with_frame (as_tick x.bank.time) frame.value (bit_of frame.telemetry) o x.back)
     → StepKeeps kind.Cap outer x (record { core = record x.core { cap_at = cap.Open; control = after_frame x.core.control frame.value; orders = obeyed_if x.core.orders o }; access = NoAccess; notes = note.Good (as_tick x.bank.time) frame.value (bit_of frame.telemetry) ∷ command_note x.bank.time o; over = false })
 good None x outer frame w m g sound k answers on named st = record {
-  fits = (record { at = refl; no_entry = refl; save = λ e. cc; window = answers; nest = inside (so_far x).stack kind.Cap outer on }, tt);
+  gate = λ word moved. absurd (moved refl refl);
+  fits = (record { at = refl; owned = refl; window = answers; nest = inside (so_far x).stack kind.Cap outer on }, tt);
   ground = record { control = st; orders = orders_other x.loaded x.core.orders (note.Good (as_tick x.bank.time) frame.value (bit_of frame.telemetry)) x.back refl g.orders; level = g.level; edges = g.edges; small = g.small };
   tie = (good_tied None frame x.trace x.core x.bank (so_far x) w m k, sound);
   others = elim [ kind.Cap ↦ λ ne t. absurd (ne refl) | j ↦ λ ne t. t ];
@@ -154,7 +158,8 @@ good (Some act) x outer frame w m g sound k answers on named st =
     let n : Note = note.Good (as_tick x.bank.time) frame.value (bit_of frame.telemetry) in
     let here = inside (so_far x).stack kind.Cap outer on in
     record {
-      fits = (record { at = refl; no_entry = refl; save = λ e. cc; window = answers; nest = here }, (record { at = refl; no_entry = refl; save = λ e. cc; window = tt; nest = here }, tt));
+      gate = λ word moved. absurd (moved refl refl);
+      fits = (record { at = refl; owned = refl; window = answers; nest = here }, (record { at = refl; owned = refl; window = tt; nest = here }, tt));
       ground = record { control = st; orders = obeyed_tied x.loaded x.core.orders act (as_tick x.bank.time) (n ∷ x.back) (named act refl) (orders_other x.loaded x.core.orders n x.back refl g.orders); level = g.level; edges = g.edges; small = g.small };
       tie = (good_tied (Some act) frame x.trace x.core x.bank (so_far x) w m k, sound);
       others = elim [ kind.Cap ↦ λ ne t. absurd (ne refl) | kind.Main ↦ λ ne t. still_asked x.core.main_at x.core.orders (Some act) (so_far x).saves t | j ↦ λ ne t. t ];
@@ -167,21 +172,24 @@ judges (Good frame) x outer w m g sound k answers on =
     good (act_in x.core frame) x outer frame w m g sound k answers on (λ act e. acting_named (after_frame x.core.control frame.value).run.frames frame.value act e)
     (frame_stands x.core.control x.back (as_tick x.bank.time) frame.value (bit_of frame.telemetry) g.control)
 judges (Bad why) x outer w m g sound k answers on = record {
-  fits = (record { at = refl; no_entry = refl; save = λ e. cc; window = answers; nest = inside (so_far x).stack kind.Cap outer on }, tt);
+  gate = λ word moved. absurd (moved refl refl);
+  fits = (record { at = refl; owned = refl; window = answers; nest = inside (so_far x).stack kind.Cap outer on }, tt);
   ground = ground_noted x (note.Bad (as_tick x.bank.time) (why_number why)) refl refl tt refl g;
   tie = ((record { verdict = ap (λ (n : ℕ). n + 1) k.no_verdict; taken = k.taken; running = k.hears.running; no_timer = k.hears.no_timer }, (refl, refl)), sound);
   others = elim [ kind.Cap ↦ λ ne t. absurd (ne refl) | j ↦ λ ne t. t ];
   stack_is = on;
 }
 judges (Found mode) x outer w m g sound k answers on = record {
-  fits = (record { at = refl; no_entry = refl; save = λ e. cc; window = answers; nest = inside (so_far x).stack kind.Cap outer on }, tt);
+  gate = λ word moved. absurd (moved refl refl);
+  fits = (record { at = refl; owned = refl; window = answers; nest = inside (so_far x).stack kind.Cap outer on }, tt);
   ground = record { control = found_stands x.core.control x.back (as_tick x.bank.time) mode g.control; orders = orders_other x.loaded x.core.orders (note.Detected (as_tick x.bank.time) (mode_number mode)) x.back refl g.orders; level = g.level; edges = g.edges; small = g.small };
   tie = ((record { verdict = ap (λ (n : ℕ). n + 1) k.no_verdict; taken = k.taken; running = k.hears.running; no_timer = k.hears.no_timer }, refl), sound);
   others = elim [ kind.Cap ↦ λ ne t. absurd (ne refl) | j ↦ λ ne t. t ];
   stack_is = on;
 }
 judges Nothing x outer w m g sound k answers on = record {
-  fits = (record { at = refl; no_entry = refl; save = λ e. cc; window = answers; nest = inside (so_far x).stack kind.Cap outer on }, tt);
+  gate = λ word moved. absurd (moved refl refl);
+  fits = (record { at = refl; owned = refl; window = answers; nest = inside (so_far x).stack kind.Cap outer on }, tt);
   ground = ground_noted x (note.Nothing (as_tick x.bank.time)) refl refl tt refl g;
   tie = ((record { verdict = ap (λ (n : ℕ). n + 1) k.no_verdict; taken = k.taken; running = k.hears.running; no_timer = k.hears.no_timer }, (refl, refl)), sound);
   others = elim [ kind.Cap ↦ λ ne t. absurd (ne refl) | j ↦ λ ne t. t ];
@@ -193,11 +201,11 @@ judges Nothing x outer w m g sound k answers on = record {
 returns : (x : World) (outer : List Kind) → Ground x → SignalTied (so_far x).signal cap.Back (cap_view x.trace x.core x.bank (so_far x)) → WindowSound x.bank.window x.bank.time → (so_far x).stack ≡ kind.Cap ∷ outer
     → StepKeeps kind.Cap outer x (cap_step cap.Back x.core x.bank)
 returns x outer g tied sound on = record {
+  gate = λ word moved. absurd (moved refl refl);
   fits = (
     record {
       at = refl;
-      no_entry = refl;
-      save = λ e. cc;
+      owned = refl;
       window = λ e. back_may x.trace x.core x.bank (so_far x) (so_far x).signal tied;
       nest = (inside (so_far x).stack kind.Cap outer on, back_done x.trace x.core x.bank (so_far x) (so_far x).signal tied);
     },
@@ -271,9 +279,7 @@ cap_law = record {
   built = λ asked b due. tt;
   entered = λ w g t none due. (cap_entered w.core.orders.save_asked (so_far w).signal w.trace w.core w.bank (so_far w) refl (shut_tie w (t kind.Cap) none) due, (t kind.Cap).1);
   beside = λ w. elim [ kind.Cap ↦ λ ne t. absurd (ne refl) | j ↦ λ ne t. t ];
-  steps = λ w saved outer g t above on left. steps (so_far w).signal w.core.cap_at w outer g (t kind.Cap).1 refl (t kind.Cap).0 on left;
-  need = λ c. lit≤ tt;
-  mask = λ saved c b outer keeps left. mask_free kind.Cap (cap_left c.cap_at) c b outer _ refl refl keeps (cap_moves c.cap_at (counted_down c b) b left);
+  steps = λ w answers outer g t above on left. steps (so_far w).signal w.core.cap_at w outer g (t kind.Cap).1 refl (t kind.Cap).0 on left;
   later = λ w u from small g t. later w u from (t kind.Cap);
   outside = λ w e at g t. outside w e at g (t kind.Cap);
 }

@@ -22,6 +22,7 @@ use Rattle.interrupt_machine.proofs.Waiting.{highest_none}
 use Rattle.arming.proofs.InOrder.{each_front, in_order}
 use Rattle.arming.specs.Controlled.{Controlled, FitsControl}
 use Rattle.esc_core.specs.Brain.{Brain}
+use Rattle.esc_core.specs.Calls.{Answer}
 use Rattle.esc_core.specs.Firmware.{new_core, entered_core, core_step}
 use Rattle.esc_core.specs.Stepped.{IsStepped}
 use Rattle.esc_core.proofs.Bounds.{core_step-goes}
@@ -56,17 +57,17 @@ entry_told : (loaded : Loaded) (nest : Nest) (cost : ℕ) (trace : List Event) (
     → Logged loaded nest cost trace (b.time + cost) c' b' stack' (log ++ record { tick = b.time; kind = k; enters = true; notes = notes } ∷ [])
 entry_told loaded nest cost trace c c' b b' stack stack' log notes k e f g h l = rw (e, f, g, h) l
 
-own_told : (loaded : Loaded) (nest : Nest) (cost : ℕ) (trace : List Event) (c c' : Brain) (b b' : Bank) (stack stack' : List Kind) (log : List Turned) (notes : List Note) (k : Kind) (outer : List Kind) (did : Did) (saved : Bool) → 1 ≤ cost
-    → Logged loaded nest cost trace b.time c b stack log → (b.masked ≡ false → next_entry nest stack (due_now c.orders.save_asked b) ≡ None) → stack ≡ k ∷ outer → IsStepped b (core_step k saved c b) did c' b'
+own_told : (loaded : Loaded) (nest : Nest) (cost : ℕ) (trace : List Event) (c c' : Brain) (b b' : Bank) (stack stack' : List Kind) (log : List Turned) (notes : List Note) (k : Kind) (outer : List Kind) (did : Did) (answers : List Answer) → 1 ≤ cost
+    → Logged loaded nest cost trace b.time c b stack log → (b.masked ≡ false → next_entry nest stack (due_now c.orders.save_asked b) ≡ None) → stack ≡ k ∷ outer → IsStepped b (core_step k answers c b) did c' b'
     → stack' ≡ open_after k outer did → notes ≡ own_notes b.hi b.lo b' k did
     → Logged loaded nest cost trace (b.time + cost) c' b' stack' (log ++ record { tick = b.time; kind = k; enters = false; notes = notes } ∷ [])
-own_told loaded nest cost trace c c' b b' stack stack' log notes k outer did saved some l none same stepped open_is notes_are =
+own_told loaded nest cost trace c c' b b' stack stack' log notes k outer did answers some l none same stepped open_is notes_are =
     let l' : Logged loaded nest cost trace b.time c b (k ∷ outer) log = subst (λ (st : List Kind). Logged loaded nest cost trace b.time c b st log) same l in
     let none' : b.masked ≡ false → next_entry nest (k ∷ outer) (due_now c.orders.save_asked b) ≡ None = subst (λ (st : List Kind). b.masked ≡ false → next_entry nest st (due_now c.orders.save_asked b) ≡ None) same none in
-    let i : IsStepped b (stepped_by k saved c b) did c' b' = rw (core_step-goes k saved c b (steady k c b (k ∷ outer) l'.keeps refl)) at stepped in
-    let told = notes_are ∙ own_are k b b' (stepped_by k saved c b) did c' i in
-    let left = open_is ∙ left_is k outer did (stepped_by k saved c b).over i.over_is in
-    rw (i.core_is, i.bank_is, left, told) (own_turn loaded nest cost trace c b outer log k saved some l' none')
+    let i : IsStepped b (stepped_by k answers c b) did c' b' = rw (core_step-goes k answers c b (steady k c b (k ∷ outer) l'.keeps refl)) at stepped in
+    let told = notes_are ∙ own_are k b b' (stepped_by k answers c b) did c' i in
+    let left = open_is ∙ left_is k outer did (stepped_by k answers c b).over i.over_is in
+    rw (i.core_is, i.bank_is, left, told) (own_turn loaded nest cost trace c b outer log k answers some l' none')
 
 pub turn_logged : (loaded : Loaded) (nest : Nest) (cost : ℕ) (trace : List Event) (c c' : Brain) (b b' : Bank) (flash flash' : Told) (stack stack' : List Kind) (log : List Turned) (notes : List Note)
     → 1 ≤ cost → b.time + cost < 2147483648 → Logged loaded nest cost trace b.time c b stack log → is_idle stack (due_now c.orders.save_asked b) ≡ false
@@ -76,7 +77,7 @@ turn_logged loaded nest cost trace c c' b b' flash flash' stack stack' log notes
     entry_told loaded nest cost trace c c' b b' stack stack' log notes e.0 e.1.entered e.1.regs_are e.1.stack_is e.1.notes_are
     (entry_turn loaded nest cost trace c b stack log e.0 some l e.1.unmasked e.1.chosen)
 turn_logged loaded nest cost trace c c' b b' flash flash' stack stack' log notes some small l busy (inr e) =
-    own_told loaded nest cost trace c c' b b' stack stack' log notes e.0 e.1 e.2 e.3.stepped.saved some l e.3.none_enters e.3.innermost_is e.3.stepped.stepped e.3.stack_is e.3.notes_are
+    own_told loaded nest cost trace c c' b b' stack stack' log notes e.0 e.1 e.2 e.3.stepped.answers some l e.3.none_enters e.3.innermost_is e.3.stepped.stepped e.3.stack_is e.3.notes_are
 
 -- ---- time
 

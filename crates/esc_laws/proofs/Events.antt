@@ -35,6 +35,7 @@ marks_later loaded nest trace b stack log u le m = record {
   nested = m.nested;
   stack_is = m.stack_is;
   past = All-later time_of (journal loaded log) b.time u le m.past;
+  gates = m.gates;
 }
 
 pub patient_later : (loaded : Loaded) (nest : Nest) (trace : List Event) (c : Brain) (b : Bank) (stack : List Kind) (log : List Turned) (u : ℕ) → b.time ≤ u
@@ -47,16 +48,18 @@ patient_later loaded nest trace c b stack log u le p =
 record SameRegs (b b' : Bank) : Type 0 where
   time : b'.time ≡ b.time
   masked : b'.masked ≡ b.masked
+  high : b'.hi ≡ b.hi
+  low : b'.lo ≡ b.lo
 
 same_regs : (b : Bank) (e : Event) → SameRegs b (after_event b e)
-same_regs b (event.Edge at level) = by_test (differ b.level level) (record b { level = level; window = after_edge b.window (record { t = as_tick b.time; level = level }) }) (record { time = refl; masked = refl })
+same_regs b (event.Edge at level) = by_test (differ b.level level) (record b { level = level; window = after_edge b.window (record { t = as_tick b.time; level = level }) }) (record { time = refl; masked = refl; high = refl; low = refl })
   where
     by_test : (v : Bool) (b' : Bank) → SameRegs b b' → SameRegs b (if v then b' else b)
     by_test true b' s = s
-    by_test false b' s = record { time = refl; masked = refl }
-same_regs b (event.Comp at level) = record { time = refl; masked = refl }
-same_regs b (event.Serial at byte) = record { time = refl; masked = refl }
-same_regs b (event.Stall at n) = record { time = refl; masked = refl }
+    by_test false b' s = record { time = refl; masked = refl; high = refl; low = refl }
+same_regs b (event.Comp at level) = record { time = refl; masked = refl; high = refl; low = refl }
+same_regs b (event.Serial at byte) = record { time = refl; masked = refl; high = refl; low = refl }
+same_regs b (event.Stall at n) = record { time = refl; masked = refl; high = refl; low = refl }
 
 pub event_time : (b : Bank) (e : Event) → (after_event b e).time ≡ b.time
 event_time b e = (same_regs b e).time
@@ -77,6 +80,7 @@ marks_grow loaded nest trace e b stack log at m = record {
   nested = m.nested;
   stack_is = m.stack_is;
   past = All-later time_of (journal loaded log) b.time (after_event b e).time (let s = event_time b e in omega arith) m.past;
+  gates = (let same = same_regs b e in record { high = same.high ∙ m.gates.high; low = same.low ∙ m.gates.low });
 }
 
 pub keeps_grow : (e : Event) (c : Brain) (b : Bank) (stack : List Kind) → Keeps c b stack → Keeps c (after_event b e) stack

@@ -1,11 +1,8 @@
 -- The handlers' laws, one row each.
-use Rattle.std.proofs.Common.{refl, ◌∙◌, lit≤, arith}
+use Rattle.std.proofs.Common.{refl, ◌∙◌, arith}
 use Rattle.esc_base.specs.declared.kind.Kind.{Kind}
 use Rattle.esc_base.specs.declared.kind.Kind.TheVariants as kind
-use Rattle.esc_core.specs.Stepped.{goes_back}
-use Rattle.esc_core.specs.Firmware.{left_of, shut, counted_down}
-use Rattle.esc_core.proofs.Bounds.{bare_moves}
-use Rattle.esc_laws.proofs.Law.{HandlerLaw, mask_free}
+use Rattle.esc_laws.proofs.Law.{HandlerLaw}
 use Rattle.esc_laws.proofs.Entries.{entered_others}
 use Rattle.esc_laws.proofs.CapRoom.{cap_law}
 use Rattle.esc_laws.proofs.TickRoom.{tick_law}
@@ -21,9 +18,7 @@ law k = record {
   built = λ asked b due. cc;
   entered = λ w g t none due. cc;
   beside = λ w. elim [ kind.Main ↦ λ ne t. t | kind.Tick ↦ λ ne t. t | kind.Cap ↦ λ ne t. t | j ↦ λ ne t. (entered_others k w.core j ne).0 ∙ t ];
-  steps = λ w saved outer g t above on left. absurd (let shut = t k in omega arith);
-  need = λ c. lit≤ tt;
-  mask = λ saved c b outer keeps left. mask_free k (left_of c k) c b outer (goes_back (shut (counted_down c b) k)) refl refl keeps (bare_moves k c b left);
+  steps = λ w answers outer g t above on left. absurd (let shut = t k in omega arith);
   later = λ w u from small g t. t k;
   outside = λ w e at g t. t k;
 }

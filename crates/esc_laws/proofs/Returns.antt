@@ -1,5 +1,5 @@
 -- The only O of a step is its return, and stands last: with another one more kinds would have been left than one.
-use Rattle.std.proofs.Common.{◌≡◌, ◌+◌, ℕ, Bool, true, false, if◌then◌else◌, List, [], ◌∷◌, ◌++◌, Some, refl, ap, arith}
+use Rattle.std.proofs.Common.{◌≡◌, ◌+◌, ℕ, Bool, true, false, if◌then◌else◌, List, [], ◌∷◌, ◌++◌, Some, None, refl, ap, arith}
 use Rattle.esc_base.specs.declared.tick.Tick.{Tick}
 use Rattle.esc_base.specs.declared.kind.Kind.{Kind}
 use Rattle.esc_base.specs.declared.note.Note.{Note}
@@ -27,7 +27,7 @@ left_one (j ∷ outer) k i = refl
 -- notes that fit leave as many kinds as there are O among them
 all_left : (k : Kind) (w : World) (notes : List Note) → AllFit k w notes → depth (placed (onto notes w.back)).stack + leaves notes ≡ depth (placed w.back).stack
 all_left k w [] f = omega arith
-all_left k w (note.Enter t j ∷ notes) f = absurd (let z : true ≡ false = f.0.no_entry in cc)
+all_left k w (note.Enter t j ∷ notes) f = absurd (let z : None ≡ Some k = f.0.owned in cc)
 all_left k w (note.Leave t j ∷ notes) f =
     let rest = all_left k (noted w (note.Leave t j)) notes f.1 in
     let one = left_one (so_far w).stack (kind_of j) f.0.nest.0 in

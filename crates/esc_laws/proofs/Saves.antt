@@ -22,7 +22,7 @@ use Rattle.settings_block.specs.Block.{block_of}
 use Rattle.arming.proofs.InOrder.{reverse-push}
 use Rattle.esc_core.specs.declared.orders.Orders.{Orders}
 use Rattle.esc_core.specs.Orders.{obeyed}
-use Rattle.esc_core.specs.Saving.{IsSaved, IsSpoilt}
+use Rattle.esc_core.specs.Calls.{IsSaved, IsSpoilt}
 use Rattle.esc_laws.specs.Saves.{is_save, after_save, and_places, any_places, changed_by, erased_places, flash_at, refused_at, settings_at, FlashFits, Holds, HoldsSaves}
 use Rattle.esc_laws.specs.Steps.{first_notes, load_number}
 use Rattle.esc_laws.specs.Tied.{OrdersTied}

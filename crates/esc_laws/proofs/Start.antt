@@ -99,6 +99,7 @@ start_marks loaded nest = record {
   nested = tt;
   stack_is = ap (λ (p : Place). p.stack) (sym (place-opening loaded));
   past = (start_said loaded nest [] 0).past;
+  gates = record { high = refl; low = refl };
 }
 
 no_burst : [] ≡ burst (line []).edges 0 (mode_of 0)

@@ -20,18 +20,19 @@ use Rattle.interrupt_machine.proofs.OpenKinds.{closed_above, entry_above, same_k
 use Rattle.interrupt_machine.proofs.Waiting.{entry_patient, own_patient, entry_highest, entry_masked, highest_is_due, highest_most, self_open}
 use Rattle.esc_core.specs.Brain.{Brain}
 use Rattle.esc_core.specs.Stepped.{Stepped, is_return}
-use Rattle.esc_core.specs.Firmware.{left_of, entered_core, kind_step, counted_down}
-use Rattle.esc_core.proofs.Bounds.{Bounds, bounds, core_step-goes}
+use Rattle.esc_core.specs.Calls.{Answer}
+use Rattle.esc_core.specs.Firmware.{left_of, need_of, entered_core, kind_step, counted_down}
+use Rattle.esc_core.proofs.Bounds.{Bounds, need_some, mask_down, goes_bounds}
 use Rattle.esc_laws.specs.Place.{Place}
 use Rattle.esc_laws.specs.Seen.{sees, sees_at}
 use Rattle.esc_laws.specs.Steps.{Turned, notes_in, journal, after, uses, is_of, is_entry, ReturnsLast, own_steps, steps_since, entered_at, called, StepFits, Below}
 use Rattle.esc_laws.specs.Tied.{Keeps}
-use Rattle.esc_laws.specs.World.{world, enters, step_notes, open_left}
+use Rattle.esc_laws.specs.World.{world, enters, all_notes, open_left}
 use Rattle.esc_laws.specs.Rooms.{Ground, Tie}
 use Rattle.esc_laws.specs.Logged.{Logged}
 use Rattle.esc_laws.proofs.Pushes.{own-push, since-push}
 use Rattle.esc_laws.proofs.Stalls.{free_ended}
-use Rattle.esc_laws.proofs.Facts.{of_self, of_other, some_open, outer_open, left_open, same_gates}
+use Rattle.esc_laws.proofs.Facts.{of_self, of_other, some_open, outer_open, left_open, access_time}
 use Rattle.esc_laws.proofs.Laws.{law}
 use Rattle.esc_laws.proofs.Stages.{IsOwn, placed-is, enter_time, enter_stood, step_made}
 use Rattle.esc_laws.proofs.Entries.{entered_others, entered_most, entry_above_all, keeps_entry}
@@ -177,29 +178,28 @@ own_fits loaded nest cost trace c b outer log k notes l own back calls =
       patient = calls;
     }
 
-abbrev pub stepped_by : Kind → Bool → Brain → Bank → Stepped
-stepped_by k saved c b = kind_step k saved (counted_down c b) b
+abbrev pub stepped_by : Kind → List Answer → Brain → Bank → Stepped
+stepped_by k answers c b = kind_step k answers (counted_down c b) b
 
-pub own_turn : (loaded : Loaded) (nest : Nest) (cost : ℕ) (trace : List Event) (c : Brain) (b : Bank) (outer : List Kind) (log : List Turned) (k : Kind) (saved : Bool) → 1 ≤ cost → Logged loaded nest cost trace b.time c b (k ∷ outer) log
+pub own_turn : (loaded : Loaded) (nest : Nest) (cost : ℕ) (trace : List Event) (c : Brain) (b : Bank) (outer : List Kind) (log : List Turned) (k : Kind) (answers : List Answer) → 1 ≤ cost → Logged loaded nest cost trace b.time c b (k ∷ outer) log
     → (b.masked ≡ false → next_entry nest (k ∷ outer) (due_now c.orders.save_asked b) ≡ None)
-    → Logged loaded nest cost trace (b.time + cost) (stepped_by k saved c b).core (accessed b (stepped_by k saved c b).access) (open_left k outer (stepped_by k saved c b)) (log ++ own_of b.time k (step_notes b.time k (stepped_by k saved c b)) ∷ [])
-own_turn loaded nest cost trace c b outer log k saved some l none =
-    let s : Stepped = stepped_by k saved c b in
+    → Logged loaded nest cost trace (b.time + cost) (stepped_by k answers c b).core (accessed b (stepped_by k answers c b).access) (open_left k outer (stepped_by k answers c b)) (log ++ own_of b.time k (all_notes b k (stepped_by k answers c b)) ∷ [])
+own_turn loaded nest cost trace c b outer log k answers some l none =
+    let s : Stepped = stepped_by k answers c b in
     let b' : Bank = accessed b s.access in
-    let notes : List Note = step_notes b.time k s in
+    let notes : List Note = all_notes b k s in
     let inside : is_open (k ∷ outer) k ≡ true = self_open k outer in
     let left : 0 < left_of c k = l.keeps.live k inside in
-    let held : b.masked ≡ true → 0 < c.hold = (λ m. (let a = l.keeps.enough m k refl in let n = (law k).need c in omega arith)) in
-    let bound : Bounds k c b s = subst (λ (x : Stepped). Bounds k c b x) (core_step-goes k saved c b (steady k c b (k ∷ outer) l.keeps refl)) (bounds k saved c b left l.keeps.hold held) in
-    let gates = same_gates b s.access in
-    let made = step_made k saved loaded nest trace c b (notes_in log) outer (stood loaded nest cost trace b.time c b (k ∷ outer) log l) (λ j above. l.keeps.shut j (closed_above (k ∷ outer) j l.sorted above)) left in
+    let held : b.masked ≡ true → 0 < c.hold = (λ m. (let a = l.keeps.enough m k refl in let n = need_some k c in omega arith)) in
+    let bound : Bounds k c b s = goes_bounds k answers c b left l.keeps.hold (steady k c b (k ∷ outer) l.keeps refl) in
+    let made = step_made k answers loaded nest trace c b (notes_in log) outer (stood loaded nest cost trace b.time c b (k ∷ outer) log l) (λ j above. l.keeps.shut j (closed_above (k ∷ outer) j l.sorted above)) left in
     logged_after loaded nest cost trace c s.core b b' (k ∷ outer) (open_left k outer s) log (own_of b.time k notes) some refl l (record {
-      keeps = keeps_own k saved c b outer l.sorted l.keeps left bound;
+      keeps = keeps_own k c b outer s l.sorted l.keeps bound;
       sorted = left_stack s.over k outer l.sorted;
-      time = gates.time;
+      time = access_time b s.access;
       out = made.0;
       patient = own_patient nest k outer (open_left k outer s) (due_now c.orders.save_asked b) (sees trace (journal loaded log) b.time) (sees trace (journal loaded (log ++ own_of b.time k notes ∷ [])) b.time) b.masked b'.masked c.hold s.core.hold (called loaded nest trace log)
-          (λ m. sees_due loaded nest trace c b (k ∷ outer) log l.keeps l.ground l.ties) none (left_goes s.over b'.masked k outer bound.back) held bound.mask.most bound.mask.less l.patient;
+          (λ m. sees_due loaded nest trace c b (k ∷ outer) log l.keeps l.ground l.ties) none (left_goes s.over b'.masked k outer (mask_down k (need_of c k) c.hold b s bound.mask)) held (λ m. bound.mask.most) bound.mask.less l.patient;
       owes = own_owes c s.core outer log k b.time notes s.over l.owes bound.moves.less (λ j ne. (bound.moves.others j ne).0);
       reached = λ j o. reached_on cost trace log (own_of b.time k notes) j refl (l.at_next (λ e. cc)) (l.reached j (left_open s.over k j outer o));
       reached_by = λ j o t below. by_on cost trace log (own_of b.time k notes) j t refl (l.at_next (λ e. cc)) (l.reached j (left_open s.over k j outer o)) below;

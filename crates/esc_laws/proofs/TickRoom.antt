@@ -1,5 +1,5 @@
 -- TICK's room.
-use Rattle.std.proofs.Common.{◌≡◌, ◌≤◌, ◌<◌, ◌+◌, ◌/◌, ℕ, Bool, true, false, nat_lt, if◌then◌else◌, List, ◌∷◌, Option, Some, None, refl, sym, ◌∙◌, ap, arith, lit≤}
+use Rattle.std.proofs.Common.{◌≡◌, ◌≤◌, ◌<◌, ◌+◌, ◌/◌, ℕ, Bool, true, false, nat_lt, List, ◌∷◌, Option, Some, None, refl, sym, ◌∙◌, ap, arith}
 use Rattle.std.proofs.lemmas.Bool.{lt-ltb, ltb-true}
 use Rattle.esc_base.specs.declared.kind.Kind.{Kind}
 use Rattle.esc_base.specs.declared.kind.Kind.TheVariants as kind
@@ -7,8 +7,6 @@ use Rattle.esc_base.specs.declared.note.Cause.{Cause}
 use Rattle.esc_base.specs.declared.note.Note.{Note}
 use Rattle.esc_base.specs.declared.note.Note.TheVariants as note
 use Rattle.esc_base.specs.Numbers.{cause_number, as_tick}
-use Rattle.timer_regs.specs.Bank.{Bank}
-use Rattle.timer_regs.specs.Effects.{read_value}
 use Rattle.timer_regs.specs.declared.regs.Reg.TheVariants as reg
 use Rattle.interrupt_machine.specs.Did.{Reads}
 use Rattle.arming.specs.ControlAt.{number_at}
@@ -18,18 +16,15 @@ use Rattle.arming.specs.Stands.{Stands, with_outcome}
 use Rattle.arming.proofs.TickTies.{tick_stands}
 use Rattle.esc_core.specs.declared.state.TickAt.{TickAt}
 use Rattle.esc_core.specs.declared.state.TickAt.TheVariants as tick
-use Rattle.esc_core.specs.Brain.{Brain}
-use Rattle.esc_core.specs.Stepped.{goes_on}
-use Rattle.esc_core.specs.Tick.{outcome_note, tick_notes, ticked, tick_step}
-use Rattle.esc_core.specs.Firmware.{tick_left, tick_need, counted_down}
-use Rattle.esc_core.proofs.Bounds.{counted_most}
+use Rattle.esc_core.specs.Tick.{outcome_note, ticked, tick_step}
+use Rattle.esc_core.specs.Firmware.{tick_left}
 use Rattle.esc_laws.specs.Tied.{TickTied}
 use Rattle.esc_laws.specs.World.{World, so_far}
 use Rattle.esc_laws.specs.Rooms.{Ground, TickTie, StepKeeps}
 use Rattle.esc_laws.proofs.Facts.{due_tick, tick_due}
 use Rattle.esc_laws.proofs.Saves.{orders_other}
 use Rattle.esc_laws.proofs.RoomSteps.{ground_noted, inside, popped, if_true}
-use Rattle.esc_laws.proofs.Law.{MaskKept, HandlerLaw}
+use Rattle.esc_laws.proofs.Law.{HandlerLaw}
 
 -- ---- its steps
 
@@ -46,7 +41,8 @@ asks (Some cause) armed_now w outer demand kept g none on st number =
     let k : Note = note.Control (as_tick w.bank.time) (w.bank.time / 2400) 0 demand in
     let here = inside (so_far w).stack kind.Tick outer on in
     record {
-      fits = (record { at = refl; no_entry = refl; save = λ e. cc; window = tt; nest = here }, (record { at = refl; no_entry = refl; save = λ e. cc; window = tt; nest = here }, tt));
+      gate = λ word moved. absurd (moved refl refl);
+      fits = (record { at = refl; owned = refl; window = tt; nest = here }, (record { at = refl; owned = refl; window = tt; nest = here }, tt));
       ground = record { control = st; orders = orders_other w.loaded w.core.orders (note.Lost (as_tick w.bank.time) (cause_number cause)) (k ∷ w.back) refl (orders_other w.loaded w.core.orders k w.back refl g.orders); level = g.level; edges = g.edges; small = g.small };
       tie = (ap (λ (n : ℕ). n + 1) none, sym number, omega arith);
       others = elim [ kind.Tick ↦ λ ne t. absurd (ne refl) | j ↦ λ ne t. t ];
@@ -56,7 +52,8 @@ asks None true w outer demand kept g none on st number =
     let k : Note = note.Control (as_tick w.bank.time) (w.bank.time / 2400) 0 demand in
     let here = inside (so_far w).stack kind.Tick outer on in
     record {
-      fits = (record { at = refl; no_entry = refl; save = λ e. cc; window = tt; nest = here }, (record { at = refl; no_entry = refl; save = λ e. cc; window = tt; nest = here }, tt));
+      gate = λ word moved. absurd (moved refl refl);
+      fits = (record { at = refl; owned = refl; window = tt; nest = here }, (record { at = refl; owned = refl; window = tt; nest = here }, tt));
       ground = record { control = st; orders = orders_other w.loaded w.core.orders (note.Armed (as_tick w.bank.time)) (k ∷ w.back) refl (orders_other w.loaded w.core.orders k w.back refl g.orders); level = g.level; edges = g.edges; small = g.small };
       tie = (ap (λ (n : ℕ). n + 1) none, sym number, omega arith);
       others = elim [ kind.Tick ↦ λ ne t. absurd (ne refl) | j ↦ λ ne t. t ];
@@ -65,7 +62,8 @@ asks None true w outer demand kept g none on st number =
 asks None false w outer demand kept g none on st number =
     let k : Note = note.Control (as_tick w.bank.time) (w.bank.time / 2400) 0 demand in
     record {
-      fits = (record { at = refl; no_entry = refl; save = λ e. cc; window = tt; nest = inside (so_far w).stack kind.Tick outer on }, tt);
+      gate = λ word moved. absurd (moved refl refl);
+      fits = (record { at = refl; owned = refl; window = tt; nest = inside (so_far w).stack kind.Tick outer on }, tt);
       ground = record { control = st; orders = orders_other w.loaded w.core.orders k w.back refl g.orders; level = g.level; edges = g.edges; small = g.small };
       tie = (ap (λ (n : ℕ). n + 1) none, sym number, omega arith);
       others = elim [ kind.Tick ↦ λ ne t. absurd (ne refl) | j ↦ λ ne t. t ];
@@ -92,35 +90,17 @@ reads w outer g t below none on =
 steps : (at : TickAt) (w : World) (outer : List Kind) → Ground w → TickTie w → TickTied at w.bank.number_read w.bank.time (so_far w).ticks → (so_far w).stack ≡ kind.Tick ∷ outer → 0 < tick_left at
     → StepKeeps kind.Tick outer w (tick_step at w.core w.bank)
 steps tick.Shut w outer g t i on left = absurd (omega arith)
-steps tick.Raise w outer g t i on left = record { fits = tt; ground = g; tie = (i, t.1, t.2); others = elim [ kind.Tick ↦ λ ne t. absurd (ne refl) | j ↦ λ ne t. t ]; stack_is = on }
+steps tick.Raise w outer g t i on left = record { gate = λ word moved. absurd (moved refl refl); fits = tt; ground = g; tie = (i, t.1, t.2); others = elim [ kind.Tick ↦ λ ne t. absurd (ne refl) | j ↦ λ ne t. t ]; stack_is = on }
 steps tick.Read w outer g t i on left = reads w outer g t i.0 i.1 on
-steps tick.Lower w outer g t i on left = record { fits = tt; ground = g; tie = (i, t.1, t.2); others = elim [ kind.Tick ↦ λ ne t. absurd (ne refl) | j ↦ λ ne t. t ]; stack_is = on }
+steps tick.Lower w outer g t i on left = record { gate = λ word moved. absurd (moved refl refl); fits = tt; ground = g; tie = (i, t.1, t.2); others = elim [ kind.Tick ↦ λ ne t. absurd (ne refl) | j ↦ λ ne t. t ]; stack_is = on }
 steps tick.Back w outer g t i on left = record {
-  fits = (record { at = refl; no_entry = refl; save = λ e. cc; window = λ e. cc; nest = (inside (so_far w).stack kind.Tick outer on, i) }, tt);
+  gate = λ word moved. absurd (moved refl refl);
+  fits = (record { at = refl; owned = refl; window = λ e. cc; nest = (inside (so_far w).stack kind.Tick outer on, i) }, tt);
   ground = ground_noted w (note.Leave (as_tick w.bank.time) 2) refl refl tt refl g;
   tie = (tt, t.1, t.2);
   others = elim [ kind.Tick ↦ λ ne t. absurd (ne refl) | j ↦ λ ne t. t ];
   stack_is = popped (so_far w).stack kind.Tick outer on;
 }
-
--- ---- the mask
-
-asks_mask : (v : Bool) (n : ℕ) (c : Brain) (b : Bank) → c.hold ≤ 8 → (b.masked ≡ true → 2 ≤ c.hold) → b.masked ≡ true
-    → MaskKept kind.Tick b (if v then record {
-      core = record (counted_down c b) { tick_at = tick.Lower; control = after_tick c.control n (decide (view_of c.control) n 0) };
-      access = Reads reg.TickState;
-      notes = tick_notes b.time n 0 (ticked (counted_down c b) n 0);
-      over = false;
-    } else goes_on (record (counted_down c b) { tick_at = tick.Lower }) (Reads reg.TickState))
-asks_mask true n c b most enough up = record { hold = counted_most b.masked c.hold most; enough = λ m. (rw up (let h = enough up in omega arith), refl); stands = λ l. (up, refl) }
-asks_mask false n c b most enough up = record { hold = counted_most b.masked c.hold most; enough = λ m. (rw up (let h = enough up in omega arith), refl); stands = λ l. (up, refl) }
-
-mask : (at : TickAt) (c : Brain) (b : Bank) → 0 < tick_left at → c.hold ≤ 8 → (b.masked ≡ true → tick_need at ≤ c.hold) → (tick_need at ≤ 8 → b.masked ≡ true) → MaskKept kind.Tick b (tick_step at (counted_down c b) b)
-mask tick.Shut c b left most enough up = absurd (omega arith)
-mask tick.Raise c b left most enough up = record { hold = lit≤ tt; enough = λ m. (lit≤ tt, refl); stands = λ n. (refl, refl) }
-mask tick.Read c b left most enough up = asks_mask (nat_lt c.control.number (read_value b reg.TickState)) (read_value b reg.TickState) c b most enough (up (lit≤ tt))
-mask tick.Lower c b left most enough up = record { hold = counted_most b.masked c.hold most; enough = λ m. cc; stands = λ n. absurd (omega arith) }
-mask tick.Back c b left most enough up = record { hold = counted_most b.masked c.hold most; enough = λ m. absurd (let n = enough m in omega arith); stands = λ n. absurd (omega arith) }
 
 -- ---- time
 
@@ -129,19 +109,13 @@ later tick.Raise read t u ticks le i = (let a : read < t / 2400 = i.0 in omega a
 later tick.Read read t u ticks le i = (let a : read < t / 2400 = i.0 in omega arith, i.1)
 later at read t u ticks le i = i
 
-need : (at : TickAt) → 1 ≤ tick_need at
-need tick.Shut = lit≤ tt
-need at = lit≤ tt
-
 pub tick_law : HandlerLaw kind.Tick
 tick_law = record {
   called = λ w g t none s. tick_due w.core.orders.save_asked w.bank (rw ((t kind.Tick).1, g.control.ties.number_is) (ltb-true (number_at w.back) (w.bank.time / 2400) s));
   built = λ asked b due. tt;
   entered = λ w g t none due. ((due_tick w.core.orders.save_asked w.bank (t kind.Tick).2 due, refl), (t kind.Tick).1, (t kind.Tick).2);
   beside = λ w. elim [ kind.Tick ↦ λ ne t. absurd (ne refl) | j ↦ λ ne t. t ];
-  steps = λ w saved outer g t above on left. steps w.core.tick_at w outer g (t kind.Tick) (t kind.Tick).0 on left;
-  need = λ c. need c.tick_at;
-  mask = λ saved c b outer keeps left. mask c.tick_at c b left keeps.hold (λ m. keeps.enough m kind.Tick refl) (λ n. (keeps.masked kind.Tick n).0);
+  steps = λ w answers outer g t above on left. steps w.core.tick_at w outer g (t kind.Tick) (t kind.Tick).0 on left;
   later = λ w u from small g t. (later w.core.tick_at w.bank.number_read w.bank.time u (so_far w).ticks from (t kind.Tick).0, (t kind.Tick).1, (let r = (t kind.Tick).2 in omega arith));
   outside = λ w e at g t. (t kind.Tick);
 }

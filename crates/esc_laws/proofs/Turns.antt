@@ -54,6 +54,7 @@ by_new cost trace log e j t f b = rw (since-push j log e, entered-push j log e, 
 pub stood : (loaded : Loaded) (nest : Nest) (cost : ℕ) (trace : List Event) (next : ℕ) (c : Brain) (b : Bank) (stack : List Kind) (log : List Turned) → Logged loaded nest cost trace next c b stack log → Stood loaded nest trace c b (notes_in log) stack
 stood loaded nest cost trace next c b stack log l = record {
   said = record { in_time = l.marks.in_time; windowed = l.marks.windowed; nested = l.marks.nested; past = l.marks.past };
+  gates = l.marks.gates;
   ground = l.ground;
   ties = l.ties;
   stack_is = sym l.marks.stack_is;
@@ -93,7 +94,7 @@ logged_after loaded nest cost trace c c' b b' stack stack' log e some at l g =
     record {
       keeps = g.keeps;
       sorted = g.sorted;
-      marks = record { in_time = out.said.in_time; windowed = out.said.windowed; nested = out.said.nested; stack_is = sym out.stack_is; past = out.said.past };
+      marks = record { in_time = out.said.in_time; windowed = out.said.windowed; nested = out.said.nested; stack_is = sym out.stack_is; past = out.said.past; gates = out.gates };
       ground = out.ground;
       ties = out.ties;
       patient = subst (λ (t : ℕ). Patient nest c'.hold b'.masked stack' (sees trace (journal loaded (log ++ e ∷ [])) t) (called loaded nest trace (log ++ e ∷ []))) (sym g.time) patient;

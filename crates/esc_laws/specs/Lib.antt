@@ -1,5 +1,6 @@
 -- the laws, which end in `Legal`, and what a journal says of the flash
 pub mod Place
+pub mod Gates
 pub mod Windowed
 pub mod Nested
 pub mod Seen

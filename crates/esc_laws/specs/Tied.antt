@@ -26,6 +26,7 @@ use Rattle.esc_core.specs.declared.state.MainAt.TheVariants as main
 use Rattle.esc_core.specs.declared.orders.Orders.{Orders}
 use Rattle.esc_core.specs.Brain.{Brain}
 use Rattle.esc_core.specs.Firmware.{left_of, need_of}
+use Rattle.esc_laws.specs.Gates.{high_at, low_at}
 use Rattle.esc_laws.specs.Saves.{settings_at}
 use Rattle.esc_laws.specs.Place.{Signal, Silent, Listens, Judged, Rests, Place}
 
@@ -165,6 +166,11 @@ MainTied main.Back save saves = saves ≡ 1
 pub record OrdersTied (loaded : Loaded) (o : Orders) (back : List Note) : Type 0 where
   pub settings_are : o.settings ≡ settings_at loaded.settings back
   pub save_is : o.save_asked ≡ asked_at back
+
+-- the switches that are on are those of the newest G
+pub record GatesTied (hi lo : ℕ) (back : List Note) : Type 0 where
+  pub high : hi ≡ high_at back
+  pub low : lo ≡ low_at back
 
 -- what holds between any two steps of the core, the registers and the open kinds
 pub record Keeps (c : Brain) (b : Bank) (stack : List Kind) : Type 0 where

@@ -12,6 +12,7 @@ use Rattle.timer_regs.specs.Bank.{Bank}
 use Rattle.timer_regs.specs.Effects.{advanced, after_entry, after_line}
 use Rattle.interrupt_machine.specs.declared.nest.Nest.{Nest}
 use Rattle.interrupt_machine.specs.Did.{accessed}
+use Rattle.interrupt_machine.specs.Turn.{gate_note}
 use Rattle.esc_core.specs.Brain.{Brain}
 use Rattle.esc_core.specs.Firmware.{entered_core, counted_down}
 use Rattle.esc_core.specs.Stepped.{Stepped}
@@ -57,6 +58,14 @@ after_enter k w = record w { core = entered_core w.core k; bank = after_entry w.
 -- the notes of a step, with its return
 abbrev pub step_notes : ℕ → Kind → Stepped → List Note
 step_notes t k s = s.notes ++ (if s.over then note.Leave (as_tick t) (kind_number k) ∷ [] else [])
+
+-- with the G of a changed gate word, which stands before them
+abbrev pub all_notes : Bank → Kind → Stepped → List Note
+all_notes b k s = gate_note b.hi b.lo (accessed b s.access) ++ step_notes b.time k s
+
+-- such a G is noted
+abbrev pub gated : World → Bank → World
+gated w after = noted w (note.Gate (as_tick w.bank.time) after.hi after.lo)
 
 abbrev pub after_step : Kind → World → Stepped → World
 after_step k w s = record w { core = s.core; bank = accessed w.bank s.access; back = onto (step_notes w.bank.time k s) w.back }

@@ -11,20 +11,19 @@ use Rattle.timer_regs.specs.Kinds.{has_kind}
 use Rattle.timer_regs.specs.declared.kinds.KindSet.{KindSet}
 use Rattle.interrupt_machine.specs.declared.nest.Nest.{Nest}
 use Rattle.interrupt_machine.specs.declared.nest.Nest.TheVariants.{One, Full}
-use Rattle.interrupt_machine.specs.Open.{innermost, is_open, due_now, due_in, highest, may_enter, enters_above, next_entry, IsStack, IsAbove, outer_ones, kind_of}
+use Rattle.interrupt_machine.specs.Open.{innermost, is_open, due_now, due_in, by_priority, first_due, highest, may_enter, enters_above, next_entry, IsStack, IsAbove, outer_ones, kind_of}
 
 -- the highest kind of two sets that agree
 pub highest_same : (p q : Kind → Bool) → ((k : Kind) → p k ≡ q k) → highest p ≡ highest q
-highest_same p q h = rw (h kind.Comm, h kind.Pwm, h kind.Cmp, h kind.Cap, h kind.Tick, h kind.Uart, h kind.Main) refl
+highest_same p q h = same_in by_priority
+  where
+    same_in : (kinds : List Kind) → first_due p kinds ≡ first_due q kinds
+    same_in [] = refl
+    same_in (k ∷ rest) = rw (h k, same_in rest) refl
 
 pub due_same : (waits : Bool) (set : KindSet) (b : Bank) → ((k : Kind) → has_kind set k ≡ is_due b k) → (k : Kind) → due_in waits set k ≡ due_now waits b k
 due_same waits set b h kind.Main = refl
-due_same waits set b h kind.Uart = h kind.Uart
-due_same waits set b h kind.Tick = h kind.Tick
-due_same waits set b h kind.Cap = h kind.Cap
-due_same waits set b h kind.Cmp = h kind.Cmp
-due_same waits set b h kind.Pwm = h kind.Pwm
-due_same waits set b h kind.Comm = h kind.Comm
+due_same waits set b h k = h k
 
 -- the highest due kind, by the set that the registers give
 pub due_is : (r : Option Kind) (w v : Bool) (set : KindSet) (b : Bank) → w ≡ v → r ≡ highest (due_in w set) → ((k : Kind) → has_kind set k ≡ is_due b k) → r ≡ highest (due_now v b)
@@ -32,12 +31,7 @@ due_is r w v set b e h d = subst (λ (x : Bool). r ≡ highest (due_now x b)) e 
 
 pub number_most : (k : Kind) → kind_number k ≤ 6
 number_most kind.Main = lit≤ tt
-number_most kind.Uart = lit≤ tt
-number_most kind.Tick = lit≤ tt
-number_most kind.Cap = lit≤ tt
-number_most kind.Cmp = lit≤ tt
-number_most kind.Pwm = lit≤ tt
-number_most kind.Comm = lit≤ tt
+number_most k = lit≤ tt
 
 -- the kind that enters is a due one, and may enter
 entry_may : (nest : Nest) (inner : Option Kind) (o : Option Kind) (k : Kind) → enters_above nest inner o ≡ Some k → may_enter nest inner k ≡ true
@@ -84,12 +78,7 @@ closed_above (i ∷ outer) k s a =
 
 pub kind_of-number : (k : Kind) → kind_of (kind_number k) ≡ k
 kind_of-number kind.Main = refl
-kind_of-number kind.Uart = refl
-kind_of-number kind.Tick = refl
-kind_of-number kind.Cap = refl
-kind_of-number kind.Cmp = refl
-kind_of-number kind.Pwm = refl
-kind_of-number kind.Comm = refl
+kind_of-number k = refl
 
 pub number_same : (j k : Kind) → kind_number j ≡ kind_number k → j ≡ k
 number_same j k e = sym (kind_of-number j) ∙ ap kind_of e ∙ kind_of-number k

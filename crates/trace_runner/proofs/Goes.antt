@@ -1,5 +1,5 @@
 -- Calls one after the other.
-use Rattle.std.proofs.Common.{◌≡◌, ℕ, List, [], ◌∷◌, ◌++◌, refl, sym, ◌∙◌, ap, subst, append_assoc, append-nil, Option, Some, None}
+use Rattle.std.proofs.Common.{◌≡◌, ℕ, List, [], ◌∷◌, ◌++◌, refl, sym, ◌∙◌, ap, subst, append_assoc, append-nil, Option, Some, None, Result}
 use Rattle.std.proofs.lemmas.List.Concat.{flat_map-append}
 use Rattle.std.specs.Io.KnownBytes.{append_known}
 use Rattle.esc_base.specs.declared.event.Event.{Event}
@@ -10,8 +10,9 @@ use Rattle.trace_text.specs.Text.{note_bytes, Text}
 use Rattle.interrupt_machine.specs.declared.nest.Nest.{Nest}
 use Rattle.esc_laws.specs.Steps.{Turned, opening, notes_in, journal}
 use Rattle.trace_runner.specs.Lines.{TookLines, BrokeLines}
-use Rattle.trace_runner.specs.Run.{Outset, GoesOn, BreaksOff, LeftBelow}
-use Rattle.trace_runner.proofs.Written.{append_known-twice}
+use Rattle.trace_runner.specs.declared.state.Runner.{Runner}
+use Rattle.trace_runner.specs.Run.{Outset, Runs, GoesOn, BreaksOff, LeftBelow, RunsOn, nest_of, cost_of, newest}
+use Rattle.trace_runner.proofs.Written.{append_known-twice, on_ok_map, on_err_map}
 
 pub append_known-nil : (o : Option (List ℕ)) → append_known o [] ≡ o
 append_known-nil (Some bs) = ap (λ (x : List ℕ). Some x) (append-nil bs)
@@ -104,3 +105,16 @@ module _ {K : Type 0} (given : K → Option (List ℕ)) (took broke : K → List
   pub breaks_as : (old : List Event → List Turned → Type 0) (o : Outset) (now : Told) (nest nest' : Nest) (cost cost' until : ℕ) (a b : K) → nest ≡ nest' → cost ≡ cost'
       → BreaksOff given took broke loaded old (LeftBelow o now nest cost until) a b → BreaksOff given took broke loaded old (LeftBelow o now nest' cost' until) a b
   breaks_as old o now nest nest' cost cost' until a b e f r = rw (← e, ← f) r
+
+-- the same of a runner's calls: what stands at the first runner stands at the one that the call found
+pub runs_from : {K T E : Type 0} (given : K → Option (List ℕ)) (took broke : K → List ℕ → K → Type 0) (faults : K → ℕ) (first old new : Runner) (flash flash' : Told) (result : Result T E) (a b : K)
+    → ((o : Outset) (trace : List Event) (steps : List Turned) → Runs first o flash trace steps → Runs old o flash trace steps) → nest_of old ≡ nest_of first → cost_of old ≡ cost_of first
+    → RunsOn given took broke faults old new flash flash' result a b → RunsOn given took broke faults first new flash flash' result a b
+runs_from given took broke faults first old new flash flash' result a b f nest cost r = record {
+  goes = on_ok_map result r.goes (λ g o. goes_from given took (Runs first o flash) (Runs old o flash) (Runs new o flash') [] a b (f o) (g o));
+  breaks = on_err_map result r.breaks (λ g o.
+      breaks_as given took broke o.loaded (Runs first o flash) o flash' (nest_of old) (nest_of first) (cost_of old) (cost_of first) (newest new) a b nest cost
+      (breaks_from given took broke o.loaded (Runs first o flash) (Runs old o flash) (LeftBelow o flash' (nest_of old) (cost_of old) (newest new)) a b (f o) (g o)));
+  failed = r.failed;
+  no_fewer = r.no_fewer;
+}

@@ -1,12 +1,12 @@
 -- For which trace and which log of steps a runner stands, and how its calls go on from there.
-use Rattle.std.specs.Prelude.{◌≡◌, ◌<◌, ◌≤◌, ◌+◌, ℕ, List, [], ◌∷◌, ◌++◌, Option, All, length}
+use Rattle.std.specs.Prelude.{◌≡◌, ◌<◌, ◌≤◌, ◌+◌, ℕ, List, [], ◌∷◌, ◌++◌, Option, Result, OnOk, OnErr, All, length}
 use Rattle.std.specs.Io.KnownBytes.{append_known}
 use Rattle.esc_base.specs.declared.event.Event.{Event}
 use Rattle.esc_base.specs.declared.note.Note.{Note}
 use Rattle.esc_base.specs.Flash.{Told}
 use Rattle.esc_base.specs.Journal.{time_of}
 use Rattle.esc_base.specs.Range.{InRange}
-use Rattle.esc_base.specs.Outside.{AppendsFront}
+use Rattle.esc_base.specs.Outside.{AppendsFront, Rose}
 use Rattle.trace_text.specs.Text.{note_bytes, Text}
 use Rattle.settings_block.specs.declared.stored.Loaded.{Loaded}
 use Rattle.interrupt_machine.specs.declared.nest.Nest.{Nest}
@@ -85,3 +85,18 @@ pub record BreaksOff {K : Type 0} (given : K → Option (List ℕ)) (took broke 
   pub given_is : given mid ≡ append_known (given before) (Text notes)
   pub refused : broke mid (note_bytes last) after
   pub appended : AppendsFront (given mid) (note_bytes last) (given after)
+
+-- ---- what each call inside of a run keeps
+
+-- the newest event, the nesting and the cost
+pub record Kept (old new : Runner) : Type 0 where
+  pub limit : new.limit ≡ old.limit
+  pub nest : nest_of new ≡ nest_of old
+  pub cost : cost_of new ≡ cost_of old
+
+-- the run went on from what it was, or a write failed; the flash told these two before and after
+pub record RunsOn {K T E : Type 0} (given : K → Option (List ℕ)) (took broke : K → List ℕ → K → Type 0) (faults : K → ℕ) (old new : Runner) (flash flash' : Told) (result : Result T E) (before after : K) : Type 0 where
+  pub goes : OnOk result ((o : Outset) → GoesOn given took (Runs old o flash) (Runs new o flash') [] before after)
+  pub breaks : OnErr result ((o : Outset) → BreaksOff given took broke o.loaded (Runs old o flash) (LeftBelow o flash' (nest_of old) (cost_of old) (newest new)) before after)
+  pub failed : OnErr result (Rose (faults before) (faults after))
+  pub no_fewer : faults before ≤ faults after
