@@ -14,7 +14,7 @@ use Rattle.arming.specs.Kept.{Kept}
 use Rattle.arming.specs.ControlAt.{armed_at, base_at, demand_at, mode_at, newest_at, number_at, number_at_frame, number_at_timeout, repeated_at, wanted_at, zeros_at}
 use Rattle.arming.specs.Controlled.{owed, ControlledBack}
 
-pub record Ties (c : Kept) (back : List Note) : Type 0 where
+pub record IsKept (c : Kept) (back : List Note) : Type 0 where
   pub mode_is : mode_number c.mode ≡ mode_at back
   pub armed_is : c.armed ≡ armed_at back
   pub wanted_is : c.wanted ≡ wanted_at back
@@ -40,7 +40,7 @@ changes_control n = false
 
 -- control stands for these notes, the newest first
 pub record Stands (c : Kept) (back : List Note) : Type 0 where
-  pub ties : Ties c back
+  pub ties : IsKept c back
   pub controlled : ControlledBack back
   pub none_owed : owed back ≡ None
 

@@ -25,3 +25,5 @@ pub mod Start
 pub mod Carried
 pub mod FlashSteps
 pub mod Refused
+pub mod RefusedSteps
+pub mod Allowed

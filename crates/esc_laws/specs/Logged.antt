@@ -1,3 +1,4 @@
+-- Machinery, and no law: how a run is proved to be legal. Nothing that `Legal` means rests on this.
 -- For which trace and which log of steps the core, the registers and the open kinds stand.
 use Rattle.std.specs.Prelude.{◌≡◌, ◌≢◌, ◌<◌, ◌≤◌, ◌+◌, ℕ, true, false, List, [], All, reverse}
 use Rattle.std.proofs.Common.{inl, inr}

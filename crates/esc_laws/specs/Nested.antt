@@ -1,3 +1,4 @@
+-- A law, or what a law is said with: what `Legal` means rests on this.
 -- How activations nest, and which notes belong to which activation.
 use Rattle.std.specs.Prelude.{◌≡◌, ◌<◌, ◌⊎◌, ℕ, List, Some, All}
 use Rattle.esc_base.specs.declared.kind.Kind.{Kind}

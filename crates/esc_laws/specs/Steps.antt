@@ -1,3 +1,4 @@
+-- A law, or what a law is said with: what `Legal` means rests on this.
 -- The log of the machine's steps with their ticks, of which the journal is the notes. No value keeps it: an entry has
 -- its own step alone, and each count is a fold over the log.
 use Rattle.std.specs.Prelude.{◌≡◌, ◌≢◌, ◌<◌, ◌≤◌, ◌+◌, ℕ, zero, suc, Bool, true, false, ◌&&◌, ◌==◌, if◌then◌else◌, nat_lt, nat_le, List, [], ◌∷◌, ◌++◌, Option, Some, None, All}

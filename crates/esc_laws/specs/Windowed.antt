@@ -1,3 +1,4 @@
+-- A law, or what a law is said with: what `Legal` means rests on this.
 -- Windows and their verdicts. Each rule looks at a note, at all notes before it, and at the trace up to the note's time.
 use Rattle.std.specs.Prelude.{◌≡◌, ◌≤◌, ◌+◌, ℕ, true, false, List, [], reverse, Some}
 use Rattle.esc_base.specs.declared.event.Event.{Event}

@@ -4,4 +4,4 @@
 
 mod shown;
 
-pub use shown::control_refuses;
+pub use shown::{control_refuses, nesting_refuses, some_are_legal, steps_refuse, windows_refuse};
