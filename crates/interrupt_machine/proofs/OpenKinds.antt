@@ -130,6 +130,11 @@ live_entry before after k stack live own others j o = elim (same_kind j k) [
     or_other : (k j : Kind) (stack : List Kind) → j ≢ k → is_open (k ∷ stack) j ≡ true → is_open stack j ≡ true
     or_other k j stack ne e = or_left (kind_number k) (kind_number j) (is_open stack j) (λ s. ne (sym (number_same k j s))) e
 
+-- where one is the innermost, some are open
+pub some_kinds : (stack : List Kind) (k : Kind) → innermost stack ≡ Some k → stack ≢ []
+some_kinds [] k e = cc
+some_kinds (j ∷ outer) k e = λ n. cc
+
 -- the innermost kind is the first
 pub innermost_first : (stack : List Kind) (k : Kind) → innermost stack ≡ Some k → stack ≡ k ∷ outer_ones stack
 innermost_first [] k e = cc
