@@ -18,12 +18,8 @@ use Rattle.interrupt_machine.specs.Open.{due_now, is_open}
 use Rattle.interrupt_machine.proofs.OpenKinds.{number_same}
 use Rattle.esc_core.specs.declared.state.CapAt.{CapAt}
 use Rattle.esc_core.specs.declared.state.CapAt.TheVariants as cap
-use Rattle.esc_core.specs.declared.state.TickAt.{TickAt}
-use Rattle.esc_core.specs.declared.state.TickAt.TheVariants as tick
-use Rattle.esc_core.specs.declared.state.MainAt.{MainAt}
-use Rattle.esc_core.specs.declared.state.MainAt.TheVariants as main
 use Rattle.esc_core.specs.Cap.{edge_of}
-use Rattle.esc_core.specs.Firmware.{cap_left, tick_left, main_left}
+use Rattle.esc_core.specs.Firmware.{cap_left}
 
 -- ---- an access takes no time
 
@@ -108,24 +104,7 @@ due_timer w b at e n d = leb-true at b.time (subst (λ (o : Option ℕ). is_reac
 
 pub cap_shut : (at : CapAt) → cap_left at ≡ 0 → at ≡ cap.Shut
 cap_shut cap.Shut e = refl
-cap_shut cap.Start e = absurd (omega arith)
-cap_shut (cap.Copy rest) e = absurd (omega arith)
-cap_shut cap.Judge e = absurd (omega arith)
-cap_shut cap.Open e = absurd (omega arith)
-cap_shut (cap.Pause at) e = absurd (omega arith)
-cap_shut cap.Back e = absurd (omega arith)
-
-pub tick_shut : (at : TickAt) → tick_left at ≡ 0 → at ≡ tick.Shut
-tick_shut tick.Shut e = refl
-tick_shut tick.Raise e = absurd (omega arith)
-tick_shut tick.Read e = absurd (omega arith)
-tick_shut tick.Lower e = absurd (omega arith)
-tick_shut tick.Back e = absurd (omega arith)
-
-pub main_shut : (at : MainAt) → main_left at ≡ 0 → at ≡ main.Shut
-main_shut main.Shut e = refl
-main_shut main.Work e = absurd (omega arith)
-main_shut main.Back e = absurd (omega arith)
+cap_shut at e = absurd (omega arith)
 
 -- ---- modes and edges by their numbers
 

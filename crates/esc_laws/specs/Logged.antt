@@ -43,9 +43,7 @@ pub record Marks (loaded : Loaded) (nest : Nest) (trace : List Event) (b : Bank)
 -- the tick at which an event's stall is over, 0 for one that is none
 abbrev pub stall_end : Event → ℕ
 stall_end (event.Stall at n) = at.0 + n
-stall_end (event.Edge at level) = 0
-stall_end (event.Comp at level) = 0
-stall_end (event.Serial at byte) = 0
+stall_end e = 0
 
 -- `next` is the tick of the next step, or earlier than it while nothing is due
 pub record Logged (loaded : Loaded) (nest : Nest) (cost : ℕ) (trace : List Event) (next : ℕ) (c : Brain) (b : Bank) (stack : List Kind) (log : List Turned) : Type 0 where

@@ -24,4 +24,4 @@ pub record MachineStepped {F : Type 0} (came : F → Kind → F → Type 0) (mad
   -- along any log, no kind waits for more than 8 counted steps
   pub response : (log : List Moment) → Responds old.nest (hold old.firmware) before.masked old.open_kinds (due_now (waits old.firmware) before) log
       → Responds old.nest (hold new.firmware) after.masked new.open_kinds (due_now (waits new.firmware) after)
-        (log ++ Stepped old.open_kinds (due_now (waits old.firmware) before) new.open_kinds (due_now (waits new.firmware) after) ∷ [])
+      (log ++ Stepped old.open_kinds (due_now (waits old.firmware) before) new.open_kinds (due_now (waits new.firmware) after) ∷ [])
