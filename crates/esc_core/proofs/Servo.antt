@@ -19,4 +19,5 @@ widths l h l' h' p e f =
     (subst (λ (y : ℕ). (q : l < y) → of_widths l h p ≡ of_widths l y q) f (λ q. same_widths l h p q))
 
 pub servo_is : (s : Servo) (low high : ℕ) → s.low_us ≡ 2 * low + 750 → s.high_us ≡ 2 * high + 1750 → s ≡ servo_by low high
-servo_is s low high e f = widths s.low_us s.high_us (servo_by low high).low_us (2 * high + 1750) s.in_order (let o = s.in_order in omega arith) f (servo_by low high).in_order
+servo_is s low high e f =
+    widths s.low_us s.high_us (servo_by low high).low_us (2 * high + 1750) s.in_order (let o = s.in_order in omega arith) f (servo_by low high).in_order

@@ -61,7 +61,8 @@ opening_windowed loaded = (tt, (rw (place-up (load_number loaded.fault)) (refl, 
 
 opening_stands : (loaded : Loaded) → Stands start (reverse (opening loaded))
 opening_stands loaded =
-    other_stands (note.Window (as_tick 0) 0) start (note.Up (as_tick 0) (load_number loaded.fault) ∷ []) refl refl tt (other_stands (note.Up (as_tick 0) (load_number loaded.fault)) start [] refl refl tt start_stands)
+    other_stands (note.Window (as_tick 0) 0) start (note.Up (as_tick 0) (load_number loaded.fault) ∷ []) refl refl tt
+    (other_stands (note.Up (as_tick 0) (load_number loaded.fault)) start [] refl refl tt start_stands)
 
 start_keeps : (loaded : Loaded) → Keeps (new_core loaded.settings) first_bank []
 start_keeps loaded = record {

@@ -87,4 +87,7 @@ after_event b e = b
 
 -- an event touches these registers alone
 abbrev pub after_outside : World → Event → World
-after_outside w e = record w { trace = w.trace ++ e ∷ []; bank = record w.bank { level = (after_event w.bank e).level; window = (after_event w.bank e).window } }
+after_outside w e = record w {
+  trace = w.trace ++ e ∷ [];
+  bank = record w.bank { level = (after_event w.bank e).level; window = (after_event w.bank e).window };
+}

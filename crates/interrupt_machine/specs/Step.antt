@@ -12,7 +12,8 @@ use Rattle.interrupt_machine.specs.Response.{Moment, Stepped, Responds}
 use Rattle.interrupt_machine.specs.Running.{Running}
 use Rattle.interrupt_machine.specs.Turn.{Turn, IsHeld}
 
-pub record MachineStepped {F : Type 0} (came : F → Kind → F → Type 0) (made : F → Bank → Told → Kind → Did → F → Bank → Told → Type 0) (waits : F → Bool) (left : F → Kind → ℕ) (hold : F → ℕ)
+pub record MachineStepped {F : Type 0} (came : F → Kind → F → Type 0) (made : F → Bank → Told → Kind → Did → F → Bank → Told → Type 0) (waits : F → Bool)
+    (left : F → Kind → ℕ) (hold : F → ℕ)
     (old : Running F) (before : Bank) (flash : Told) (notes : List Note) (new : Running F) (after : Bank) (flash' : Told) : Type 0 where
   pub turn : Turn came made waits old.nest old.firmware old.open_kinds before flash notes new.firmware new.open_kinds after flash'
   pub nest : new.nest ≡ old.nest

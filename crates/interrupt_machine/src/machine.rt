@@ -45,26 +45,35 @@ impl<F: Firmware> Model for Machine<F> {
     ghost invariant = { λ m. (k : Kind) → is_open m.stack k ≡ true → 0 < F.left m.firmware k };
 }
 
+/// The kinds, the highest first.
+const BY_PRIORITY: [Kind; 7] = [
+    Kind::Comm,
+    Kind::Pwm,
+    Kind::Cmp,
+    Kind::Cap,
+    Kind::Tick,
+    Kind::Uart,
+    Kind::Main,
+];
+
 /// The highest due kind, where MAIN is due if the firmware waits.
 fn highest_due(due: KindSet, waiting: bool) -> Option<Kind>
     ensures { result ≡ highest (due_in waiting due) }
 {
-    if due.has(Kind::Comm) {
-        Some(Kind::Comm)
-    } else if due.has(Kind::Pwm) {
-        Some(Kind::Pwm)
-    } else if due.has(Kind::Cmp) {
-        Some(Kind::Cmp)
-    } else if due.has(Kind::Cap) {
-        Some(Kind::Cap)
-    } else if due.has(Kind::Tick) {
-        Some(Kind::Tick)
-    } else if due.has(Kind::Uart) {
-        Some(Kind::Uart)
-    } else if waiting {
-        Some(Kind::Main)
-    } else {
-        None
+    for kind in BY_PRIORITY {
+        if is_due(kind, due, waiting) {
+            return Some(kind);
+        }
+    }
+    None
+}
+
+fn is_due(kind: Kind, due: KindSet, waiting: bool) -> bool
+    ensures { result ≡ due_in waiting due kind }
+{
+    match kind {
+        Kind::Main => waiting,
+        _ => due.has(kind),
     }
 }
 

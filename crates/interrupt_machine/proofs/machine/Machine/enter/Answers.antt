@@ -34,7 +34,10 @@ returns g c = λ flash.
       in_range = first_of (search rules, grind (arith, common_steps));
       own_steps = entry_spends g.F.Firmware.left c.self.inside.firmware c.enter.new.self c.args.kind c.self.inside.stack c.push-2.new.self
           c.push-2.ensures c.enter.ensures.most c.enter.ensures.others;
-      mask_spent = record { at_most = λ up. absurd (let z : true ≡ false = sym up ∙ down in cc); fewer = λ was up. absurd (let z : true ≡ false = sym up ∙ down in cc) };
+      mask_spent = record {
+        at_most = λ up. absurd (let z : true ≡ false = sym up ∙ down in cc);
+        fewer = λ was up. absurd (let z : true ≡ false = sym up ∙ down in cc);
+      };
       response = entry_logged c.self.inside.nest _ _ c.args.regs.now.masked c.entered.new.self.masked c.self.inside.stack c.push-2.new.self _ _ c.args.kind
           c.requires.unmasked down c.push-2.ensures (rw (← c.self.view_is) at c.requires.chosen);
     })
