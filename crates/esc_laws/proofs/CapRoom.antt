@@ -290,7 +290,8 @@ edge : (v : Bool) (w : World) (level : Bool) → differ w.bank.level level ≡ v
 edge true w level d g t = (
   signal_follows (so_far w).signal w.core.cap_at (cap_view w.trace w.core w.bank (so_far w))
       (cap_view (w.trace ++ event.Edge (as_tick w.bank.time) level ∷ []) w.core (edge_bank w.bank level) (so_far w))
-      (edge_follows w.trace w.core w.bank (so_far w) level (ap (λ (l : Line). l.edges) (line_changes w.trace w.bank level (subst (λ (l : Bool). differ l level ≡ true) g.level d)))) t.0,
+      (edge_follows w.trace w.core w.bank (so_far w) level
+      (ap (λ (l : Line). l.edges) (line_changes w.trace w.bank level (subst (λ (l : Bool). differ l level ≡ true) g.level d)))) t.0,
   edge_sound w.bank.window (edge_now w.bank level) t.1,
 )
 edge false w level d g t =

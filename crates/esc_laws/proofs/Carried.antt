@@ -84,7 +84,8 @@ turn_logged loaded nest cost trace c c' b b' flash flash' stack stack' log notes
     entry_told loaded nest cost trace c c' b b' stack stack' log notes e.0 e.1.entered e.1.regs_are e.1.stack_is e.1.notes_are
     (entry_turn loaded nest cost trace c b stack log e.0 some l e.1.unmasked e.1.chosen)
 turn_logged loaded nest cost trace c c' b b' flash flash' stack stack' log notes some small l busy (inr e) =
-    own_told loaded nest cost trace c c' b b' stack stack' log notes e.0 e.1 e.2 e.3.stepped.answers some l e.3.none_enters e.3.innermost_is e.3.stepped.stepped e.3.stack_is e.3.notes_are
+    own_told loaded nest cost trace c c' b b' stack stack' log notes e.0 e.1 e.2 e.3.stepped.answers some l e.3.none_enters e.3.innermost_is
+    e.3.stepped.stepped e.3.stack_is e.3.notes_are
 
 -- ---- time
 

@@ -77,7 +77,8 @@ patient_grows loaded nest trace e c b stack log at below p =
     let same : SameRegs b (after_event b e) = same_regs b e in
     rw (same.masked, same.time)
     (same_patient nest c.hold b.masked stack (sees (trace ++ e ∷ []) (journal loaded log) b.time) (called loaded nest trace log) (called loaded nest (trace ++ e ∷ []) log) (λ k. count_before loaded nest trace e log k below)
-    (grow_patient nest stack (sees trace (journal loaded log) b.time) (sees (trace ++ e ∷ []) (journal loaded log) b.time) b.masked c.hold (called loaded nest trace log) p))
+    (grow_patient nest stack (sees trace (journal loaded log) b.time) (sees (trace ++ e ∷ []) (journal loaded log) b.time) b.masked c.hold
+    (called loaded nest trace log) p))
 
 pub marks_grow : (loaded : Loaded) (nest : Nest) (trace : List Event) (e : Event) (b : Bank) (stack : List Kind) (log : List Turned) → tick_of e ≡ b.time
     → Marks loaded nest trace b stack log → Marks loaded nest (trace ++ e ∷ []) (after_event b e) stack log

@@ -133,7 +133,8 @@ flashes loaded nest cost trace c c' b b' first flash flash' stack stack' log not
         let did' : DeviceDid (kind_asked k c made.answers) made.answers flash flash' = rw (core_asked-goes k c b made.answers goes) at made.flash_is in
         rw (are ∙ own_are k b b' (stepped_by k made.answers c b) did c' i)
         (kind_flash k made.answers loaded first flash flash' c b (journal loaded log) (l.ties kind.Main) l.ground.orders.settings_are
-        (step_made k made.answers loaded nest trace c b (notes_in log) outer (stood loaded nest cost trace b.time c b (k ∷ outer) log l') (λ j above. l'.keeps.shut j (closed_above (k ∷ outer) j l'.sorted above)) (l'.keeps.live k (self_open k outer))).1 whole whole' did')
+        (step_made k made.answers loaded nest trace c b (notes_in log) outer (stood loaded nest cost trace b.time c b (k ∷ outer) log l') (λ j above. l'.keeps.shut j (closed_above (k ∷ outer) j l'.sorted above)) (l'.keeps.live k (self_open k outer))).1
+        whole whole' did')
 
 -- ---- what is left of the flash
 
@@ -167,5 +168,6 @@ front_flash loaded nest cost trace c c' b b' first flash flash' stack stack' log
     by_flash : Flashes loaded first flash flash' b.time (journal loaded log) notes → FlashFits loaded first flash' (journal loaded log ++ (front ++ last ∷ []))
     by_flash (inl f) =
         rw f.1
-        (fits_pushes loaded first flash (journal loaded log) (front ++ last ∷ []) (all_front (λ n. is_save n ≡ false) (front ++ last ∷ []) left_out (rw split f.0)) fits)
+        (fits_pushes loaded first flash (journal loaded log) (front ++ last ∷ [])
+        (all_front (λ n. is_save n ≡ false) (front ++ last ∷ []) left_out (rw split f.0)) fits)
     by_flash (inr s) = rw (alone (note.Saved (as_tick b.time) s.0) last front left_out (split ∙ s.1)) (s.2 fits)

@@ -53,8 +53,10 @@ first_in_range fault =
     few_numbers (Some (Range offset)) = omega arith
 
 opening_in_time : (loaded : Loaded) → Journal (opening loaded)
-opening_in_time loaded =
-    (All-nil (λ b. time_of b ≤ 0), (All-cons (λ b. time_of b ≤ 0) (note.Up (as_tick 0) (load_number loaded.fault)) [] (omega arith) (All-nil (λ b. time_of b ≤ 0)), tt))
+opening_in_time loaded = (
+  All-nil (λ b. time_of b ≤ 0),
+  (All-cons (λ b. time_of b ≤ 0) (note.Up (as_tick 0) (load_number loaded.fault)) [] (omega arith) (All-nil (λ b. time_of b ≤ 0)), tt),
+)
 
 opening_windowed : (loaded : Loaded) → Windowed loaded [] (opening loaded)
 opening_windowed loaded = (tt, (rw (place-up (load_number loaded.fault)) (refl, refl), tt))

@@ -125,7 +125,8 @@ logged_after loaded nest cost trace c c' b b' stack stack' log e some at l g =
       reached = g.reached;
       reached_by = g.reached_by;
       fits = step-push (StepFits loaded nest cost trace) [] log e l.fits
-          (g.fits (patient_most nest c'.hold b'.masked stack' (sees trace (journal loaded (log ++ e ∷ [])) b.time) (called loaded nest trace (log ++ e ∷ [])) patient));
+          (g.fits
+          (patient_most nest c'.hold b'.masked stack' (sees trace (journal loaded (log ++ e ∷ [])) b.time) (called loaded nest trace (log ++ e ∷ [])) patient));
       past = rw next (omega arith);
       awaits = record { open_step = λ o. rw next (omega arith); idle = λ o t from below f k. absurd (let n = next in omega arith) };
       time = rw g.time (omega arith);

@@ -334,7 +334,8 @@ own_responds : (nest : Nest) (hold hold' : ℕ) (masked masked' : Bool) (j : Kin
 own_responds nest hold hold' masked masked' j outer stack' due due' none goes by some most less log r =
     responds nest hold' masked' stack' due' _ (same_patient nest hold' masked' stack' due' _ _
     (λ k. waited-push nest log (Stepped (j ∷ outer) due stack' due') k ∙ ap (λ (o : Option Kind). wait_next nest k (is_waiting due (j ∷ outer) k) (is_waiting due' stack' k) o (waited nest log k)) by)
-    (own_patient nest j outer stack' due due due' masked masked' hold hold' (waited nest log) (λ m k s. (waits_parts due (j ∷ outer) k s).0) none goes some most less r.patient))
+    (own_patient nest j outer stack' due due due' masked masked' hold hold' (waited nest log) (λ m k s. (waits_parts due (j ∷ outer) k s).0) none goes some
+    most less r.patient))
 
 -- an own step that goes on
 pub own_logged : (nest : Nest) (hold hold' : ℕ) (masked masked' : Bool) (stack : List Kind) (due due' : Kind → Bool) (j : Kind)

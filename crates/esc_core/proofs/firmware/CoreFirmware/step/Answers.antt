@@ -6,7 +6,8 @@ pub returns : goal.returns
 returns g c =
     let small : c.args.self.now.hold ≤ 8 = rw (← c.self.view_is) c.self.invariant in
     let k =
-    keeps c.args.kind c.core_step.ensures.made.answers c.args.self.now c.args.regs.now c.core_step.result c.core_step.new.self c.core_step.new.regs c.requires.open small c.core_step.ensures.made.stepped in
+    keeps c.args.kind c.core_step.ensures.made.answers c.args.self.now c.args.regs.now c.core_step.result c.core_step.new.self c.core_step.new.regs
+    c.requires.open small c.core_step.ensures.made.stepped in
     record {
       made = c.core_step.ensures.made;
       less = k.less;

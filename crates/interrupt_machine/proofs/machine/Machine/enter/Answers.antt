@@ -10,7 +10,8 @@ use Rattle.interrupt_machine.proofs.machine.Machine.enter.Goals as goal
 pub push-requires-2 : goal.push-requires-2
 push-requires-2 g c =
     subst (λ (m : Running g.row.F.Denot). IsAbove (innermost m.open_kinds) c.args.kind) (sym c.self.view_is)
-    (entry_above c.args.self.now.nest c.args.self.now.open_kinds (due_now (g.F.Firmware.waits c.args.self.now.firmware) c.args.regs.now) c.args.kind c.requires.chosen)
+    (entry_above c.args.self.now.nest c.args.self.now.open_kinds (due_now (g.F.Firmware.waits c.args.self.now.firmware) c.args.regs.now) c.args.kind
+    c.requires.chosen)
 
 pub returns : goal.returns
 returns g c = λ flash.
