@@ -6,13 +6,14 @@ use Rattle.esc_base.specs.declared.note.Cause.{Cause}
 use Rattle.esc_base.specs.declared.note.Cause.TheVariants as cause
 use Rattle.esc_base.specs.declared.note.Note.{Note}
 use Rattle.esc_base.specs.declared.note.Note.TheVariants as note
+use Rattle.esc_base.specs.Times.{control_period}
 use Rattle.dshot_commands.specs.Repeats.{is_command}
 use Rattle.arming.specs.declared.decision.Decision.{Decision}
 use Rattle.arming.specs.declared.decision.Decision.TheVariants.{Loses, Arms, Drives}
 use Rattle.arming.specs.Throttle.{target}
 use Rattle.arming.specs.Decide.{answer_of, decide, has_fuse, has_session, is_stuck, is_timed_out, may_arm, View}
 use Rattle.arming.specs.Kept.{after_tick, view_of, Kept}
-use Rattle.arming.specs.ControlAt.{control_at, number_at, repeated_at, still_at, zeros_at}
+use Rattle.arming.specs.ControlAt.{control_at, marks_at, number_at, repeated_at, still_at, zeros_at}
 use Rattle.arming.specs.Stands.{with_tick, Stands, Ties}
 
 either : (b : Bool) (n : ℕ) → (if b then n else n) ≡ n
@@ -120,26 +121,26 @@ view_is c back ties = rw (ties.armed_is, ties.wanted_is, ties.demand_is, ties.ze
 bound : (c : Kept) (back : List Note) (n : ℕ) → c.number < n → Ties c back → number_at back < n
 bound c back n lt ties = let e = ties.number_is in omega arith
 
-tick_at : (d : Decision) (c : Kept) (back : List Note) (t : Tick) (n s : ℕ) → decide (view_of c) n s ≡ d → decide (control_at back) n s ≡ d → n ≡ t.0 / 2400 → number_at back < n → Stands c back
+tick_at : (d : Decision) (c : Kept) (back : List Note) (t : Tick) (n s : ℕ) → decide (view_of c) n s ≡ d → decide (control_at back) n s ≡ d → n ≡ t.0 / control_period → number_at back < n → s ≡ marks_at back → Stands c back
     → Stands (after_tick c n d) (with_tick t n s (answer_of d c.demand) back)
-tick_at (Loses why) c back t n s e f at lt stands = record {
+tick_at (Loses why) c back t n s e f at lt marks stands = record {
   ties = lost_ties c back t n s why lt stands.ties;
-  controlled = (record { paid = rw f refl; tick = tt; save = tt }, (record { paid = sym stands.none_owed; tick = (at, (lt, rw f refl)); save = tt }, stands.controlled));
+  controlled = (record { paid = rw f refl; tick = tt; save = tt }, (record { paid = sym stands.none_owed; tick = record { number_is = at; rises = lt; marks_are = marks; demand_is = rw f refl }; save = tt }, stands.controlled));
   none_owed = refl;
 }
-tick_at Arms c back t n s e f at lt stands = record {
+tick_at Arms c back t n s e f at lt marks stands = record {
   ties = arms_ties c back t n s e lt stands.ties;
-  controlled = (record { paid = rw f refl; tick = tt; save = tt }, (record { paid = sym stands.none_owed; tick = (at, (lt, rw f refl)); save = tt }, stands.controlled));
+  controlled = (record { paid = rw f refl; tick = tt; save = tt }, (record { paid = sym stands.none_owed; tick = record { number_is = at; rises = lt; marks_are = marks; demand_is = rw f refl }; save = tt }, stands.controlled));
   none_owed = refl;
 }
-tick_at (Drives d) c back t n s e f at lt stands = record {
+tick_at (Drives d) c back t n s e f at lt marks stands = record {
   ties = drives_ties c back t n s d lt stands.ties;
-  controlled = (record { paid = sym stands.none_owed; tick = (at, (lt, rw f refl)); save = tt }, stands.controlled);
+  controlled = (record { paid = sym stands.none_owed; tick = record { number_is = at; rises = lt; marks_are = marks; demand_is = rw f refl }; save = tt }, stands.controlled);
   none_owed = rw f refl;
 }
 
 -- a control tick stands for its notes
-pub tick_stands : (c : Kept) (back : List Note) (t : Tick) (n s : ℕ) → n ≡ t.0 / 2400 → c.number < n → Stands c back
+pub tick_stands : (c : Kept) (back : List Note) (t : Tick) (n s : ℕ) → n ≡ t.0 / control_period → c.number < n → s ≡ marks_at back → Stands c back
     → Stands (after_tick c n (decide (view_of c) n s)) (with_tick t n s (answer_of (decide (view_of c) n s) c.demand) back)
-tick_stands c back t n s at lt stands =
-    tick_at (decide (view_of c) n s) c back t n s refl (ap (λ (w : View). decide w n s) (sym (view_is c back stands.ties))) at (bound c back n lt stands.ties) stands
+tick_stands c back t n s at lt marks stands =
+    tick_at (decide (view_of c) n s) c back t n s refl (ap (λ (w : View). decide w n s) (sym (view_is c back stands.ties))) at (bound c back n lt stands.ties) marks stands

@@ -5,6 +5,7 @@ use Rattle.esc_base.specs.declared.note.Cause.{Cause}
 use Rattle.esc_base.specs.declared.note.Note.{Note}
 use Rattle.esc_base.specs.declared.note.Note.TheVariants as note
 use Rattle.esc_base.specs.Numbers.{cause_number, mode_number}
+use Rattle.esc_base.specs.Times.{arming_frames}
 use Rattle.dshot_commands.specs.declared.act.Act.{Act}
 use Rattle.dshot_commands.specs.Act.{number_of}
 use Rattle.dshot_commands.specs.Repeats.{is_command, run_of}
@@ -18,7 +19,7 @@ pub record Ties (c : Kept) (back : List Note) : Type 0 where
   pub armed_is : c.armed ≡ armed_at back
   pub wanted_is : c.wanted ≡ wanted_at back
   pub demand_is : c.demand ≡ demand_at back
-  pub zero_is : c.zero_run ≡ min 30 (zeros_at back)
+  pub zero_is : c.zero_run ≡ min arming_frames (zeros_at back)
   pub number_is : c.number ≡ number_at back
   pub newest_is : c.newest ≡ newest_at back
   pub base_is : c.base ≡ base_at back

@@ -19,10 +19,11 @@ use Rattle.esc_core.specs.declared.state.TickAt.{TickAt}
 use Rattle.esc_core.specs.declared.state.TickAt.TheVariants as tick
 use Rattle.esc_core.specs.declared.state.MainAt.{MainAt}
 use Rattle.esc_core.specs.declared.state.MainAt.TheVariants as main
-use Rattle.esc_core.specs.declared.judge.Judgement.{Judgement}
-use Rattle.esc_core.specs.declared.judge.Judgement.TheVariants.{Good, Bad, Found, Nothing}
+use Rattle.input_detect.specs.declared.window.Judgement.{Judgement}
+use Rattle.input_detect.specs.declared.window.Judgement.TheVariants.{Good, Bad, Found, Nothing}
 use Rattle.esc_core.specs.Brain.{Brain}
-use Rattle.esc_core.specs.Judge.{inputs_of, judged}
+use Rattle.input_detect.specs.Judge.{judged}
+use Rattle.settings_block.specs.Settings.{servo_of}
 use Rattle.esc_core.specs.Stepped.{Stepped, IsStepped, is_return, goes_on, goes_back}
 use Rattle.esc_core.specs.Cap.{after_edges, after_copy, opens, takes, next_edge, judge_step, cap_step}
 use Rattle.esc_core.specs.Tick.{tick_notes, ticked, tick_step}
@@ -136,7 +137,7 @@ cap_moves : (at : CapAt) (c : Brain) (b : Bank) → 0 < cap_left at → PlainMov
 cap_moves cap.Shut c b l = absurd (omega arith)
 cap_moves cap.Start c b l = either_moves c.paused c b
 cap_moves (cap.Copy rest) c b l = copy_moves (takes c.burst (next_edge c b)) rest c b
-cap_moves cap.Judge c b l = judge_moves (judged (inputs_of c.orders.settings) c.window c.burst) c b
+cap_moves cap.Judge c b l = judge_moves (judged c.window c.burst c.orders.settings.input (servo_of c.orders.settings)) c b
 cap_moves cap.Open c b l = opens_moves 2 c b (lit< tt)
 cap_moves (cap.Pause at) c b l = record {
   moves = record { less = lit< tt; more = λ e. lit< tt; shut = λ e. cc; others = elim [ kind.Cap ↦ λ ne. absurd (ne refl) | j ↦ λ ne. (refl, refl) ] };

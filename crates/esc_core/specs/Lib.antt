@@ -1,6 +1,5 @@
 pub mod Orders
 pub mod Brain
-pub mod Judge
 pub mod Stepped
 pub mod Cap
 pub mod Tick

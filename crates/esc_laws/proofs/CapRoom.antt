@@ -27,10 +27,14 @@ use Rattle.esc_core.specs.declared.state.CapAt.{CapAt}
 use Rattle.esc_core.specs.declared.state.CapAt.TheVariants as cap
 use Rattle.esc_core.specs.declared.state.MainAt.{MainAt}
 use Rattle.esc_core.specs.declared.state.MainAt.TheVariants as main
-use Rattle.esc_core.specs.declared.judge.Judgement.{Judgement}
-use Rattle.esc_core.specs.declared.judge.Judgement.TheVariants.{Good, Bad, Found, Nothing}
+use Rattle.input_detect.specs.declared.window.Judgement.{Judgement}
+use Rattle.input_detect.specs.declared.window.Judgement.TheVariants.{Good, Bad, Found, Nothing}
 use Rattle.esc_core.specs.declared.orders.Orders.{Orders}
-use Rattle.esc_core.specs.Judge.{Inputs, inputs_of, judged}
+use Rattle.input_detect.specs.Judge.{judged}
+use Rattle.servo_input.specs.declared.servo.Servo.{Servo}
+use Rattle.servo_input.specs.declared.servo.InputKind.{InputKind}
+use Rattle.settings_block.specs.declared.settings.Settings.{Settings}
+use Rattle.settings_block.specs.Settings.{servo_of}
 use Rattle.esc_core.specs.Orders.{obeyed_if}
 use Rattle.esc_core.specs.Stepped.{goes_on}
 use Rattle.esc_core.specs.Cap.{act_in, after_edges, after_copy, command_note, judge_step, next_edge, opens, takes, cap_step}
@@ -42,7 +46,7 @@ use Rattle.esc_laws.specs.World.{World, so_far, at_time, after_outside}
 use Rattle.esc_laws.specs.Rooms.{Ground, CapTie, StepKeeps}
 use Rattle.esc_laws.proofs.Pushes.{All-later}
 use Rattle.esc_laws.proofs.Facts.{cap_shut}
-use Rattle.esc_laws.proofs.Saves.{inputs_kept, acting_named, obeyed_tied, orders_other}
+use Rattle.esc_laws.proofs.Saves.{input_kept, servo_kept, acting_named, obeyed_tied, orders_other}
 use Rattle.esc_laws.proofs.CapTies.{start_tied, copy_goes, copy_tied, good_tied, opens_tied, pause_tied, back_tied, back_done, back_may}
 use Rattle.esc_laws.proofs.Lines.{plain_follows, edge_now, edge_bank, edge_follows, edge_sound, line_changes, line_same}
 use Rattle.esc_laws.proofs.Dues.{cap_called, cap_entered, signal_follows, time_follows}
@@ -112,15 +116,18 @@ pauses x outer f at opens_next g sound e k shut is on = record {
 -- ---- it judges
 
 answers_is : (x : World) (w m : ℕ) → Ground x → IsClosing (cap_view x.trace x.core x.bank (so_far x)) w m → x.core.burst ≡ x.bank.window.edges
-    → Answers x.loaded x.trace w m (so_far x).cap_entered x.bank.time (verdict_note x.bank.time (judged (inputs_of x.core.orders.settings) x.core.window x.core.burst))
+    → Answers x.loaded x.trace w m (so_far x).cap_entered x.bank.time (verdict_note x.bank.time (judged x.core.window x.core.burst x.core.orders.settings.input (servo_of x.core.orders.settings)))
 answers_is x w m g i e =
-    let inputs : inputs_of x.core.orders.settings ≡ inputs_of x.loaded.settings = ap inputs_of g.orders.settings_are ∙ inputs_kept x.loaded.settings x.back in
+    let allowed : x.core.orders.settings.input ≡ x.loaded.settings.input = ap (λ (s : Settings). s.input) g.orders.settings_are ∙ input_kept x.loaded.settings x.back in
+    let servo : servo_of x.core.orders.settings ≡ servo_of x.loaded.settings = ap servo_of g.orders.settings_are ∙ servo_kept x.loaded.settings x.back in
     record {
       closed_at = i.closed_at;
       closes = i.closes;
       waits = i.waits;
       entered_before = i.entered;
-      verdict_is = ap (λ (n : Inputs). verdict_note x.bank.time (judged n x.core.window x.core.burst)) inputs ∙ rw (i.hears.core_mode, e, i.hears.edges) refl;
+      verdict_is = ap (λ (a : InputKind). verdict_note x.bank.time (judged x.core.window x.core.burst a (servo_of x.core.orders.settings))) allowed
+          ∙ ap (λ (s : Servo). verdict_note x.bank.time (judged x.core.window x.core.burst x.loaded.settings.input s)) servo
+          ∙ rw (i.hears.core_mode, e, i.hears.edges) refl;
     }
 
 -- an act keeps a save asked for
@@ -256,7 +263,7 @@ steps (Listens w m) (cap.Copy rest) x outer g sound e k on left =
     copies (takes x.core.burst (next_edge x.core x.bank)) x outer w m rest
     (copy_goes x.trace x.core x.bank (so_far x) w m rest (few x.bank sound) sound g.small k) g sound e k on
 steps (Listens w m) cap.Judge x outer g sound e k on left =
-    judges (judged (inputs_of x.core.orders.settings) x.core.window x.core.burst) x outer w m g sound k.0
+    judges (judged x.core.window x.core.burst x.core.orders.settings.input (servo_of x.core.orders.settings)) x outer w m g sound k.0
     (answered x (so_far x).signal w m x.bank.time _ e (answers_is x w m g k.0 k.1)) on
 steps (Judged f opens_next) cap.Open x outer g sound e k on left = open_window x outer (Judged f opens_next) g e k.1 k.0.no_timer (inl k.0.verdict) on
 steps (Judged f opens_next) (cap.Pause at) x outer g sound e k on left = pauses x outer f at opens_next g sound e k.0 k.1.0 k.1.1 on
@@ -310,6 +317,7 @@ outside w (event.Stall at n) is g t = plain w (event.Stall at n) (line-push w.tr
 pub cap_law : HandlerLaw kind.Cap
 cap_law = record {
   called = λ w g t none s. cap_called w.core.orders.save_asked (so_far w).signal w.trace w.core w.bank (so_far w) (shut_tie w (t kind.Cap) none) s;
+  built = λ asked b due. tt;
   entered = λ w g t none due. (cap_entered w.core.orders.save_asked (so_far w).signal w.trace w.core w.bank (so_far w) refl (shut_tie w (t kind.Cap) none) due, (t kind.Cap).1);
   beside = λ w. elim [ kind.Cap ↦ λ ne t. absurd (ne refl) | j ↦ λ ne t. t ];
   steps = λ w answers outer g t above on left. steps (so_far w).signal w.core.cap_at w outer g (t kind.Cap).1 refl (t kind.Cap).0 on left;

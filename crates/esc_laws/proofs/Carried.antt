@@ -27,7 +27,7 @@ use Rattle.esc_core.specs.Firmware.{new_core, entered_core, core_step}
 use Rattle.esc_core.specs.Stepped.{IsStepped}
 use Rattle.esc_core.proofs.Bounds.{core_step-goes}
 use Rattle.esc_laws.specs.Seen.{sees}
-use Rattle.esc_laws.specs.Steps.{Turned, opening, journal, notes_in, open_in, past_stall, free, after, steps_since, entered_at, EachStep, StepFits, Awaits, Below}
+use Rattle.esc_laws.specs.Steps.{Turned, opening, journal, notes_in, open_in, past_stall, free, after, steps_since, entered_at, EachStep, StepFits, Awaits, Below, OpenFew}
 use Rattle.esc_laws.specs.Windowed.{WindowRule, Windowed}
 use Rattle.esc_laws.specs.Nested.{NestRule, NestedAfter}
 use Rattle.esc_laws.specs.Tied.{Keeps}
@@ -245,6 +245,14 @@ module _ (loaded : Loaded) (nest : Nest) (cost : ℕ) (trace : List Event) (e : 
 
 -- ---- what it says of the journal
 
+-- an open activation has steps left
+pub few_open : (loaded : Loaded) (nest : Nest) (cost : ℕ) (trace : List Event) (next : ℕ) (c : Brain) (b : Bank) (stack : List Kind) (log : List Turned)
+    → Logged loaded nest cost trace next c b stack log → OpenFew loaded log
+few_open loaded nest cost trace next c b stack log l k o =
+    let inside : is_open stack k ≡ true = subst (λ (st : List Kind). is_open st k ≡ true) (sym l.marks.stack_is) o in
+    let a = l.owes k inside in let left = l.keeps.live k inside in
+    omega arith
+
 -- a journal whose steps stand below T, and which awaits none below it, is legal up to T
 pub legal_logged : (loaded : Loaded) (nest : Nest) (cost : ℕ) (trace : List Event) (next : ℕ) (c : Brain) (b : Bank) (stack : List Kind) (log : List Turned)
     (until : ℕ)
@@ -266,9 +274,7 @@ legal_logged loaded nest cost trace next c b stack log until le below range l = 
     open_step = λ o. (let n = l.at_next (λ s. o (sym l.marks.stack_is ∙ s)) in omega arith);
     idle = λ o t from soon. l.awaits.idle o t from (omega arith);
   };
-  open_few = λ k o. (
-      let inside : is_open stack k ≡ true = subst (λ (st : List Kind). is_open st k ≡ true) (sym l.marks.stack_is) o in
-      let a = l.owes k inside in let left = l.keeps.live k inside in omega arith);
+  open_few = few_open loaded nest cost trace next c b stack log l;
 }
 
 pub last_step : (P : List Turned → Turned → Type 0) (before log : List Turned) (e : Turned) → EachStep P before (log ++ e ∷ []) → P (before ++ log) e
@@ -278,10 +284,10 @@ last_step P before (x ∷ log) e each = rw (← append_assoc before (x ∷ []) l
 -- after a step whose notes were written in part
 pub front_logged : (loaded : Loaded) (nest : Nest) (cost : ℕ) (trace : List Event) (next : ℕ) (c : Brain) (b : Bank) (stack : List Kind) (log : List Turned)
     (broken : Turned) (front left_out : List Note)
-    → broken.notes ≡ front ++ left_out → Below broken.tick log → All InRange (journal loaded log ++ front)
+    → broken.notes ≡ front ++ left_out → Below broken.tick log → All InRange (journal loaded log ++ front) → OpenFew loaded log
     → Logged loaded nest cost trace next c b stack (log ++ broken ∷ [])
     → LegalFront loaded nest cost trace (journal loaded log ++ front)
-front_logged loaded nest cost trace next c b stack log broken front left_out split below range l =
+front_logged loaded nest cost trace next c b stack log broken front left_out split below range few l =
     let whole : journal loaded (log ++ broken ∷ []) ≡ (journal loaded log ++ front) ++ left_out =
     journal-push loaded log broken ∙ ap (λ (ns : List Note). journal loaded log ++ ns) split ∙ sym (append_assoc (journal loaded log) front left_out) in
     let tail : notes_in (log ++ broken ∷ []) ≡ (notes_in log ++ front) ++ left_out =
@@ -308,4 +314,5 @@ front_logged loaded nest cost trace next c b stack log broken front left_out spl
         open_step = λ o. (let at = last.open_step o in omega arith);
         idle = λ o. last.idle o;
       };
+      open_few = few;
     }

@@ -1,11 +1,13 @@
 -- What each handler owes.
-use Rattle.std.proofs.Common.{◌≡◌, ◌≢◌, ◌≤◌, ◌<◌, ℕ, true, List, ◌∷◌}
+use Rattle.std.proofs.Common.{◌≡◌, ◌≢◌, ◌≤◌, ◌<◌, ℕ, Bool, true, List, ◌∷◌}
 use Rattle.esc_base.specs.declared.kind.Kind.{Kind}
 use Rattle.esc_base.specs.declared.event.Event.{Event}
 use Rattle.esc_base.specs.Trace.{tick_of}
+use Rattle.timer_regs.specs.Bank.{Bank}
 use Rattle.interrupt_machine.specs.Open.{due_now}
 use Rattle.esc_core.specs.Calls.{Answer}
 use Rattle.esc_core.specs.Firmware.{left_of, kind_step}
+use Rattle.esc_laws.specs.Nested.{IsBuilt}
 use Rattle.esc_laws.specs.Seen.{sees_at}
 use Rattle.esc_laws.specs.World.{World, so_far, after_enter, at_time, after_outside}
 use Rattle.esc_laws.specs.Rooms.{Above, Ground, Tie, Ties, StepKeeps}
@@ -14,6 +16,7 @@ pub record HandlerLaw (k : Kind) : Type 0 where
   -- while it is shut, it is due where the notes call for it
   pub called : (w : World) → Ground w → Ties w → left_of w.core k ≡ 0
       → sees_at w.trace (so_far w) w.back w.bank.time k ≡ true → due_now w.core.orders.save_asked w.bank k ≡ true
+  pub built : (asked : Bool) (b : Bank) → due_now asked b k ≡ true → IsBuilt k
   -- its entry ties it, and leaves the ties of the others
   pub entered : (w : World) → Ground w → Ties w → left_of w.core k ≡ 0 → due_now w.core.orders.save_asked w.bank k ≡ true → Tie k (after_enter k w)
   pub beside : (w : World) (j : Kind) → j ≢ k → Tie j w → Tie j (after_enter k w)

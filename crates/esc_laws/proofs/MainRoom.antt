@@ -52,6 +52,7 @@ steps main.Back w answers outer g t on left = record {
 pub main_law : HandlerLaw kind.Main
 main_law = record {
   called = λ w g t none s. g.orders.save_is ∙ s;
+  built = λ asked b due. tt;
   entered = λ w g t none due. (due, refl);
   beside = λ w. elim [ kind.Main ↦ λ ne t. absurd (ne refl) | j ↦ λ ne t. t ];
   steps = λ w answers outer g t above on left. steps w.core.main_at w answers outer g (t kind.Main) on left;

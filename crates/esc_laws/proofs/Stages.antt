@@ -19,9 +19,9 @@ use Rattle.timer_regs.specs.Bank.{Bank}
 use Rattle.timer_regs.specs.Effects.{after_entry, after_line}
 use Rattle.interrupt_machine.specs.declared.nest.Nest.{Nest}
 use Rattle.interrupt_machine.specs.Did.{accessed}
-use Rattle.interrupt_machine.specs.Open.{due_now}
+use Rattle.interrupt_machine.specs.Open.{due_now, kind_of}
 use Rattle.interrupt_machine.specs.Turn.{gate_note}
-use Rattle.interrupt_machine.proofs.OpenKinds.{same_kind}
+use Rattle.interrupt_machine.proofs.OpenKinds.{kind_of-number, same_kind}
 use Rattle.arming.proofs.InOrder.{reverse-push}
 use Rattle.esc_core.specs.Brain.{Brain}
 use Rattle.esc_core.specs.Stepped.{Stepped}
@@ -29,8 +29,8 @@ use Rattle.esc_core.specs.Calls.{Answer}
 use Rattle.esc_core.specs.Firmware.{left_of, kind_step, counted_down, entered_core}
 use Rattle.esc_laws.specs.Place.{Place, next, place}
 use Rattle.esc_laws.specs.Windowed.{WindowRuleAt, WindowRule}
-use Rattle.esc_laws.specs.Nested.{NestRuleAt, NestRule, IsAboveAll}
-use Rattle.esc_laws.specs.Steps.{opening, is_entry}
+use Rattle.esc_laws.specs.Nested.{NestRuleAt, NestRule, IsAboveAll, IsBuilt}
+use Rattle.esc_laws.specs.Steps.{opening, is_entry, ReturnsLast}
 use Rattle.esc_laws.specs.Saves.{is_save}
 use Rattle.esc_laws.specs.Tied.{GatesTied}
 use Rattle.esc_laws.specs.World.{World, placed, so_far, onto, noted, enters, after_enter, after_step, step_notes, all_notes, gated, counted, open_left, at_time, after_event, after_outside}
@@ -40,6 +40,7 @@ use Rattle.esc_laws.proofs.Notes.{Said, said_push}
 use Rattle.esc_laws.proofs.Facts.{access_time}
 use Rattle.esc_laws.proofs.Lines.{edge_now, edge_bank, line_changes, line_same}
 use Rattle.esc_laws.proofs.RoomSteps.{ground_noted}
+use Rattle.esc_laws.proofs.Returns.{returns_last}
 use Rattle.esc_laws.proofs.Laws.{law}
 
 -- ---- the notes in both orders
@@ -182,6 +183,7 @@ pub step_made : (k : Kind) (answers : List Answer) (loaded : Loaded) (nest : Nes
     → Stood loaded nest trace (kind_step k answers (counted_down c b) b).core (accessed b (kind_step k answers (counted_down c b) b).access)
     (rest ++ all_notes b k (kind_step k answers (counted_down c b) b)) (open_left k outer (kind_step k answers (counted_down c b) b))
     × All (IsOwn k b.time) (all_notes b k (kind_step k answers (counted_down c b) b))
+    × ReturnsLast k (all_notes b k (kind_step k answers (counted_down c b) b))
 step_made k answers loaded nest trace c b rest outer i above left =
     let s : Stepped = kind_step k answers (counted_down c b) b in
     let after : Bank = accessed b s.access in
@@ -197,6 +199,7 @@ step_made k answers loaded nest trace c b rest outer i above left =
       | inl same ↦ rw same.none (
         kept_stood k w rest outer s refl i.said ties (record { high = same.high ∙ i.gates.high; low = same.low ∙ i.gates.low }) plain,
         all_own k w (step_notes b.time k s) plain.fits,
+        returns_last k outer w s on plain,
       )
       | inr other ↦ (
           let told : StepKeeps k outer (gated w after) s =
@@ -212,6 +215,7 @@ step_made k answers loaded nest trace c b rest outer i above left =
             subst (λ (ns : List Note). Stood loaded nest trace s.core after ns (open_left k outer s))
                 (append_assoc rest (g ∷ []) (step_notes b.time k s)) stood,
             All-cons (IsOwn k b.time) g (step_notes b.time k s) (refl, refl, λ e. cc) (all_own k (gated w after) (step_notes b.time k s) told.fits),
+            returns_last k outer (gated w after) s on told,
           ))
     ]
 
@@ -233,6 +237,9 @@ enter_stack : (k : Kind) (p : Place) (t : ℕ) → (next p (enters k t)).stack �
 enter_stack kind.Main p t = refl
 enter_stack k p t = refl
 
+built_number : (k : Kind) → IsBuilt k → IsBuilt (kind_of (kind_number k))
+built_number k built = rw (kind_of-number k) built
+
 pub enter_stood : (k : Kind) (loaded : Loaded) (nest : Nest) (trace : List Event) (c : Brain) (b : Bank) (rest : List Note) (stack : List Kind)
     → Stood loaded nest trace c b rest stack → left_of c k ≡ 0 → due_now c.orders.save_asked b k ≡ true
     → IsAboveAll nest stack (kind_number k) → Stood loaded nest trace (entered_core c k) (after_entry b k) (rest ++ enters k b.time ∷ []) (k ∷ stack)
@@ -242,8 +249,8 @@ enter_stood k loaded nest trace c b rest stack i none due above =
     let back : n ∷ reverse (opening loaded ++ rest) ≡ reverse (opening loaded ++ (rest ++ n ∷ [])) =
     sym (reverse-push (opening loaded ++ rest) n) ∙ ap reverse (append_assoc (opening loaded) rest (n ∷ [])) in
     record {
-      said = subst (λ (t : ℕ). Said loaded nest trace t (rest ++ n ∷ [])) (sym (enter_time k b))
-          (said_push loaded nest trace b.time rest n i.said refl tt (subst (λ (st : List Kind). IsAboveAll nest st (kind_number k)) (sym i.stack_is) above));
+      said = subst (λ (t : ℕ). Said loaded nest trace t (rest ++ n ∷ [])) (sym (enter_time k b)) (said_push loaded nest trace b.time rest n i.said refl tt
+          (built_number k ((law k).built c.orders.save_asked b due), subst (λ (st : List Kind). IsAboveAll nest st (kind_number k)) (sym i.stack_is) above));
       gates = subst (λ (ns : List Note). GatesTied (after_entry b k).hi (after_entry b k).lo ns) back
           (enter_word k b (reverse (opening loaded ++ rest)) i.gates);
       ground = subst (λ (ns : List Note). Ground (record (after_enter k w) { back = ns })) back (ground_enter k w i.ground);

@@ -113,7 +113,8 @@ start_ties loaded nest kind.Cap = (
   record { past = λ k d l. absurd (omega arith); order = λ x y le l. absurd (omega arith); few = omega arith },
 )
 start_ties loaded nest kind.Tick = (tt, refl, omega arith)
-start_ties loaded nest k = tt
+start_ties loaded nest kind.Main = tt
+start_ties loaded nest k = refl
 
 start_patient : (loaded : Loaded) (nest : Nest) → Patient nest 0 false [] (sees [] (journal loaded []) 0) (called loaded nest [] [])
 start_patient loaded nest = record {

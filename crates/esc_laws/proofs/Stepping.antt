@@ -25,7 +25,7 @@ use Rattle.esc_core.specs.Firmware.{left_of, need_of, entered_core, kind_step, c
 use Rattle.esc_core.proofs.Bounds.{Bounds, need_some, mask_down, goes_bounds}
 use Rattle.esc_laws.specs.Place.{Place}
 use Rattle.esc_laws.specs.Seen.{sees, sees_at}
-use Rattle.esc_laws.specs.Steps.{Turned, notes_in, journal, after, uses, is_of, is_entry, own_steps, steps_since, entered_at, called, StepFits, Below}
+use Rattle.esc_laws.specs.Steps.{Turned, notes_in, journal, after, uses, is_of, is_entry, ReturnsLast, own_steps, steps_since, entered_at, called, StepFits, Below}
 use Rattle.esc_laws.specs.Tied.{Keeps}
 use Rattle.esc_laws.specs.World.{world, enters, all_notes, open_left}
 use Rattle.esc_laws.specs.Rooms.{Ground, Tie}
@@ -85,6 +85,7 @@ entry_fits loaded nest cost trace c b stack log k l chosen calls = record {
   few = λ e. cc;
   at_tick = All-cons (λ n. time_of n ≡ b.time) (enters k b.time) [] refl (All-nil (λ n. time_of n ≡ b.time));
   no_entry = λ e. cc;
+  returns = λ e. cc;
   patient = calls;
 }
 
@@ -173,9 +174,9 @@ own_owes c c' outer log k t notes v owes less others j o = elim (same_kind j k) 
 own_fits : (loaded : Loaded) (nest : Nest) (cost : ℕ) (trace : List Event) (c : Brain) (b : Bank) (outer : List Kind) (log : List Turned) (k : Kind)
     (notes : List Note)
     → Logged loaded nest cost trace b.time c b (k ∷ outer) log
-    → All (IsOwn k b.time) notes → ((j : Kind) → called loaded nest trace (log ++ own_of b.time k notes ∷ []) j ≤ 8)
+    → All (IsOwn k b.time) notes → ReturnsLast k notes → ((j : Kind) → called loaded nest trace (log ++ own_of b.time k notes ∷ []) j ≤ 8)
     → StepFits loaded nest cost trace log (own_of b.time k notes)
-own_fits loaded nest cost trace c b outer log k notes l own calls =
+own_fits loaded nest cost trace c b outer log k notes l own back calls =
     let inside : is_open (k ∷ outer) k ≡ true = self_open k outer in
     let at : b.time ≡ after cost trace log = l.at_next (λ e. cc) in
     record {
@@ -191,6 +192,7 @@ own_fits loaded nest cost trace c b outer log k notes l own calls =
       few = λ e. rw (own-push k log (own_of b.time k notes), of_self k) (let a = l.owes k inside in let left = l.keeps.live k inside in omega arith);
       at_tick = All-weaker (IsOwn k b.time) (λ n. time_of n ≡ b.time) (λ n p. p.0) notes own;
       no_entry = λ e. All-weaker (IsOwn k b.time) (λ n. is_entry n ≡ false) (λ n p. p.1) notes own;
+      returns = λ e. back;
       patient = calls;
     }
 
@@ -227,7 +229,7 @@ own_turn loaded nest cost trace c b outer log k answers some l none =
       owes = own_owes c s.core outer log k b.time notes s.over l.owes bound.moves.less (λ j ne. (bound.moves.others j ne).0);
       reached = λ j o. reached_on cost trace log (own_of b.time k notes) j refl (l.at_next (λ e. cc)) (l.reached j (left_open s.over k j outer o));
       reached_by = λ j o t below. by_on cost trace log (own_of b.time k notes) j t refl (l.at_next (λ e. cc)) (l.reached j (left_open s.over k j outer o)) below;
-      fits = own_fits loaded nest cost trace c b outer log k notes l made.1;
+      fits = own_fits loaded nest cost trace c b outer log k notes l made.1 made.2;
     })
 
 -- the open kinds after it, by what the handler did

@@ -100,7 +100,7 @@ reads w outer g t below none on =
     let n : ℕ = w.bank.time / 2400 in
     let answer = ticked w.core n 0 in
     let less : w.core.control.number < n = (let same = t.1 in omega arith) in
-    let st = tick_stands w.core.control w.back (as_tick w.bank.time) n 0 refl less g.control in
+    let st = tick_stands w.core.control w.back (as_tick w.bank.time) n 0 refl less refl g.control in
     if_true (nat_lt w.core.control.number n) kind.Tick outer w _ _ (lt-ltb w.core.control.number n less)
     (asks answer.lost answer.armed_now w outer answer.demand (after_tick w.core.control n (decide (view_of w.core.control) n 0)) g none on st
     (st.ties.number_is ∙ outcome_number answer.lost answer.armed_now w.bank.time n 0 answer.demand w.back))
@@ -145,6 +145,7 @@ later at read t u ticks le i = i
 pub tick_law : HandlerLaw kind.Tick
 tick_law = record {
   called = λ w g t none s. tick_due w.core.orders.save_asked w.bank (rw ((t kind.Tick).1, g.control.ties.number_is) (ltb-true (number_at w.back) (w.bank.time / 2400) s));
+  built = λ asked b due. tt;
   entered = λ w g t none due. ((due_tick w.core.orders.save_asked w.bank (t kind.Tick).2 due, refl), (t kind.Tick).1, (t kind.Tick).2);
   beside = λ w. elim [ kind.Tick ↦ λ ne t. absurd (ne refl) | j ↦ λ ne t. t ];
   steps = λ w answers outer g t above on left. steps w.core.tick_at w outer g (t kind.Tick) (t kind.Tick).0 on left;

@@ -47,3 +47,4 @@ pub record LegalFront (loaded : Loaded) (nest : Nest) (cost : ℕ) (trace : List
   pub fits : EachStep (StepFits loaded nest cost trace) [] (log ++ broken ∷ [])
   pub below : Below broken.tick log
   pub all_made : Awaits loaded cost trace broken.tick log
+  pub open_few : OpenFew loaded log

@@ -6,6 +6,7 @@ pub mod Seen
 pub mod Steps
 pub mod Legal
 pub mod Saves
+pub mod Refused
 pub mod Tied
 pub mod World
 pub mod Rooms

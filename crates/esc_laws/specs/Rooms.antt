@@ -54,8 +54,8 @@ abbrev pub Tie : Kind → World → Type 0
 Tie kind.Cap w = CapTie w
 Tie kind.Tick w = TickTie w
 Tie kind.Main w = MainTie w
--- these handlers aren't built yet
-Tie k w = Unit {0}
+-- these handlers aren't built, and never open
+Tie k w = left_of w.core k ≡ 0
 
 abbrev pub Ties : World → Type 0
 Ties w = (j : Kind) → Tie j w

@@ -29,7 +29,7 @@ use Rattle.trace_runner.specs.declared.state.Runner.{Runner}
 use Rattle.esc_laws.specs.Saves.{FlashFits}
 use Rattle.esc_laws.proofs.FlashSteps.{turn_flash, front_flash}
 use Rattle.esc_laws.proofs.Notes.{all_front}
-use Rattle.esc_laws.proofs.Carried.{turn_logged, time_logged, event_logged, legal_logged, front_logged, last_step}
+use Rattle.esc_laws.proofs.Carried.{turn_logged, time_logged, event_logged, few_open, legal_logged, front_logged, last_step}
 
 bound_push : (cost until : ℕ) (steps : List Turned) (e : Turned) → StepBound cost until steps → All (λ d. d.tick + cost ≤ e.tick) steps → e.tick < until
     → length e.notes ≤ 6 → StepBound cost until (steps ++ e ∷ [])
@@ -134,7 +134,8 @@ step_breaks o nest cost next until trace c c' b b' flash flash' stack stack' ste
           front_logged o.loaded nest cost trace (next + cost) c' b' stack' steps e (front ++ last ∷ []) rest own
           (subst (λ (n : ℕ). Below n steps) (sym tick) below)
           (All-append InRange (journal o.loaded steps) (front ++ last ∷ []) before
-          (all_front InRange (front ++ last ∷ []) rest (subst (λ (ns : List Note). All InRange ns) split range))) after;
+          (all_front InRange (front ++ last ∷ []) rest (subst (λ (ns : List Note). All InRange ns) split range)))
+          (few_open o.loaded nest cost trace next c b stack steps l) after;
       below = All-append (λ n. time_of n < until) (journal o.loaded steps) (front ++ last ∷ [])
           (All-weaker (λ n. time_of n ≤ b.time) (λ n. time_of n < until) (λ n le. omega arith) (journal o.loaded steps) l.marks.past)
           (own_below o.loaded nest cost until trace steps e (front ++ last ∷ []) rest own (omega arith) after.fits);

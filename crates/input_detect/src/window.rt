@@ -1,14 +1,13 @@
 ghost use Rattle.std.specs.Prelude.{◌≡◌};
 ghost use Rattle.esc_base.specs.Range.{HasSmallValue};
 ghost use Rattle.input_detect.specs.Detect.{IsFoundMode};
-ghost use Rattle.esc_core.specs.Judge.{judged, inputs_of, servo_by, by_verdict, by_detection, IsJudged};
+ghost use Rattle.input_detect.specs.Judge.{judged, by_verdict, by_detection, IsJudged};
 
+use crate::{Seen, detect};
 use dshot_frame::verdict;
 use edge_capture::Burst;
 use esc_base::{Frame, Mode, Verdict, Why};
-use input_detect::{Seen, detect};
-use servo_input::{Servo, pulse};
-use settings_block::{Settings, servo_of};
+use servo_input::{InputKind, Servo, pulse};
 
 /// What the edges of a window are.
 #[derive(Clone, Copy, Debug, PartialEq, Eq, Drop)]
@@ -21,21 +20,15 @@ pub enum Judgement {
     Nothing,
 }
 
-fn servo(settings: &Settings) -> Servo
-    ensures { result ≡ servo_by settings.now.low settings.now.high }
-{
-    servo_of(settings)
-}
-
-/// Judges the edges of a window that was open in a mode, with the inputs that the settings allow and their range of servo
-/// pulses.
-pub(crate) fn judge(settings: &Settings, window: Mode, burst: &Burst) -> Judgement
-    ensures judged { result ≡ judged (inputs_of settings.now) window burst.now }
+/// Judges the edges of a window that was open in a mode, where these inputs are allowed, with this range of servo pulses.
+/// Where the mode isn't known it is detected.
+pub fn judge(window: Mode, burst: &Burst, allowed: InputKind, servo: &Servo) -> Judgement
+    ensures judged { result ≡ judged window burst.now allowed servo.now }
     ensures numbers { IsJudged result }
 {
     match window {
-        Mode::Unknown => by_detection(detect(burst, settings.input, &servo(settings))),
-        Mode::Servo => by_verdict(pulse(burst, &servo(settings))),
+        Mode::Unknown => by_detection(detect(burst, allowed, servo)),
+        Mode::Servo => by_verdict(pulse(burst, servo)),
         Mode::D300 | Mode::D600 | Mode::D300Inv | Mode::D600Inv => {
             by_verdict(verdict(window, burst))
         }
