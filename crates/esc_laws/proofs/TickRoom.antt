@@ -29,8 +29,10 @@ use Rattle.esc_laws.proofs.Law.{HandlerLaw}
 -- ---- its steps
 
 -- it asks control: a K, then an A or an X
-asks : (lost : Option Cause) (armed_now : Bool) (w : World) (outer : List Kind) (demand : ℕ) (kept : Kept) → Ground w → (so_far w).ticks ≡ 0 → (so_far w).stack ≡ kind.Tick ∷ outer
-    → Stands kept (with_outcome (as_tick w.bank.time) lost armed_now (note.Control (as_tick w.bank.time) (w.bank.time / 2400) 0 demand ∷ w.back)) → kept.number ≡ w.bank.time / 2400
+asks : (lost : Option Cause) (armed_now : Bool) (w : World) (outer : List Kind) (demand : ℕ) (kept : Kept) → Ground w → (so_far w).ticks ≡ 0
+    → (so_far w).stack ≡ kind.Tick ∷ outer
+    → Stands kept (with_outcome (as_tick w.bank.time) lost armed_now (note.Control (as_tick w.bank.time) (w.bank.time / 2400) 0 demand ∷ w.back))
+    → kept.number ≡ w.bank.time / 2400
     → StepKeeps kind.Tick outer w (record {
       core = record w.core { tick_at = tick.Lower; control = kept };
       access = Reads reg.TickState;
@@ -43,7 +45,14 @@ asks (Some cause) armed_now w outer demand kept g none on st number =
     record {
       gate = λ word moved. absurd (moved refl refl);
       fits = (record { at = refl; owned = refl; window = tt; nest = here }, (record { at = refl; owned = refl; window = tt; nest = here }, tt));
-      ground = record { control = st; orders = orders_other w.loaded w.core.orders (note.Lost (as_tick w.bank.time) (cause_number cause)) (k ∷ w.back) refl (orders_other w.loaded w.core.orders k w.back refl g.orders); level = g.level; edges = g.edges; small = g.small };
+      ground = record {
+        control = st;
+        orders = orders_other w.loaded w.core.orders (note.Lost (as_tick w.bank.time) (cause_number cause)) (k ∷ w.back) refl
+            (orders_other w.loaded w.core.orders k w.back refl g.orders);
+        level = g.level;
+        edges = g.edges;
+        small = g.small;
+      };
       tie = (ap (λ (n : ℕ). n + 1) none, sym number, omega arith);
       others = elim [ kind.Tick ↦ λ ne t. absurd (ne refl) | j ↦ λ ne t. t ];
       stack_is = on;
@@ -54,7 +63,14 @@ asks None true w outer demand kept g none on st number =
     record {
       gate = λ word moved. absurd (moved refl refl);
       fits = (record { at = refl; owned = refl; window = tt; nest = here }, (record { at = refl; owned = refl; window = tt; nest = here }, tt));
-      ground = record { control = st; orders = orders_other w.loaded w.core.orders (note.Armed (as_tick w.bank.time)) (k ∷ w.back) refl (orders_other w.loaded w.core.orders k w.back refl g.orders); level = g.level; edges = g.edges; small = g.small };
+      ground = record {
+        control = st;
+        orders = orders_other w.loaded w.core.orders (note.Armed (as_tick w.bank.time)) (k ∷ w.back) refl
+            (orders_other w.loaded w.core.orders k w.back refl g.orders);
+        level = g.level;
+        edges = g.edges;
+        small = g.small;
+      };
       tie = (ap (λ (n : ℕ). n + 1) none, sym number, omega arith);
       others = elim [ kind.Tick ↦ λ ne t. absurd (ne refl) | j ↦ λ ne t. t ];
       stack_is = on;
@@ -71,14 +87,17 @@ asks None false w outer demand kept g none on st number =
     }
 
 -- the number of the newest K
-outcome_number : (lost : Option Cause) (armed_now : Bool) (t n s d : ℕ) (back : List Note) → number_at (with_outcome (as_tick t) lost armed_now (note.Control (as_tick t) n s d ∷ back)) ≡ n
+outcome_number : (lost : Option Cause) (armed_now : Bool) (t n s d : ℕ) (back : List Note)
+    → number_at (with_outcome (as_tick t) lost armed_now (note.Control (as_tick t) n s d ∷ back)) ≡ n
 outcome_number (Some cause) armed_now t n s d back = refl
 outcome_number None true t n s d back = refl
 outcome_number None false t n s d back = refl
 
-reads : (w : World) (outer : List Kind) → Ground w → TickTie w → w.bank.stuck ≡ false → w.bank.number_read < w.bank.time / 2400 → (so_far w).ticks ≡ 0 → (so_far w).stack ≡ kind.Tick ∷ outer
+reads : (w : World) (outer : List Kind) → Ground w → TickTie w → w.bank.stuck ≡ false → w.bank.number_read < w.bank.time / 2400 → (so_far w).ticks ≡ 0
+    → (so_far w).stack ≡ kind.Tick ∷ outer
     → StepKeeps kind.Tick outer w (tick_step tick.Read w.core w.bank)
-reads w outer g t unmarked below none on = subst (λ (v : Bool). StepKeeps kind.Tick outer w (number_step (if v then w.bank.time / 2400 + 1073741824 else w.bank.time / 2400) w.core w.bank)) (sym unmarked) (
+reads w outer g t unmarked below none on = subst (λ (v : Bool). StepKeeps kind.Tick outer w
+    (number_step (if v then w.bank.time / 2400 + 1073741824 else w.bank.time / 2400) w.core w.bank)) (sym unmarked) (
     let n : ℕ = w.bank.time / 2400 in
     let answer = ticked w.core n 0 in
     let less : w.core.control.number < n = (let same = t.1 in omega arith) in
@@ -87,12 +106,27 @@ reads w outer g t unmarked below none on = subst (λ (v : Bool). StepKeeps kind.
     (asks answer.lost answer.armed_now w outer answer.demand (after_tick w.core.control n (decide (view_of w.core.control) n 0)) g none on st
     (st.ties.number_is ∙ outcome_number answer.lost answer.armed_now w.bank.time n 0 answer.demand w.back)))
 
-steps : (at : TickAt) (w : World) (outer : List Kind) → Ground w → TickTie w → w.bank.stuck ≡ false → TickTied at w.bank.number_read w.bank.time (so_far w).ticks → (so_far w).stack ≡ kind.Tick ∷ outer → 0 < tick_left at
+steps : (at : TickAt) (w : World) (outer : List Kind) → Ground w → TickTie w → w.bank.stuck ≡ false → TickTied at w.bank.number_read w.bank.time (so_far w).ticks
+    → (so_far w).stack ≡ kind.Tick ∷ outer → 0 < tick_left at
     → StepKeeps kind.Tick outer w (tick_step at w.core w.bank)
 steps tick.Shut w outer g t unmarked i on left = absurd (omega arith)
-steps tick.Raise w outer g t unmarked i on left = record { gate = λ word moved. absurd (moved refl refl); fits = tt; ground = g; tie = (i, t.1, t.2); others = elim [ kind.Tick ↦ λ ne t. absurd (ne refl) | j ↦ λ ne t. t ]; stack_is = on }
+steps tick.Raise w outer g t unmarked i on left = record {
+  gate = λ word moved. absurd (moved refl refl);
+  fits = tt;
+  ground = g;
+  tie = (i, t.1, t.2);
+  others = elim [ kind.Tick ↦ λ ne t. absurd (ne refl) | j ↦ λ ne t. t ];
+  stack_is = on;
+}
 steps tick.Read w outer g t unmarked i on left = reads w outer g t unmarked i.0 i.1 on
-steps tick.Lower w outer g t unmarked i on left = record { gate = λ word moved. absurd (moved refl refl); fits = tt; ground = g; tie = (i, t.1, t.2); others = elim [ kind.Tick ↦ λ ne t. absurd (ne refl) | j ↦ λ ne t. t ]; stack_is = on }
+steps tick.Lower w outer g t unmarked i on left = record {
+  gate = λ word moved. absurd (moved refl refl);
+  fits = tt;
+  ground = g;
+  tie = (i, t.1, t.2);
+  others = elim [ kind.Tick ↦ λ ne t. absurd (ne refl) | j ↦ λ ne t. t ];
+  stack_is = on;
+}
 steps tick.Back w outer g t unmarked i on left = record {
   gate = λ word moved. absurd (moved refl refl);
   fits = (record { at = refl; owned = refl; window = λ e. cc; nest = (inside (so_far w).stack kind.Tick outer on, i) }, tt);

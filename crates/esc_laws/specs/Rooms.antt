@@ -53,7 +53,9 @@ CapTie w = SignalTied (so_far w).signal w.core.cap_at (cap_view w.trace w.core w
 
 -- the number that was read last is that of control's newest tick
 abbrev pub TickTie : World → Type 0
-TickTie w = TickTied w.core.tick_at w.bank.number_read w.bank.time (so_far w).ticks × (w.bank.number_read ≡ w.core.control.number) × (w.bank.number_read ≤ w.bank.time / 2400)
+TickTie w =
+    TickTied w.core.tick_at w.bank.number_read w.bank.time (so_far w).ticks × (w.bank.number_read ≡ w.core.control.number) ×
+    (w.bank.number_read ≤ w.bank.time / 2400)
 
 abbrev pub MainTie : World → Type 0
 MainTie w = MainTied w.core.main_at w.core.orders.save_asked (so_far w).saves
@@ -108,7 +110,8 @@ WordMoves b after = after.hi ≡ b.hi → after.lo ≡ b.lo → ⊥
 
 -- where a step changes the gate word, its G fits before the step's own notes
 abbrev pub GateFits : World → Bank → Type 0
-GateFits w after = GatesTied w.bank.hi w.bank.lo w.back → WordMoves w.bank after → NestRuleAt w.nest (so_far w) (note.Gate (as_tick w.bank.time) after.hi after.lo)
+GateFits w after =
+    GatesTied w.bank.hi w.bank.lo w.back → WordMoves w.bank after → NestRuleAt w.nest (so_far w) (note.Gate (as_tick w.bank.time) after.hi after.lo)
 
 pub record StepKeeps (k : Kind) (outer : List Kind) (w : World) (s : Stepped) : Type 0 where
   pub gate : GateFits w (accessed w.bank s.access)
