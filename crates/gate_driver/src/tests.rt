@@ -1,11 +1,13 @@
+ghost use Rattle.std.specs.Prelude.{◌≡◌, ◌+◌, ◌≤◌};
+
 use crate::{AllOff, ChangeAt, Chop, Gates, Progress, ToSector};
 use esc_base::{GateWord, Leg, Sector, Tick};
 use timer_regs::{Reg, Regs};
 
-ghost use Rattle.std.specs.Prelude.{◌≡◌, ◌≤◌};
-
 const A: u8 = 1;
+
 const B: u8 = 2;
+
 const C: u8 = 4;
 
 /// The pairs of sectors 1 to 6: the high switch and the low one.
@@ -37,9 +39,31 @@ fn all_go_off(rt: HostRuntime) {
             assert_eq!(rt; regs.gates(), GateWord { hi: 0, lo });
             assert_eq!(rt; program.step(&mut gates, &mut regs), Progress::Done);
             assert_eq!(rt; regs.gates(), GateWord { hi: 0, lo: 0 });
-            assert_eq!(rt; gates.high_free(Leg::B), Tick(if hi & B != 0 { 1048 } else { 0 }));
-            assert_eq!(rt; gates.low_free(Leg::C), Tick(if lo & C != 0 { 1048 } else { 0 }));
+            assert_eq!(rt;
+                gates.high_free(Leg::B),
+                Tick(if hi & B != 0 { 1048 } else { 0 })
+            );
+            assert_eq!(rt;
+                gates.low_free(Leg::C),
+                Tick(if lo & C != 0 { 1048 } else { 0 })
+            );
         }
+    }
+}
+
+/// A step that turns a switch on, asked for again at tick 1048 where it has to wait: until when, and the answer.
+fn turned_on(program: &mut ToSector, gates: &mut Gates, regs: &mut Regs) -> (Option<Tick>, Progress)
+    requires count { regs.old.accesses ≤ 100 }
+    requires now { regs.old.time ≤ 1048 }
+    ensures count { regs.new.accesses ≤ regs.old.accesses + 2 }
+    ensures now { regs.new.time ≤ 1048 }
+{
+    match program.step(gates, regs) {
+        Progress::Later(from) => {
+            regs.advance(Tick(1048));
+            (Some(from), program.step(gates, regs))
+        }
+        other => (None, other),
     }
 }
 
@@ -59,23 +83,42 @@ fn sectors_change(rt: HostRuntime) {
                 assert_eq!(rt; program.step(&mut gates, &mut regs), Progress::More);
                 assert_eq!(rt; regs.gates(), GateWord { hi: hi & high, lo });
                 assert_eq!(rt; program.step(&mut gates, &mut regs), Progress::More);
-                assert_eq!(rt; regs.gates(), GateWord { hi: hi & high, lo: lo & low });
+                assert_eq!(rt;
+                    regs.gates(),
+                    GateWord {
+                        hi: hi & high,
+                        lo: lo & low
+                    }
+                );
                 assert_eq!(rt; program.step(&mut gates, &mut regs), Progress::More);
                 assert_eq!(rt; regs.read(Reg::Sector), s as u32);
-                if hi & low != 0 {
-                    assert_eq!(rt; program.step(&mut gates, &mut regs), Progress::Later(Tick(1048)));
-                    assert_eq!(rt; program.at(), ChangeAt::Low);
-                    regs.advance(Tick(1048));
-                }
+                let late = if hi & low != 0 {
+                    Some(Tick(1048))
+                } else {
+                    None
+                };
+                assert_eq!(rt;
+                    turned_on(&mut program, &mut gates, &mut regs),
+                    (late, Progress::More)
+                );
+                assert_eq!(rt;
+                    regs.gates(),
+                    GateWord {
+                        hi: hi & high,
+                        lo: low
+                    }
+                );
                 assert_eq!(rt; program.step(&mut gates, &mut regs), Progress::More);
-                assert_eq!(rt; regs.gates(), GateWord { hi: hi & high, lo: low });
                 assert_eq!(rt; program.step(&mut gates, &mut regs), Progress::More);
-                assert_eq!(rt; program.step(&mut gates, &mut regs), Progress::More);
-                if lo & high != 0 {
-                    assert_eq!(rt; program.step(&mut gates, &mut regs), Progress::Later(Tick(1048)));
-                    regs.advance(Tick(1048));
-                }
-                assert_eq!(rt; program.step(&mut gates, &mut regs), Progress::Done);
+                let late = if lo & high != 0 && hi & low == 0 {
+                    Some(Tick(1048))
+                } else {
+                    None
+                };
+                assert_eq!(rt;
+                    turned_on(&mut program, &mut gates, &mut regs),
+                    (late, Progress::Done)
+                );
                 assert_eq!(rt; regs.gates(), GateWord { hi: high, lo: low });
             }
         }
@@ -108,7 +151,13 @@ fn sectors_are_chopped(rt: HostRuntime) {
                     assert_eq!(rt; regs.gates(), GateWord { hi, lo });
                 } else {
                     assert_eq!(rt; answer, Progress::More);
-                    assert_eq!(rt; regs.gates(), GateWord { hi: if s == 0 { 0 } else { hi | high }, lo });
+                    assert_eq!(rt;
+                        regs.gates(),
+                        GateWord {
+                            hi: if s == 0 { 0 } else { hi | high },
+                            lo
+                        }
+                    );
                 }
                 assert_eq!(rt; program.step(&mut gates, &mut regs), Progress::Done);
                 assert!(rt; !regs.masked());
@@ -126,9 +175,11 @@ fn chopped_at(position: u64) -> GateWord
     regs.advance(Tick(2000 + position));
     let mut gates = Gates::new();
     let mut program = Chop::new();
-    for _ in 0u8..6 {
-        let _ = program.step(&mut gates, &mut regs);
-    }
+    let _ = program.step(&mut gates, &mut regs);
+    let _ = program.step(&mut gates, &mut regs);
+    let _ = program.step(&mut gates, &mut regs);
+    let _ = program.step(&mut gates, &mut regs);
+    let _ = program.step(&mut gates, &mut regs);
     regs.gates()
 }
 
@@ -138,4 +189,11 @@ fn high_switch_is_on_below_the_duty(rt: HostRuntime) {
     assert_eq!(rt; chopped_at(1499), GateWord { hi: A, lo: B });
     assert_eq!(rt; chopped_at(1500), GateWord { hi: 0, lo: B });
     assert_eq!(rt; chopped_at(1999), GateWord { hi: 0, lo: B });
+}
+
+#[test]
+fn change_tells_where_it_stands(rt: HostRuntime) {
+    let program = ToSector::new(Sector(4));
+    assert_eq!(rt; program.to(), Sector(4));
+    assert_eq!(rt; program.at(), ChangeAt::ClearHigh);
 }
