@@ -1,7 +1,7 @@
 //! The check number of packets: CRC-16 with polynomial 0x1021, start 0, the most significant bit first.
 ghost use Rattle.std.specs.Prelude.{◌≡◌};
 ghost use Rattle.std.specs.List.{fold};
-ghost use Rattle.fourway_packet.specs.Crc.{shifted, shifted_by_byte, low_bits, crc_of, IsRemainder};
+ghost use Rattle.fourway_packet.specs.Crc.{shifted, shifted_by_byte, bits_of, crc_of, IsRemainder};
 
 /// The polynomial x^16 + x^12 + x^5 + 1, without its highest term.
 const POLYNOMIAL: u16 = 0x1021;
@@ -10,6 +10,7 @@ const POLYNOMIAL: u16 = 0x1021;
 #[tactic(auto, unfolding(crate::specs::Crc::crc_of))]
 pub fn crc16(bytes: &[u8]) -> u16
     ensures crc { result ≡ crc_of bytes.now }
+    ensures remainder { IsRemainder (bits_of bytes.now) result }
 {
     bytes.iter().fold(0, |crc, byte| with_byte(crc, *byte))
 }
