@@ -1,2 +1,5 @@
 pub mod Crc
 pub mod Reply
+pub mod Ack
+pub mod Command
+pub mod Answer

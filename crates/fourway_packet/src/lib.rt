@@ -2,10 +2,20 @@
 //! from the serial bytes, checked, and answered.
 #![tactic(auto)]
 
+mod ack;
+mod admitted;
+mod answering;
+mod command;
 mod crc;
+mod flash;
+mod packet;
 mod params;
 mod reply;
 
+pub use ack::Ack;
+pub use answering::{Session, answer};
+pub use command::Command;
 pub use crc::crc16;
+pub use packet::Packet;
 pub use params::Params;
 pub use reply::{Reply, reply_bytes};

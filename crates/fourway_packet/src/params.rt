@@ -1,4 +1,5 @@
 ghost use Rattle.std.specs.Prelude.{◌≡◌, ◌≤◌, ◌<◌, length, slice_index};
+ghost use Rattle.fourway_packet.specs.Command.{nothing};
 
 use arrayvec::ArrayVec;
 use std::marker::Model;
@@ -31,6 +32,13 @@ impl Params {
             Ok(()) => Params { bytes: params },
             Err(_full) => unreachable!(),
         }
+    }
+
+    /// What a reply without content has: one byte 0.
+    pub(crate) fn nothing() -> Params
+        ensures { result ≡ nothing }
+    {
+        Params::new(&[0])
     }
 
     /// The bytes.
