@@ -29,8 +29,8 @@ meets p x y l self =
     xor_assoc p (bit_xor x y) (bit_xor l y)
     ∙ ap (λ (n : ℕ). bit_xor p n)
     (
-      xor_assoc x y (bit_xor l y)
-      ∙ ap (λ (n : ℕ). bit_xor x n) (ap (λ (n : ℕ). bit_xor y n) (xor_comm l y) ∙ sym (xor_assoc y y l) ∙ ap (λ (n : ℕ). bit_xor n l) self ∙ xor_zero_l l)
+    xor_assoc x y (bit_xor l y)
+    ∙ ap (λ (n : ℕ). bit_xor x n) (ap (λ (n : ℕ). bit_xor y n) (xor_comm l y) ∙ sym (xor_assoc y y l) ∙ ap (λ (n : ℕ). bit_xor n l) self ∙ xor_zero_l l)
     )
 
 -- a digit behind a number
@@ -115,11 +115,11 @@ divided_by_all [] m r d = d
 divided_by_all (bit ∷ bits) m r d =
     divided_by_all bits (m * 2 + digit bit) (shifted r bit)
     (
-      record {
-        below = shifted_lt r bit;
-        quotient = d.quotient ++ xor (r / 2 ^ 15 == 1) bit ∷ [];
-        is = divides_on m (product d.quotient) r bit d.below d.is ∙ ap (λ (n : ℕ). bit_xor n (shifted r bit)) (sym (product-push d.quotient (xor (r / 2 ^ 15 == 1) bit)));
-      }
+    record {
+      below = shifted_lt r bit;
+      quotient = d.quotient ++ xor (r / 2 ^ 15 == 1) bit ∷ [];
+      is = divides_on m (product d.quotient) r bit d.below d.is ∙ ap (λ (n : ℕ). bit_xor n (shifted r bit)) (sym (product-push d.quotient (xor (r / 2 ^ 15 == 1) bit)));
+    }
     )
 
 by_bytes : (bytes : List ℕ) (crc : ℕ) → fold shifted crc (bits_of bytes) ≡ fold shifted_by_byte crc bytes

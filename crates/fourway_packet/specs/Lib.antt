@@ -3,3 +3,5 @@ pub mod Reply
 pub mod Ack
 pub mod Command
 pub mod Answer
+pub mod Cut
+pub mod Queue

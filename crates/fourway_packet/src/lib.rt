@@ -9,13 +9,18 @@ mod command;
 mod crc;
 mod flash;
 mod packet;
+mod packets;
 mod params;
+mod part;
 mod reply;
+#[cfg(test)]
+mod tests;
 
 pub use ack::Ack;
 pub use answering::{Session, answer};
 pub use command::Command;
 pub use crc::crc16;
 pub use packet::Packet;
+pub use packets::{Packets, Received};
 pub use params::Params;
 pub use reply::{Reply, reply_bytes};
