@@ -1,7 +1,7 @@
 -- Packets are cut one byte at a time: what bytes further on give is what they give behind the packet that has begun.
 use Rattle.std.proofs.Common.{◌≡◌, ◌≤◌, ◌<◌, ℕ, zero, suc, ◌+◌, ◌-◌, Bool, true, false, not, ◌&&◌, ◌==◌, nat_le, if◌then◌else◌, List, [], ◌∷◌, ◌++◌, length, take, slice_index, refl, sym, ◌∙◌, ap, arith, append_assoc}
 use Rattle.std.proofs.Math.ListN.{get_or-append}
-use Rattle.std.proofs.lemmas.List.{take-append-le, length-append, length-map, map-append, append-nil}
+use Rattle.std.proofs.lemmas.List.{take-append-le, length-append, length-map, map-append}
 use Rattle.std.proofs.lemmas.Bool.Decides.{nat_tests}
 use Rattle.esc_base.specs.declared.tick.Tick.{Tick}
 use Rattle.fourway_packet.specs.declared.packet.Packet.{Packet}

@@ -1,10 +1,9 @@
 -- A packet is read from its bytes.
-use Rattle.std.proofs.Common.{◌≡◌, ℕ, ◌-◌, Bool, true, false, ◌==◌, List, length, take, drop, slice_index, refl, sym, ◌∙◌, ap, arith}
+use Rattle.std.proofs.Common.{◌≡◌, ℕ, ◌-◌, Bool, ◌==◌, List, length, take, drop, slice_index, sym, ◌∙◌, ap}
 use Rattle.std.proofs.Math.Seq.{take-length}
 use Rattle.std.proofs.lemmas.List.{length-drop}
 use Rattle.std.proofs.lemmas.Bool.{eq-eqb, ne_eqb}
 use Rattle.byteorder.specs.Endian.{big_number}
-use Rattle.fourway_packet.specs.declared.packet.Packet.{Packet}
 use Rattle.fourway_packet.specs.declared.packet.Packet.TheVariants.{Whole, BadCrc}
 use Rattle.fourway_packet.specs.Crc.{crc_of}
 use Rattle.fourway_packet.specs.Cut.{covered_of, packet_by, packet_of}

@@ -1,5 +1,5 @@
 -- What answers say, and what they do to the flash. Each condition on a packet stands in Command.
-use Rattle.std.specs.Prelude.{◌≡◌, ℕ, ◌+◌, ◌*◌, Bool, false, List, [], ◌∷◌, length, take, drop, Option, Some, None, Result, Ok, Err}
+use Rattle.std.specs.Prelude.{◌≡◌, ℕ, ◌+◌, ◌*◌, Bool, false, List, [], length, take, drop, Option, Some, None, Result, Ok, Err}
 use Rattle.std.specs.Option.{option_map}
 use Rattle.esc_base.specs.Flash.{erased, programmed, ChangesWithin, IsRead}
 use Rattle.settings_block.specs.Stored.{KeepsBelow}

@@ -1,5 +1,5 @@
 -- The serial bytes that wait, and what was begun by those taken before.
-use Rattle.std.specs.Prelude.{◌≡◌, ◌<◌, ℕ, List, [], ◌∷◌, length}
+use Rattle.std.specs.Prelude.{◌≡◌, ℕ, List, [], ◌∷◌, length}
 use Rattle.esc_base.specs.declared.tick.Tick.{Tick}
 use Rattle.fourway_packet.specs.declared.packets.Received.{Received}
 use Rattle.fourway_packet.specs.Cut.{bytes_of, unfinished}

@@ -1,4 +1,3 @@
-use Rattle.std.proofs.Common.{sym}
 use Rattle.fourway_packet.proofs.Division.{next_bit}
 use Rattle.fourway_packet.proofs.crc.with_byte.Goals as goal
 
