@@ -19,9 +19,20 @@ pub struct Session {
     pub active: bool,
 }
 
-/// The answer to a packet, whose command is carried out unless something is against it. A refusal changes nothing.
-/// Acknowledgement 6 comes only where the flash failed; then the bytes that the failed call was to change may be any,
-/// and the session stays as it was.
+/// The answer to a packet. Its acknowledgement is the first of these that applies:
+///
+/// - 3: the CRC is wrong;
+/// - 2: there is no such command;
+/// - 8: the command has a channel, and its first parameter isn't 0;
+/// - 15: it would begin a session while armed, or use the flash while armed or without an active session;
+/// - 9: address or parameters aren't what it takes;
+/// - 15: it would erase or write one of the first four pages;
+/// - 6: the flash failed, whose count of faults then rose in this call;
+/// - 4: the flash differs from the bytes to verify;
+/// - 0: it was carried out.
+///
+/// The first six change nothing. After 6 the bytes that the failed call was to change may be any, and after a failed
+/// save the whole settings' page; all other bytes and the session are as before.
 pub fn answer<D: FlashDev>(p: &Packet, s: &mut Session, armed: bool, dev: &mut D) -> Reply
     ensures cmd { result.cmd ≡ cmd_of p.now }
     ensures addr { result.addr ≡ addr_of p.now }

@@ -6,7 +6,7 @@ use crate::command::count_of;
 use crate::{Params, crc16};
 use byteorder::{BigEndian, ByteOrder};
 
-/// A request that was cut from the serial bytes.
+/// A request that was cut from the serial bytes: its command, its address, and its parameters if they can be trusted.
 #[derive(Debug, Drop)]
 pub enum Packet {
     /// Its CRC is right.

@@ -75,7 +75,9 @@ impl Packets {
         self.waiting.len()
     }
 
-    /// Takes the oldest byte that waits, and answers the packet that it completes.
+    /// Takes the oldest byte that waits, and answers the packet that it completes. Bytes before a 0x2F are skipped. A
+    /// byte that arrived more than 50 milliseconds (2,400,000 ticks) after the one before it drops a packet that has
+    /// begun.
     pub fn take(&mut self) -> Option<Packet>
         requires { 0 < length self.old.waiting }
         ensures waiting { self.new.waiting ≡ drop 1 self.old.waiting }

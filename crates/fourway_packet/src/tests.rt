@@ -101,7 +101,7 @@ fn writes_are_refused_or_programmed(rt: HostRuntime) -> Result<(), Fail> {
     assert_eq!(rt; ack_of(&mut flash, &request(0x3B, 0, &zeros)), 0x0F);
     let write = request(0x3B, 0x2000, &zeros);
     assert_eq!(rt; answer(&write, &mut session, true, &mut flash).ack, 0x0F);
-    assert_eq!(rt; flash.bytes(), [0xFF; 32768].as_slice());
+    assert!(rt; flash.bytes().iter().all(|byte| *byte == 0xFF));
     assert_eq!(rt; answer(&write, &mut session, false, &mut flash).ack, 0x00);
     let mut held = [0xFF; 258];
     flash.read(0x1FFF, &mut held)?;
