@@ -47,13 +47,33 @@ pub record PlainMoves (k : Kind) (left : ℕ) (c : Brain) (b : Bank) (s : Steppe
   pub hold : s.core.hold ≡ c.hold
 
 opens_moves : (left : ℕ) (c : Brain) (b : Bank) → 1 < left → PlainMoves kind.Cap left c b (opens c b)
-opens_moves left c b l = record { moves = record { less = l; more = λ e. lit< tt; shut = λ e. cc; others = elim [ kind.Cap ↦ λ ne. absurd (ne refl) | j ↦ λ ne. (refl, refl) ] }; masked = refl; hold = refl }
+opens_moves left c b l = record {
+  moves = record { less = l; more = λ e. lit< tt; shut = λ e. cc; others = elim [ kind.Cap ↦ λ ne. absurd (ne refl) | j ↦ λ ne. (refl, refl) ] };
+  masked = refl;
+  hold = refl;
+}
 
 judge_moves : (j : Judgement) (c : Brain) (b : Bank) → PlainMoves kind.Cap 3 c b (judge_step j c b)
-judge_moves (Good frame) c b = record { moves = record { less = lit< tt; more = λ e. lit< tt; shut = λ e. cc; others = elim [ kind.Cap ↦ λ ne. absurd (ne refl) | j ↦ λ ne. (refl, refl) ] }; masked = refl; hold = refl }
-judge_moves (Bad why) c b = record { moves = record { less = lit< tt; more = λ e. lit< tt; shut = λ e. cc; others = elim [ kind.Cap ↦ λ ne. absurd (ne refl) | j ↦ λ ne. (refl, refl) ] }; masked = refl; hold = refl }
-judge_moves (Found mode) c b = record { moves = record { less = lit< tt; more = λ e. lit< tt; shut = λ e. cc; others = elim [ kind.Cap ↦ λ ne. absurd (ne refl) | j ↦ λ ne. (refl, refl) ] }; masked = refl; hold = refl }
-judge_moves Nothing c b = record { moves = record { less = lit< tt; more = λ e. lit< tt; shut = λ e. cc; others = elim [ kind.Cap ↦ λ ne. absurd (ne refl) | j ↦ λ ne. (refl, refl) ] }; masked = refl; hold = refl }
+judge_moves (Good frame) c b = record {
+  moves = record { less = lit< tt; more = λ e. lit< tt; shut = λ e. cc; others = elim [ kind.Cap ↦ λ ne. absurd (ne refl) | j ↦ λ ne. (refl, refl) ] };
+  masked = refl;
+  hold = refl;
+}
+judge_moves (Bad why) c b = record {
+  moves = record { less = lit< tt; more = λ e. lit< tt; shut = λ e. cc; others = elim [ kind.Cap ↦ λ ne. absurd (ne refl) | j ↦ λ ne. (refl, refl) ] };
+  masked = refl;
+  hold = refl;
+}
+judge_moves (Found mode) c b = record {
+  moves = record { less = lit< tt; more = λ e. lit< tt; shut = λ e. cc; others = elim [ kind.Cap ↦ λ ne. absurd (ne refl) | j ↦ λ ne. (refl, refl) ] };
+  masked = refl;
+  hold = refl;
+}
+judge_moves Nothing c b = record {
+  moves = record { less = lit< tt; more = λ e. lit< tt; shut = λ e. cc; others = elim [ kind.Cap ↦ λ ne. absurd (ne refl) | j ↦ λ ne. (refl, refl) ] };
+  masked = refl;
+  hold = refl;
+}
 
 edges_less : (v : Bool) (n : ℕ) → cap_left (if v then cap.Back else cap.Copy (min n 32)) < 40
 edges_less true n = lit< tt
@@ -81,8 +101,21 @@ copy_moves : (v : Bool) (rest : ℕ) (c : Brain) (b : Bank)
       notes = [];
       over = false;
     })
-copy_moves true rest c b = record { moves = record { less = copy_less rest; more = λ e. copy_more (nat_le rest 1) rest; shut = λ e. cc; others = elim [ kind.Cap ↦ λ ne. absurd (ne refl) | j ↦ λ ne. (refl, refl) ] }; masked = refl; hold = refl }
-copy_moves false rest c b = record { moves = record { less = omega arith; more = λ e. lit< tt; shut = λ e. cc; others = elim [ kind.Cap ↦ λ ne. absurd (ne refl) | j ↦ λ ne. (refl, refl) ] }; masked = refl; hold = refl }
+copy_moves true rest c b = record {
+  moves = record {
+    less = copy_less rest;
+    more = λ e. copy_more (nat_le rest 1) rest;
+    shut = λ e. cc;
+    others = elim [ kind.Cap ↦ λ ne. absurd (ne refl) | j ↦ λ ne. (refl, refl) ];
+  };
+  masked = refl;
+  hold = refl;
+}
+copy_moves false rest c b = record {
+  moves = record { less = omega arith; more = λ e. lit< tt; shut = λ e. cc; others = elim [ kind.Cap ↦ λ ne. absurd (ne refl) | j ↦ λ ne. (refl, refl) ] };
+  masked = refl;
+  hold = refl;
+}
 
 begin_moves : (c : Brain) (b : Bank) → PlainMoves kind.Cap 40 c b (goes_on (record c { burst = []; cap_at = after_edges (read_value b reg.CapState) }) (Reads reg.CapState))
 begin_moves c b = record {
@@ -106,8 +139,16 @@ cap_moves cap.Start c b l = either_moves c.paused c b
 cap_moves (cap.Copy rest) c b l = copy_moves (takes c.burst (next_edge c b)) rest c b
 cap_moves cap.Judge c b l = judge_moves (judged c.window c.burst c.orders.settings.input (servo_of c.orders.settings)) c b
 cap_moves cap.Open c b l = opens_moves 2 c b (lit< tt)
-cap_moves (cap.Pause at) c b l = record { moves = record { less = lit< tt; more = λ e. lit< tt; shut = λ e. cc; others = elim [ kind.Cap ↦ λ ne. absurd (ne refl) | j ↦ λ ne. (refl, refl) ] }; masked = refl; hold = refl }
-cap_moves cap.Back c b l = record { moves = record { less = lit< tt; more = λ e. cc; shut = λ e. refl; others = elim [ kind.Cap ↦ λ ne. absurd (ne refl) | j ↦ λ ne. (refl, refl) ] }; masked = refl; hold = refl }
+cap_moves (cap.Pause at) c b l = record {
+  moves = record { less = lit< tt; more = λ e. lit< tt; shut = λ e. cc; others = elim [ kind.Cap ↦ λ ne. absurd (ne refl) | j ↦ λ ne. (refl, refl) ] };
+  masked = refl;
+  hold = refl;
+}
+cap_moves cap.Back c b l = record {
+  moves = record { less = lit< tt; more = λ e. cc; shut = λ e. refl; others = elim [ kind.Cap ↦ λ ne. absurd (ne refl) | j ↦ λ ne. (refl, refl) ] };
+  masked = refl;
+  hold = refl;
+}
 
 -- ---- TICK, which stands under the mask for at most two steps
 
@@ -118,27 +159,65 @@ number_moves : (v : Bool) (n : ℕ) (c : Brain) (b : Bank)
       notes = tick_notes b.time n 0 (ticked c n 0);
       over = false;
     } else goes_on (record c { tick_at = tick.Lower }) (Reads reg.TickState))
-number_moves true n c b = record { less = lit< tt; more = λ e. lit< tt; shut = λ e. cc; others = elim [ kind.Tick ↦ λ ne. absurd (ne refl) | j ↦ λ ne. (refl, refl) ] }
-number_moves false n c b = record { less = lit< tt; more = λ e. lit< tt; shut = λ e. cc; others = elim [ kind.Tick ↦ λ ne. absurd (ne refl) | j ↦ λ ne. (refl, refl) ] }
+number_moves true n c b = record {
+  less = lit< tt;
+  more = λ e. lit< tt;
+  shut = λ e. cc;
+  others = elim [ kind.Tick ↦ λ ne. absurd (ne refl) | j ↦ λ ne. (refl, refl) ];
+}
+number_moves false n c b = record {
+  less = lit< tt;
+  more = λ e. lit< tt;
+  shut = λ e. cc;
+  others = elim [ kind.Tick ↦ λ ne. absurd (ne refl) | j ↦ λ ne. (refl, refl) ];
+}
 
 tick_moves : (at : TickAt) (c : Brain) (b : Bank) → 0 < tick_left at → Moves kind.Tick (tick_left at) c (tick_step at c b)
 tick_moves tick.Shut c b l = absurd (omega arith)
-tick_moves tick.Raise c b l = record { less = lit< tt; more = λ e. lit< tt; shut = λ e. cc; others = elim [ kind.Tick ↦ λ ne. absurd (ne refl) | j ↦ λ ne. (refl, refl) ] }
+tick_moves tick.Raise c b l = record {
+  less = lit< tt;
+  more = λ e. lit< tt;
+  shut = λ e. cc;
+  others = elim [ kind.Tick ↦ λ ne. absurd (ne refl) | j ↦ λ ne. (refl, refl) ];
+}
 tick_moves tick.Read c b l = number_moves (nat_lt c.control.number (read_value b reg.TickState)) (read_value b reg.TickState) c b
-tick_moves tick.Lower c b l = record { less = lit< tt; more = λ e. lit< tt; shut = λ e. cc; others = elim [ kind.Tick ↦ λ ne. absurd (ne refl) | j ↦ λ ne. (refl, refl) ] }
-tick_moves tick.Back c b l = record { less = lit< tt; more = λ e. cc; shut = λ e. refl; others = elim [ kind.Tick ↦ λ ne. absurd (ne refl) | j ↦ λ ne. (refl, refl) ] }
+tick_moves tick.Lower c b l = record {
+  less = lit< tt;
+  more = λ e. lit< tt;
+  shut = λ e. cc;
+  others = elim [ kind.Tick ↦ λ ne. absurd (ne refl) | j ↦ λ ne. (refl, refl) ];
+}
+tick_moves tick.Back c b l = record {
+  less = lit< tt;
+  more = λ e. cc;
+  shut = λ e. refl;
+  others = elim [ kind.Tick ↦ λ ne. absurd (ne refl) | j ↦ λ ne. (refl, refl) ];
+}
 
 -- ---- MAIN
 
 work_moves : (v saved : Bool) (c : Brain) (b : Bank)
     → PlainMoves kind.Main 2 c b (if v then saving_step saved (record c { main_at = main.Back }) b else goes_on (record c { main_at = main.Back }) NoAccess)
-work_moves true saved c b = record { moves = record { less = lit< tt; more = λ e. lit< tt; shut = λ e. cc; others = elim [ kind.Main ↦ λ ne. absurd (ne refl) | j ↦ λ ne. (refl, refl) ] }; masked = refl; hold = refl }
-work_moves false saved c b = record { moves = record { less = lit< tt; more = λ e. lit< tt; shut = λ e. cc; others = elim [ kind.Main ↦ λ ne. absurd (ne refl) | j ↦ λ ne. (refl, refl) ] }; masked = refl; hold = refl }
+work_moves true saved c b = record {
+  moves = record { less = lit< tt; more = λ e. lit< tt; shut = λ e. cc; others = elim [ kind.Main ↦ λ ne. absurd (ne refl) | j ↦ λ ne. (refl, refl) ] };
+  masked = refl;
+  hold = refl;
+}
+work_moves false saved c b = record {
+  moves = record { less = lit< tt; more = λ e. lit< tt; shut = λ e. cc; others = elim [ kind.Main ↦ λ ne. absurd (ne refl) | j ↦ λ ne. (refl, refl) ] };
+  masked = refl;
+  hold = refl;
+}
 
-main_moves : (at : MainAt) (answers : List Answer) (c : Brain) (b : Bank) → 0 < main_left at → PlainMoves kind.Main (main_left at) c b (main_step answers at c b)
+main_moves : (at : MainAt) (answers : List Answer) (c : Brain) (b : Bank) → 0 < main_left at
+    → PlainMoves kind.Main (main_left at) c b (main_step answers at c b)
 main_moves main.Shut answers c b l = absurd (omega arith)
 main_moves main.Work answers c b l = work_moves c.orders.save_asked (took_first answers) c b
-main_moves main.Back answers c b l = record { moves = record { less = lit< tt; more = λ e. cc; shut = λ e. refl; others = elim [ kind.Main ↦ λ ne. absurd (ne refl) | j ↦ λ ne. (refl, refl) ] }; masked = refl; hold = refl }
+main_moves main.Back answers c b l = record {
+  moves = record { less = lit< tt; more = λ e. cc; shut = λ e. refl; others = elim [ kind.Main ↦ λ ne. absurd (ne refl) | j ↦ λ ne. (refl, refl) ] };
+  masked = refl;
+  hold = refl;
+}
 
 -- ---- any kind
 
@@ -159,7 +238,8 @@ pub core_step-stray : (k : Kind) (answers : List Answer) (c : Brain) (b : Bank) 
 unfolding core_step
 core_step-stray k answers c b e = rw e refl
 
-pub core_step-goes : (k : Kind) (answers : List Answer) (c : Brain) (b : Bank) → is_stray k c b ≡ false → core_step k answers c b ≡ kind_step k answers (counted_down c b) b
+pub core_step-goes : (k : Kind) (answers : List Answer) (c : Brain) (b : Bank) → is_stray k c b ≡ false
+    → core_step k answers c b ≡ kind_step k answers (counted_down c b) b
 unfolding core_step
 core_step-goes k answers c b e = rw e refl
 
@@ -183,7 +263,8 @@ none_asked [] before after d = d
 none_asked (a ∷ answers) before after d = absurd d
 
 -- and one that asked for one call got one answer
-pub one_asked : (call : Call) (answers : List Answer) (before after : Told) → DeviceDid (call ∷ []) answers before after → (a : Answer) × (answers ≡ a ∷ []) × CallDid call a before after
+pub one_asked : (call : Call) (answers : List Answer) (before after : Told) → DeviceDid (call ∷ []) answers before after
+    → (a : Answer) × (answers ≡ a ∷ []) × CallDid call a before after
 one_asked call [] before after d = absurd d
 one_asked call (a ∷ []) before after d = (a, refl, subst (λ (x : Told). CallDid call a before x) (sym d.2) d.1)
 one_asked call (a ∷ x ∷ answers) before after d = absurd d.2
@@ -280,7 +361,8 @@ counted_most true h l = omega arith
 counted_most false h l = l
 
 -- a handler that never stands under the mask, and leaves it
-plain_bounds : (k : Kind) (c : Brain) (b : Bank) (s : Stepped) → need_of c k ≡ 9 → need_of s.core k ≡ 9 → c.hold ≤ 8 → is_stray k c b ≡ false → PlainMoves k (left_of c k) (counted_down c b) b s → Bounds k c b s
+plain_bounds : (k : Kind) (c : Brain) (b : Bank) (s : Stepped) → need_of c k ≡ 9 → need_of s.core k ≡ 9 → c.hold ≤ 8 → is_stray k c b ≡ false
+    → PlainMoves k (left_of c k) (counted_down c b) b s → Bounds k c b s
 plain_bounds k c b s nine still le e p =
     let down = no_mask b.masked c.hold (need_of c k) nine le e in
     record {
@@ -313,7 +395,8 @@ number_masks false n c b some le = record {
   stands = λ f l. (f (lit≤ tt), refl);
 }
 
-tick_masks : (at : TickAt) (c : Brain) (b : Bank) → 0 < tick_left at → c.hold ≤ 8 → (b.masked && nat_lt c.hold (tick_need at)) ≡ false → Masks kind.Tick (tick_need at) c.hold b (tick_step at (counted_down c b) b)
+tick_masks : (at : TickAt) (c : Brain) (b : Bank) → 0 < tick_left at → c.hold ≤ 8 → (b.masked && nat_lt c.hold (tick_need at)) ≡ false
+    → Masks kind.Tick (tick_need at) c.hold b (tick_step at (counted_down c b) b)
 tick_masks tick.Shut c b l le e = absurd (omega arith)
 tick_masks tick.Raise c b l le e =
     let down = no_mask b.masked c.hold 9 refl le e in
@@ -337,13 +420,16 @@ bare_moves k c b l =
     let m = shut_moves k (counted_down c b) (goes_back (shut (counted_down c b) k)) refl refl (rw (counted_left k c b) l) in
     record { moves = record { less = rw (← counted_left k c b) m.less; more = m.more; shut = m.shut; others = m.others }; masked = refl; hold = shut_hold k (counted_down c b) }
 
-pub goes_bounds : (k : Kind) (answers : List Answer) (c : Brain) (b : Bank) → 0 < left_of c k → c.hold ≤ 8 → is_stray k c b ≡ false → Bounds k c b (kind_step k answers (counted_down c b) b)
+pub goes_bounds : (k : Kind) (answers : List Answer) (c : Brain) (b : Bank) → 0 < left_of c k → c.hold ≤ 8 → is_stray k c b ≡ false
+    → Bounds k c b (kind_step k answers (counted_down c b) b)
 goes_bounds kind.Tick answers c b l le e = record {
   moves = counted_moves kind.Tick (tick_left c.tick_at) c b (tick_step c.tick_at (counted_down c b) b) (tick_moves c.tick_at (counted_down c b) b l);
   mask = tick_masks c.tick_at c b l le e;
 }
-goes_bounds kind.Cap answers c b l le e = plain_bounds kind.Cap c b (cap_step c.cap_at (counted_down c b) b) refl refl le e (cap_moves c.cap_at (counted_down c b) b l)
-goes_bounds kind.Main answers c b l le e = plain_bounds kind.Main c b (main_step answers c.main_at (counted_down c b) b) refl refl le e (main_moves c.main_at answers (counted_down c b) b l)
+goes_bounds kind.Cap answers c b l le e =
+    plain_bounds kind.Cap c b (cap_step c.cap_at (counted_down c b) b) refl refl le e (cap_moves c.cap_at (counted_down c b) b l)
+goes_bounds kind.Main answers c b l le e =
+    plain_bounds kind.Main c b (main_step answers c.main_at (counted_down c b) b) refl refl le e (main_moves c.main_at answers (counted_down c b) b l)
 goes_bounds k answers c b l le e = plain_bounds k c b (goes_back (shut (counted_down c b) k)) refl refl le e (bare_moves k c b l)
 
 -- each step of the core, in every state

@@ -51,7 +51,8 @@ DeviceDid (call ∷ calls) (answer ∷ answers) before after = (mid : Told) × C
 
 -- A step whose course depends on the flash's answers was made with those that the flash gave to the calls that it asked
 -- for; a later call may depend on an earlier answer.
-pub record IsMade (step : List Answer → Stepped) (asked : List Answer → List Call) (before : Bank) (flash : Told) (did : Did) (new : Brain) (after : Bank) (flash' : Told) : Type 0 where
+pub record IsMade (step : List Answer → Stepped) (asked : List Answer → List Call) (before : Bank) (flash : Told) (did : Did) (new : Brain) (after : Bank)
+    (flash' : Told) : Type 0 where
   pub answers : List Answer
   pub stepped : IsStepped before (step answers) did new after
   pub flash_is : DeviceDid (asked answers) answers flash flash'

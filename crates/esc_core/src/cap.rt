@@ -103,7 +103,12 @@ impl Core {
     {
         let t = regs.now();
         let settings = &self.orders.settings;
-        match judge(self.window, &self.burst, settings.input, &servo_of(settings)) {
+        match judge(
+            self.window,
+            &self.burst,
+            settings.input,
+            &servo_of(settings),
+        ) {
             Judgement::Good(frame) => self.accept(frame, t),
             Judgement::Found(mode) => {
                 self.control.found(mode);

@@ -93,7 +93,8 @@ due_window w b e d = window_at (is_readable b) b.taken (is_reached b.timer b.tim
     window_at false n t e d = (let z = sym e ∙ d in cc)
 
 pub due_timer : (w : Bool) (b : Bank) (at : ℕ) → b.timer ≡ Some at → b.taken ≡ true → due_now w b kind.Cap ≡ true → at ≤ b.time
-due_timer w b at e n d = leb-true at b.time (subst (λ (o : Option ℕ). is_reached o b.time ≡ true) e (timer_at (is_readable b) b.taken (is_reached b.timer b.time) n d))
+due_timer w b at e n d =
+    leb-true at b.time (subst (λ (o : Option ℕ). is_reached o b.time ≡ true) e (timer_at (is_readable b) b.taken (is_reached b.timer b.time) n d))
   where
     timer_at : (r n t : Bool) → n ≡ true → ((r && not n) || t) ≡ true → t ≡ true
     timer_at true true t e d = d
@@ -104,12 +105,7 @@ due_timer w b at e n d = leb-true at b.time (subst (λ (o : Option ℕ). is_reac
 
 pub cap_shut : (at : CapAt) → cap_left at ≡ 0 → at ≡ cap.Shut
 cap_shut cap.Shut e = refl
-cap_shut cap.Start e = absurd (omega arith)
-cap_shut (cap.Copy rest) e = absurd (omega arith)
-cap_shut cap.Judge e = absurd (omega arith)
-cap_shut cap.Open e = absurd (omega arith)
-cap_shut (cap.Pause at) e = absurd (omega arith)
-cap_shut cap.Back e = absurd (omega arith)
+cap_shut at e = absurd (omega arith)
 
 -- ---- modes and edges by their numbers
 
@@ -128,7 +124,8 @@ at_level t level = record { t = as_tick t; level = level }
 falling_shown : (t : ℕ) → t < 2147483648 → (if nat_lt t 2147483648 then at_level t false else at_level (t - 2147483648) true) ≡ at_level t false
 falling_shown t l = rw (lt-ltb t 2147483648 l) refl
 
-rising_shown : (t : ℕ) → (if nat_lt (t + 2147483648) 2147483648 then at_level (t + 2147483648) false else at_level ((t + 2147483648) - 2147483648) true) ≡ at_level t true
+rising_shown : (t : ℕ)
+    → (if nat_lt (t + 2147483648) 2147483648 then at_level (t + 2147483648) false else at_level ((t + 2147483648) - 2147483648) true) ≡ at_level t true
 rising_shown t = rw (le-ltb (t + 2147483648) 2147483648 (omega arith)) (ap (λ (x : ℕ). at_level x true) (back t))
   where
     back : (t : ℕ) → (t + 2147483648) - 2147483648 ≡ t

@@ -1,9 +1,8 @@
 -- What each handler owes.
-use Rattle.std.proofs.Common.{◌≡◌, ◌≢◌, ◌≤◌, ◌<◌, ℕ, Bool, true, List, ◌∷◌}
+use Rattle.std.proofs.Common.{◌≡◌, ◌≢◌, ◌≤◌, ◌<◌, ℕ, true, List, ◌∷◌}
 use Rattle.esc_base.specs.declared.kind.Kind.{Kind}
 use Rattle.esc_base.specs.declared.event.Event.{Event}
 use Rattle.esc_base.specs.Trace.{tick_of}
-use Rattle.timer_regs.specs.Bank.{Bank}
 use Rattle.interrupt_machine.specs.Open.{due_now}
 use Rattle.esc_core.specs.Calls.{Answer}
 use Rattle.esc_core.specs.Firmware.{left_of, kind_step}
@@ -16,7 +15,8 @@ pub record HandlerLaw (k : Kind) : Type 0 where
   -- while it is shut, it is due where the notes call for it
   pub called : (w : World) → Ground w → Ties w → left_of w.core k ≡ 0
       → sees_at w.trace (so_far w) w.back w.bank.time k ≡ true → due_now w.core.orders.save_asked w.bank k ≡ true
-  pub built : (asked : Bool) (b : Bank) → due_now asked b k ≡ true → IsBuilt k
+  -- only a handler that is built comes due
+  pub built : (w : World) → Ties w → due_now w.core.orders.save_asked w.bank k ≡ true → IsBuilt k
   -- its entry ties it, and leaves the ties of the others
   pub entered : (w : World) → Ground w → Ties w → left_of w.core k ≡ 0 → due_now w.core.orders.save_asked w.bank k ≡ true → Tie k (after_enter k w)
   pub beside : (w : World) (j : Kind) → j ≢ k → Tie j w → Tie j (after_enter k w)

@@ -17,7 +17,8 @@ use Rattle.esc_laws.proofs.Law.{HandlerLaw}
 use Rattle.esc_laws.proofs.RoomSteps.{ground_noted, inside, popped, if_true}
 use Rattle.esc_laws.proofs.Saves.{saved_tied}
 
-saves : (w : World) (saved : Bool) (outer : List Kind) → Ground w → w.core.orders.save_asked ≡ true → (so_far w).saves ≡ 0 → (so_far w).stack ≡ kind.Main ∷ outer
+saves : (w : World) (saved : Bool) (outer : List Kind) → Ground w → w.core.orders.save_asked ≡ true → (so_far w).saves ≡ 0
+    → (so_far w).stack ≡ kind.Main ∷ outer
     → StepKeeps kind.Main outer w (saving_step saved (record w.core { main_at = main.Back }) w.bank)
 saves w saved outer g asked none on = record {
   gate = λ word moved. absurd (moved refl refl);
@@ -34,7 +35,8 @@ saves w saved outer g asked none on = record {
   stack_is = on;
 }
 
-steps : (at : MainAt) (w : World) (answers : List Answer) (outer : List Kind) → Ground w → MainTied at w.core.orders.save_asked (so_far w).saves → (so_far w).stack ≡ kind.Main ∷ outer → 0 < main_left at
+steps : (at : MainAt) (w : World) (answers : List Answer) (outer : List Kind) → Ground w → MainTied at w.core.orders.save_asked (so_far w).saves
+    → (so_far w).stack ≡ kind.Main ∷ outer → 0 < main_left at
     → StepKeeps kind.Main outer w (main_step answers at w.core w.bank)
 steps main.Shut w answers outer g t on left = absurd (omega arith)
 steps main.Work w answers outer g t on left = if_true w.core.orders.save_asked kind.Main outer w _ _ t.0 (saves w (took_first answers) outer g t.0 t.1 on)
@@ -50,7 +52,7 @@ steps main.Back w answers outer g t on left = record {
 pub main_law : HandlerLaw kind.Main
 main_law = record {
   called = λ w g t none s. g.orders.save_is ∙ s;
-  built = λ asked b due. tt;
+  built = λ w t due. tt;
   entered = λ w g t none due. (due, refl);
   beside = λ w. elim [ kind.Main ↦ λ ne t. absurd (ne refl) | j ↦ λ ne t. t ];
   steps = λ w answers outer g t above on left. steps w.core.main_at w answers outer g (t kind.Main) on left;

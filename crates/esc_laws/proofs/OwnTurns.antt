@@ -31,7 +31,8 @@ steady k c b stack keeps i = by_mask b.masked c.hold (need_of c k) (λ m. keeps.
 
 -- ---- its notes
 
-leave_is : (did : Did) (b' : Bank) (k : Kind) (v : Bool) → is_return did ≡ v → leave_note b' k did ≡ (if v then note.Leave (as_tick b'.time) (kind_number k) ∷ [] else [])
+leave_is : (did : Did) (b' : Bank) (k : Kind) (v : Bool) → is_return did ≡ v
+    → leave_note b' k did ≡ (if v then note.Leave (as_tick b'.time) (kind_number k) ∷ [] else [])
 leave_is (More own) b' k v e = rw (sym e) refl
 leave_is (Return own) b' k v e = rw (sym e) refl
 
@@ -43,7 +44,7 @@ own_are k b b' s did c' i =
     ap (λ (x : Bank). own_notes b.hi b.lo x k did) i.bank_is
     ∙ append_assoc (gate_note b.hi b.lo after) (notes_of did) (leave_note after k did)
     ∙ ap (λ (ns : List Note). gate_note b.hi b.lo after ++ ns)
-        (ap (λ (ns : List Note). ns ++ leave_note after k did) i.notes_are ∙ ap (λ (ns : List Note). s.notes ++ ns) leaves)
+    (ap (λ (ns : List Note). ns ++ leave_note after k did) i.notes_are ∙ ap (λ (ns : List Note). s.notes ++ ns) leaves)
 
 -- ---- what holds between any two steps
 
@@ -51,12 +52,14 @@ inner_is : (v : Bool) (k j : Kind) (outer : List Kind) → v ≡ false → inner
 inner_is true k j outer e i = cc
 inner_is false k j outer e i = cc
 
-live_left : (v : Bool) (k : Kind) (c c' : Brain) (outer : List Kind) → IsStack (k ∷ outer) → ((j : Kind) → is_open (k ∷ outer) j ≡ true → 0 < left_of c j) → ((j : Kind) → j ≢ k → left_of c' j ≡ left_of c j)
+live_left : (v : Bool) (k : Kind) (c c' : Brain) (outer : List Kind) → IsStack (k ∷ outer) → ((j : Kind) → is_open (k ∷ outer) j ≡ true → 0 < left_of c j)
+    → ((j : Kind) → j ≢ k → left_of c' j ≡ left_of c j)
     → (v ≡ false → 0 < left_of c' k) → (j : Kind) → is_open (if v then outer else k ∷ outer) j ≡ true → 0 < left_of c' j
 live_left true k c c' outer sorted live others more j o = live_less (left_of c) (left_of c') k outer sorted live others j o
 live_left false k c c' outer sorted live others more j o = live_more (left_of c) (left_of c') k outer live (more refl) others j o
 
-shut_left : (v : Bool) (k : Kind) (c c' : Brain) (outer : List Kind) → ((j : Kind) → is_open (k ∷ outer) j ≡ false → left_of c j ≡ 0) → ((j : Kind) → j ≢ k → left_of c' j ≡ left_of c j)
+shut_left : (v : Bool) (k : Kind) (c c' : Brain) (outer : List Kind) → ((j : Kind) → is_open (k ∷ outer) j ≡ false → left_of c j ≡ 0)
+    → ((j : Kind) → j ≢ k → left_of c' j ≡ left_of c j)
     → (v ≡ true → left_of c' k ≡ 0) → (j : Kind) → is_open (if v then outer else k ∷ outer) j ≡ false → left_of c' j ≡ 0
 shut_left true k c c' outer shut others none j f = elim (same_kind j k) [
   | inl s ↦ subst (λ (x : Kind). left_of c' x ≡ 0) (sym s) (none refl)
@@ -71,7 +74,8 @@ still_inner false k outer e = refl
 some_kind : (k j : Kind) → Some k ≡ Some j → j ≡ k
 some_kind k j e = cc
 
-pub keeps_own : (k : Kind) (c : Brain) (b : Bank) (outer : List Kind) (s : Stepped) → IsStack (k ∷ outer) → Keeps c b (k ∷ outer) → Bounds k c b s → Keeps s.core (accessed b s.access) (open_left k outer s)
+pub keeps_own : (k : Kind) (c : Brain) (b : Bank) (outer : List Kind) (s : Stepped) → IsStack (k ∷ outer) → Keeps c b (k ∷ outer) → Bounds k c b s
+    → Keeps s.core (accessed b s.access) (open_left k outer s)
 keeps_own k c b outer s sorted keeps bounds =
     let m = bounds.mask in
     record {
@@ -80,7 +84,8 @@ keeps_own k c b outer s sorted keeps bounds =
       masked = λ j n. elim (same_kind j k) [
         | inl e ↦ (
             let own = m.stands (λ n. (keeps.masked k n).0) (subst (λ (x : Kind). need_of s.core x ≤ 8) e n) in
-            subst (λ (x : Kind). ((accessed b s.access).masked ≡ true) × (innermost (open_left k outer s) ≡ Some x)) (sym e) (own.0, still_inner s.over k outer own.1))
+            subst (λ (x : Kind). ((accessed b s.access).masked ≡ true) × (innermost (open_left k outer s) ≡ Some x)) (sym e)
+            (own.0, still_inner s.over k outer own.1))
         | inr ne ↦ (let same = (bounds.moves.others j ne).1 in absurd (ne (some_kind k j (keeps.masked j (rw (← same) n)).1)))
       ];
       live = live_left s.over k c s.core outer sorted keeps.live (λ j ne. (bounds.moves.others j ne).0) bounds.moves.more;

@@ -51,14 +51,16 @@ place-none = refl
 
 placed-reverse : (back : List Note) → placed back ≡ place (reverse back)
 placed-reverse [] = sym place-none
-placed-reverse (n ∷ back) = ap (λ (p : Place). next p n) (placed-reverse back) ∙ sym (place-push (reverse back) n) ∙ ap place (sym (reverse-append (n ∷ []) back))
+placed-reverse (n ∷ back) =
+    ap (λ (p : Place). next p n) (placed-reverse back) ∙ sym (place-push (reverse back) n) ∙ ap place (sym (reverse-append (n ∷ []) back))
 
 pub placed-is : (notes : List Note) → placed (reverse notes) ≡ place notes
 placed-is notes = placed-reverse (reverse notes) ∙ ap place (reverse-reverse notes)
 
 onto-reverse : (notes more : List Note) → onto more (reverse notes) ≡ reverse (notes ++ more)
 onto-reverse notes [] = ap reverse (sym (append-nil notes))
-onto-reverse notes (n ∷ more) = ap (λ (back : List Note). onto more back) (sym (reverse-push notes n)) ∙ onto-reverse (notes ++ n ∷ []) more ∙ ap reverse (append_assoc notes (n ∷ []) more)
+onto-reverse notes (n ∷ more) =
+    ap (λ (back : List Note). onto more back) (sym (reverse-push notes n)) ∙ onto-reverse (notes ++ n ∷ []) more ∙ ap reverse (append_assoc notes (n ∷ []) more)
 
 -- ---- what holds between two steps, in the words of the rooms
 
@@ -73,12 +75,14 @@ pub record Stood (loaded : Loaded) (nest : Nest) (trace : List Event) (c : Brain
   pub stack_is : (place (opening loaded ++ rest)).stack ≡ stack
 
 -- notes that fit are said
-all_said : (k : Kind) (w : World) (rest notes : List Note) → reverse (opening w.loaded ++ rest) ≡ w.back → Said w.loaded w.nest w.trace w.bank.time rest → AllFit k w notes → Said w.loaded w.nest w.trace w.bank.time (rest ++ notes)
+all_said : (k : Kind) (w : World) (rest notes : List Note) → reverse (opening w.loaded ++ rest) ≡ w.back → Said w.loaded w.nest w.trace w.bank.time rest
+    → AllFit k w notes → Said w.loaded w.nest w.trace w.bank.time (rest ++ notes)
 all_said k w rest [] e s f = subst (λ (r : List Note). Said w.loaded w.nest w.trace w.bank.time r) (sym (append-nil rest)) s
 all_said k w rest (n ∷ notes) e s f =
     let at : placed w.back ≡ place (opening w.loaded ++ rest) = ap placed (sym e) ∙ placed-is (opening w.loaded ++ rest) in
     let window : WindowRule w.loaded w.trace (opening w.loaded ++ rest) n =
-    subst (λ (back : List Note). WindowRuleAt w.loaded w.trace (place (opening w.loaded ++ rest)) back n) (sym e) (subst (λ (p : Place). WindowRuleAt w.loaded w.trace p w.back n) at f.0.window) in
+    subst (λ (back : List Note). WindowRuleAt w.loaded w.trace (place (opening w.loaded ++ rest)) back n) (sym e)
+    (subst (λ (p : Place). WindowRuleAt w.loaded w.trace p w.back n) at f.0.window) in
     let nest : NestRule w.nest (opening w.loaded ++ rest) n = subst (λ (p : Place). NestRuleAt w.nest p n) at f.0.nest in
     subst (λ (r : List Note). Said w.loaded w.nest w.trace w.bank.time r) (append_assoc rest (n ∷ []) notes)
     (all_said k (noted w n) (rest ++ n ∷ []) notes (reverse-push (opening w.loaded ++ rest) n ∙ ap (λ (back : List Note). n ∷ back) e)
@@ -122,7 +126,8 @@ word_kept k w (n ∷ notes) hi lo f g = word_kept k (noted w n) notes hi lo f.1 
 
 -- after a step whose G, if it had one, was noted before it
 kept_stood : (k : Kind) (w : World) (rest : List Note) (outer : List Kind) (s : Stepped) → reverse (opening w.loaded ++ rest) ≡ w.back
-    → Said w.loaded w.nest w.trace w.bank.time rest → Ties w → GatesTied (accessed w.bank s.access).hi (accessed w.bank s.access).lo w.back → StepKeeps k outer w s
+    → Said w.loaded w.nest w.trace w.bank.time rest → Ties w → GatesTied (accessed w.bank s.access).hi (accessed w.bank s.access).lo w.back
+    → StepKeeps k outer w s
     → Stood w.loaded w.nest w.trace s.core (accessed w.bank s.access) (rest ++ step_notes w.bank.time k s) (open_left k outer s)
 kept_stood k w rest outer s e said ties word keeps =
     let after : Bank = accessed w.bank s.access in
@@ -171,10 +176,12 @@ word_after b after at = elim (cases_Bool ((after.hi == b.hi) && (after.lo == b.l
     other_word : (m n p q : ℕ) → ((m == n) && (p == q)) ≡ false → m ≡ n → p ≡ q → ⊥
     other_word m n p q e s t = grind (arith, nat_tests)
 
-pub step_made : (k : Kind) (answers : List Answer) (loaded : Loaded) (nest : Nest) (trace : List Event) (c : Brain) (b : Bank) (rest : List Note) (outer : List Kind) → Stood loaded nest trace c b rest (k ∷ outer)
+pub step_made : (k : Kind) (answers : List Answer) (loaded : Loaded) (nest : Nest) (trace : List Event) (c : Brain) (b : Bank) (rest : List Note)
+    (outer : List Kind)
+    → Stood loaded nest trace c b rest (k ∷ outer)
     → ((j : Kind) → kind_number k < kind_number j → left_of c j ≡ 0) → 0 < left_of c k
     → Stood loaded nest trace (kind_step k answers (counted_down c b) b).core (accessed b (kind_step k answers (counted_down c b) b).access)
-        (rest ++ all_notes b k (kind_step k answers (counted_down c b) b)) (open_left k outer (kind_step k answers (counted_down c b) b))
+    (rest ++ all_notes b k (kind_step k answers (counted_down c b) b)) (open_left k outer (kind_step k answers (counted_down c b) b))
     × All (IsOwn k b.time) (all_notes b k (kind_step k answers (counted_down c b) b))
     × ReturnsLast k (all_notes b k (kind_step k answers (counted_down c b) b))
 step_made k answers loaded nest trace c b rest outer i above left =
@@ -190,20 +197,23 @@ step_made k answers loaded nest trace c b rest outer i above left =
     let plain : StepKeeps k outer w s = (law k).steps w answers outer i.ground ties shut on some in
     elim (word_after b after (access_time b s.access)) [
       | inl same ↦ rw same.none (
-          kept_stood k w rest outer s refl i.said ties (record { high = same.high ∙ i.gates.high; low = same.low ∙ i.gates.low }) plain,
-          all_own k w (step_notes b.time k s) plain.fits,
-          returns_last k outer w s on plain,
-        )
+        kept_stood k w rest outer s refl i.said ties (record { high = same.high ∙ i.gates.high; low = same.low ∙ i.gates.low }) plain,
+        all_own k w (step_notes b.time k s) plain.fits,
+        returns_last k outer w s on plain,
+      )
       | inr other ↦ (
           let told : StepKeeps k outer (gated w after) s =
           (law k).steps (gated w after) answers outer (ground_noted w g refl refl tt refl i.ground) (λ j. gate_tie j w after (ties j)) shut on some in
-          let fits : NestRule nest (opening loaded ++ rest) g = subst (λ (p : Place). NestRuleAt nest p g) (placed-is (opening loaded ++ rest)) (plain.gate i.gates other.moves) in
+          let fits : NestRule nest (opening loaded ++ rest) g =
+          subst (λ (p : Place). NestRuleAt nest p g) (placed-is (opening loaded ++ rest)) (plain.gate i.gates other.moves) in
           let said : Said loaded nest trace b.time (rest ++ g ∷ []) = said_push loaded nest trace b.time rest g i.said refl tt fits in
           let back : reverse (opening loaded ++ (rest ++ g ∷ [])) ≡ g ∷ reverse (opening loaded ++ rest) =
           ap reverse (sym (append_assoc (opening loaded) rest (g ∷ []))) ∙ reverse-push (opening loaded ++ rest) g in
-          let stood = kept_stood k (gated w after) (rest ++ g ∷ []) outer s back said (λ j. gate_tie j w after (ties j)) (record { high = refl; low = refl }) told in
+          let stood =
+          kept_stood k (gated w after) (rest ++ g ∷ []) outer s back said (λ j. gate_tie j w after (ties j)) (record { high = refl; low = refl }) told in
           rw other.one (
-            subst (λ (ns : List Note). Stood loaded nest trace s.core after ns (open_left k outer s)) (append_assoc rest (g ∷ []) (step_notes b.time k s)) stood,
+            subst (λ (ns : List Note). Stood loaded nest trace s.core after ns (open_left k outer s))
+                (append_assoc rest (g ∷ []) (step_notes b.time k s)) stood,
             All-cons (IsOwn k b.time) g (step_notes b.time k s) (refl, refl, λ e. cc) (all_own k (gated w after) (step_notes b.time k s) told.fits),
             returns_last k outer (gated w after) s on told,
           ))
@@ -230,28 +240,39 @@ enter_stack k p t = refl
 built_number : (k : Kind) → IsBuilt k → IsBuilt (kind_of (kind_number k))
 built_number k built = rw (kind_of-number k) built
 
-pub enter_stood : (k : Kind) (loaded : Loaded) (nest : Nest) (trace : List Event) (c : Brain) (b : Bank) (rest : List Note) (stack : List Kind) → Stood loaded nest trace c b rest stack → left_of c k ≡ 0 → due_now c.orders.save_asked b k ≡ true
+pub enter_stood : (k : Kind) (loaded : Loaded) (nest : Nest) (trace : List Event) (c : Brain) (b : Bank) (rest : List Note) (stack : List Kind)
+    → Stood loaded nest trace c b rest stack → left_of c k ≡ 0 → due_now c.orders.save_asked b k ≡ true
     → IsAboveAll nest stack (kind_number k) → Stood loaded nest trace (entered_core c k) (after_entry b k) (rest ++ enters k b.time ∷ []) (k ∷ stack)
 enter_stood k loaded nest trace c b rest stack i none due above =
     let w : World = world_of loaded nest trace c b rest in
     let n : Note = enters k b.time in
-    let back : n ∷ reverse (opening loaded ++ rest) ≡ reverse (opening loaded ++ (rest ++ n ∷ [])) = sym (reverse-push (opening loaded ++ rest) n) ∙ ap reverse (append_assoc (opening loaded) rest (n ∷ [])) in
+    let back : n ∷ reverse (opening loaded ++ rest) ≡ reverse (opening loaded ++ (rest ++ n ∷ [])) =
+    sym (reverse-push (opening loaded ++ rest) n) ∙ ap reverse (append_assoc (opening loaded) rest (n ∷ [])) in
     record {
       said = subst (λ (t : ℕ). Said loaded nest trace t (rest ++ n ∷ [])) (sym (enter_time k b)) (said_push loaded nest trace b.time rest n i.said refl tt
-          (built_number k ((law k).built c.orders.save_asked b due), subst (λ (st : List Kind). IsAboveAll nest st (kind_number k)) (sym i.stack_is) above));
-      gates = subst (λ (ns : List Note). GatesTied (after_entry b k).hi (after_entry b k).lo ns) back (enter_word k b (reverse (opening loaded ++ rest)) i.gates);
+          (built_number k ((law k).built w i.ties due), subst (λ (st : List Kind). IsAboveAll nest st (kind_number k)) (sym i.stack_is) above));
+      gates = subst (λ (ns : List Note). GatesTied (after_entry b k).hi (after_entry b k).lo ns) back
+          (enter_word k b (reverse (opening loaded ++ rest)) i.gates);
       ground = subst (λ (ns : List Note). Ground (record (after_enter k w) { back = ns })) back (ground_enter k w i.ground);
       ties = λ j. subst (λ (ns : List Note). Tie j (record (after_enter k w) { back = ns })) back (elim (same_kind j k) [
         | inl e ↦ subst (λ (x : Kind). Tie x (after_enter k w)) (sym e) ((law k).entered w i.ground i.ties none due)
         | inr ne ↦ (law k).beside w j ne (i.ties j)
       ]);
-      stack_is = ap (λ (ns : List Note). (place ns).stack) (sym (append_assoc (opening loaded) rest (n ∷ []))) ∙ ap (λ (p : Place). p.stack) (place-push (opening loaded ++ rest) n) ∙ enter_stack k (place (opening loaded ++ rest)) b.time ∙ ap (λ (st : List Kind). k ∷ st) i.stack_is;
+      stack_is = ap (λ (ns : List Note). (place ns).stack) (sym (append_assoc (opening loaded) rest (n ∷ [])))
+          ∙ ap (λ (p : Place). p.stack) (place-push (opening loaded ++ rest) n) ∙ enter_stack k (place (opening loaded ++ rest)) b.time
+          ∙ ap (λ (st : List Kind). k ∷ st) i.stack_is;
     }
 
 -- ---- time goes on
 
 pub later_ground : (w : World) (u : ℕ) → w.bank.time ≤ u → u < 2147483648 → Ground w → Ground (at_time w u)
-later_ground w u from small g = record { control = g.control; orders = g.orders; level = g.level; edges = All-later (λ e. e.t.0) (line w.trace).edges w.bank.time u from g.edges; small = small }
+later_ground w u from small g = record {
+  control = g.control;
+  orders = g.orders;
+  level = g.level;
+  edges = All-later (λ e. e.t.0) (line w.trace).edges w.bank.time u from g.edges;
+  small = small;
+}
 
 -- ---- an event at now
 
@@ -280,14 +301,35 @@ edge_ground false w level d g =
 
 outside_ground : (w : World) (e : Event) → tick_of e ≡ w.bank.time → Ground w → Ground (after_outside w e)
 outside_ground w (event.Edge at level) is g =
-    subst (λ (n : ℕ). Ground (record w { trace = w.trace ++ event.Edge (as_tick n) level ∷ []; bank = record w.bank { level = (after_line w.bank level).level; window = (after_line w.bank level).window } })) (sym is)
+    subst
+    (λ (n : ℕ). Ground (record w { trace = w.trace ++ event.Edge (as_tick n) level ∷ []; bank = record w.bank { level = (after_line w.bank level).level; window = (after_line w.bank level).window } }))
+    (sym is)
     (edge_ground (differ w.bank.level level) w level refl g)
-outside_ground w (event.Comp at level) is g = record { control = g.control; orders = g.orders; level = rw (line-push w.trace (event.Comp at level)) g.level; edges = rw (line-push w.trace (event.Comp at level)) g.edges; small = g.small }
-outside_ground w (event.Serial at byte) is g = record { control = g.control; orders = g.orders; level = rw (line-push w.trace (event.Serial at byte)) g.level; edges = rw (line-push w.trace (event.Serial at byte)) g.edges; small = g.small }
-outside_ground w (event.Stall at n) is g = record { control = g.control; orders = g.orders; level = rw (line-push w.trace (event.Stall at n)) g.level; edges = rw (line-push w.trace (event.Stall at n)) g.edges; small = g.small }
+outside_ground w (event.Comp at level) is g = record {
+  control = g.control;
+  orders = g.orders;
+  level = rw (line-push w.trace (event.Comp at level)) g.level;
+  edges = rw (line-push w.trace (event.Comp at level)) g.edges;
+  small = g.small;
+}
+outside_ground w (event.Serial at byte) is g = record {
+  control = g.control;
+  orders = g.orders;
+  level = rw (line-push w.trace (event.Serial at byte)) g.level;
+  edges = rw (line-push w.trace (event.Serial at byte)) g.edges;
+  small = g.small;
+}
+outside_ground w (event.Stall at n) is g = record {
+  control = g.control;
+  orders = g.orders;
+  level = rw (line-push w.trace (event.Stall at n)) g.level;
+  edges = rw (line-push w.trace (event.Stall at n)) g.edges;
+  small = g.small;
+}
 
 pub event_ground : (w : World) (e : Event) → tick_of e ≡ w.bank.time → Ground w → Ground (record w { trace = w.trace ++ e ∷ []; bank = after_event w.bank e })
 event_ground w e is g = subst (λ (b : Bank). Ground (record w { trace = w.trace ++ e ∷ []; bank = b })) (sym (outside_is w.bank e)) (outside_ground w e is g)
 
-pub event_tie : (j : Kind) (w : World) (e : Event) → tick_of e ≡ w.bank.time → Ground w → Ties w → Tie j (record w { trace = w.trace ++ e ∷ []; bank = after_event w.bank e })
+pub event_tie : (j : Kind) (w : World) (e : Event) → tick_of e ≡ w.bank.time → Ground w → Ties w
+    → Tie j (record w { trace = w.trace ++ e ∷ []; bank = after_event w.bank e })
 event_tie j w e is g t = subst (λ (b : Bank). Tie j (record w { trace = w.trace ++ e ∷ []; bank = b })) (sym (outside_is w.bank e)) ((law j).outside w e is g t)

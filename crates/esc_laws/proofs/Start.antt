@@ -55,8 +55,10 @@ first_in_range fault =
     few_numbers (Some (Range offset)) = omega arith
 
 opening_in_time : (loaded : Loaded) → Journal (opening loaded)
-opening_in_time loaded =
-    (All-nil (λ b. time_of b ≤ 0), (All-cons (λ b. time_of b ≤ 0) (note.Up (as_tick 0) (load_number loaded.fault)) [] (omega arith) (All-nil (λ b. time_of b ≤ 0)), tt))
+opening_in_time loaded = (
+  All-nil (λ b. time_of b ≤ 0),
+  (All-cons (λ b. time_of b ≤ 0) (note.Up (as_tick 0) (load_number loaded.fault)) [] (omega arith) (All-nil (λ b. time_of b ≤ 0)), tt),
+)
 
 opening_windowed : (loaded : Loaded) (trace : List Event) → Windowed loaded trace (opening loaded)
 opening_windowed loaded trace = (tt, (rw (place-up (load_number loaded.fault)) (refl, refl), tt))
@@ -73,7 +75,8 @@ start_said loaded nest trace t = record {
 
 opening_stands : (loaded : Loaded) → Stands start (reverse (opening loaded))
 opening_stands loaded =
-    other_stands (note.Window (as_tick 0) 0) start (note.Up (as_tick 0) (load_number loaded.fault) ∷ []) refl refl tt (other_stands (note.Up (as_tick 0) (load_number loaded.fault)) start [] refl refl tt start_stands)
+    other_stands (note.Window (as_tick 0) 0) start (note.Up (as_tick 0) (load_number loaded.fault) ∷ []) refl refl tt
+    (other_stands (note.Up (as_tick 0) (load_number loaded.fault)) start [] refl refl tt start_stands)
 
 start_keeps : (loaded : Loaded) → Keeps (new_core loaded.settings) first_bank []
 start_keeps loaded = record {
@@ -122,6 +125,7 @@ start_ties loaded nest kind.Cap = (
 )
 start_ties loaded nest kind.Tick = (tt, refl, omega arith)
 start_ties loaded nest kind.Main = tt
+start_ties loaded nest kind.Comm = (refl, record { high_off = refl; low_off = refl; no_duty = refl; no_event = refl; disarmed = refl; no_mark = refl })
 start_ties loaded nest k = refl
 
 start_patient : (loaded : Loaded) (nest : Nest) → Patient nest 0 false [] (sees [] (journal loaded []) 0) (called loaded nest [] [])

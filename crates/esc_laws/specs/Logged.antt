@@ -44,12 +44,11 @@ pub record Marks (loaded : Loaded) (nest : Nest) (trace : List Event) (b : Bank)
 -- the tick at which an event's stall is over, 0 for one that is none
 abbrev pub stall_end : Event → ℕ
 stall_end (event.Stall at n) = at.0 + n
-stall_end (event.Edge at level) = 0
-stall_end (event.Comp at level) = 0
-stall_end (event.Serial at byte) = 0
+stall_end e = 0
 
 -- `next` is the tick of the next step, or earlier than it while nothing is due
-pub record Logged (loaded : Loaded) (nest : Nest) (cost : ℕ) (trace : List Event) (next : ℕ) (c : Brain) (b : Bank) (stack : List Kind) (log : List Turned) : Type 0 where
+pub record Logged (loaded : Loaded) (nest : Nest) (cost : ℕ) (trace : List Event) (next : ℕ) (c : Brain) (b : Bank) (stack : List Kind)
+    (log : List Turned) : Type 0 where
   pub keeps : Keeps c b stack
   pub sorted : IsStack stack
   pub marks : Marks loaded nest trace b stack log
@@ -74,9 +73,11 @@ pub record Logged (loaded : Loaded) (nest : Nest) (cost : ℕ) (trace : List Eve
 -- one step of the machine over the core, and what the flash tells before and after it
 abbrev pub CoreTurn : Nest → Brain → List Kind → Bank → Told → List Note → Brain → List Kind → Bank → Told → Type 0
 CoreTurn nest c stack b flash notes c' stack' b' flash' =
-    Turn (λ x k y. y ≡ entered_core x k) (λ x a f k did y a' f'. IsMade (λ answers. core_step k answers x a) (core_asked k x a) a f did y a' f') (λ x. x.orders.save_asked) nest c stack b flash notes c' stack' b' flash'
+    Turn (λ x k y. y ≡ entered_core x k) (λ x a f k did y a' f'. IsMade (λ answers. core_step k answers x a) (core_asked k x a) a f did y a' f')
+    (λ x. x.orders.save_asked) nest c stack b flash notes c' stack' b' flash'
 
 -- the log's entry for a step, at a tick
-abbrev pub turned : {nest : Nest} {c c' : Brain} {stack stack' : List Kind} {b b' : Bank} {flash flash' : Told} → ℕ → (notes : List Note) → CoreTurn nest c stack b flash notes c' stack' b' flash' → Turned
+abbrev pub turned : {nest : Nest} {c c' : Brain} {stack stack' : List Kind} {b b' : Bank} {flash flash' : Told} → ℕ → (notes : List Note)
+    → CoreTurn nest c stack b flash notes c' stack' b' flash' → Turned
 turned t notes (inl e) = record { tick = t; kind = e.0; enters = true; notes = notes }
 turned t notes (inr e) = record { tick = t; kind = e.0; enters = false; notes = notes }

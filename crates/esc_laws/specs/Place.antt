@@ -5,6 +5,7 @@ use Rattle.std.specs.List.{fold}
 use Rattle.esc_base.specs.declared.kind.Kind.{Kind}
 use Rattle.esc_base.specs.declared.note.Note.{Note}
 use Rattle.esc_base.specs.declared.note.Note.TheVariants as note
+use Rattle.esc_base.specs.Journal.{time_of}
 use Rattle.interrupt_machine.specs.Open.{kind_of, outer_ones}
 
 -- how far the newest window has come
@@ -45,10 +46,8 @@ place_entered p t k =
     else record p { stack = kind_of k ∷ p.stack; last = t }
 
 abbrev pub rested : Signal → ℕ → Signal
-rested Silent t = Silent
-rested (Listens w m) t = Listens w m
 rested (Judged f opens) t = Rests f t
-rested (Rests f r) t = Rests f r
+rested s t = s
 
 abbrev pub place_left : Place → ℕ → ℕ → Place
 place_left p t k = record p { stack = outer_ones p.stack; signal = if k == 3 then rested p.signal t else p.signal; last = t }
@@ -65,20 +64,8 @@ next p (note.Detected t m) = place_judged p t.0 true
 next p (note.Nothing t) = place_judged p t.0 false
 next p (note.Bad t w) = place_judged p t.0 false
 next p (note.Control t n s d) = record p { ticks = p.ticks + 1; last = t.0 }
-next p (note.Up t r) = record p { last = t.0 }
-next p (note.Gate t hi lo) = record p { last = t.0 }
-next p (note.Armed t) = record p { last = t.0 }
-next p (note.Lost t c) = record p { last = t.0 }
-next p (note.Command t c) = record p { last = t.0 }
 next p (note.Saved t r) = record p { saves = p.saves + 1; last = t.0 }
-next p (note.Step t s) = record p { last = t.0 }
-next p (note.Cross t) = record p { last = t.0 }
-next p (note.Period t d) = record p { last = t.0 }
-next p (note.Reply t s b) = record p { last = t.0 }
-next p (note.Packet t cc kk) = record p { last = t.0 }
-next p (note.Sent t xx) = record p { last = t.0 }
-next p (note.Dropped t xx) = record p { last = t.0 }
-next p (note.Watched t i n s) = record p { last = t.0 }
+next p n = record p { last = time_of n }
 
 -- the place after these notes
 unfoldable pub place : List Note → Place

@@ -2,7 +2,7 @@
 -- What ties the core and the registers to the notes and the trace: what all handlers share, and a tie for each handler.
 -- Each fact holds between any two steps. A tie is a function of what it reads, so it stands by computation after each step
 -- that leaves that.
-use Rattle.std.specs.Prelude.{◌≡◌, ◌≢◌, ◌<◌, ◌≤◌, ◌/◌, ℕ, Bool, List, [], ◌∷◌, Option, Some, None, All}
+use Rattle.std.specs.Prelude.{◌≡◌, ◌≢◌, ◌<◌, ◌≤◌, ◌/◌, ℕ, Bool, true, false, List, [], ◌∷◌, Option, Some, None, All}
 use Rattle.esc_base.specs.declared.kind.Kind.{Kind}
 use Rattle.esc_base.specs.declared.kind.Kind.TheVariants as kind
 use Rattle.esc_base.specs.declared.event.Event.{Event}
@@ -39,12 +39,23 @@ Ground w = Grounded w.loaded w.trace w.core.control w.core.orders w.bank.level w
 
 -- ---- a tie for each handler
 
+-- the gate registers are as they were at the start
+pub record Undriven (hi lo duty : ℕ) (flag : Bool) (comm : Option ℕ) (stuck : Bool) : Type 0 where
+  pub high_off : hi ≡ 0
+  pub low_off : lo ≡ 0
+  pub no_duty : duty ≡ 0
+  pub no_event : flag ≡ false
+  pub disarmed : comm ≡ None
+  pub no_mark : stuck ≡ false
+
 abbrev pub CapTie : World → Type 0
 CapTie w = SignalTied (so_far w).signal w.core.cap_at (cap_view w.trace w.core w.bank (so_far w)) × WindowSound w.bank.window w.bank.time
 
 -- the number that was read last is that of control's newest tick
 abbrev pub TickTie : World → Type 0
-TickTie w = TickTied w.core.tick_at w.bank.number_read w.bank.time (so_far w).ticks × (w.bank.number_read ≡ w.core.control.number) × (w.bank.number_read ≤ w.bank.time / 2400)
+TickTie w =
+    TickTied w.core.tick_at w.bank.number_read w.bank.time (so_far w).ticks × (w.bank.number_read ≡ w.core.control.number) ×
+    (w.bank.number_read ≤ w.bank.time / 2400)
 
 abbrev pub MainTie : World → Type 0
 MainTie w = MainTied w.core.main_at w.core.orders.save_asked (so_far w).saves
@@ -53,7 +64,8 @@ abbrev pub Tie : Kind → World → Type 0
 Tie kind.Cap w = CapTie w
 Tie kind.Tick w = TickTie w
 Tie kind.Main w = MainTie w
--- these handlers aren't built, and never open
+-- these handlers aren't built, and never open; nothing is written yet that makes PWM or COMM due
+Tie kind.Comm w = (left_of w.core kind.Comm ≡ 0) × Undriven w.bank.hi w.bank.lo w.bank.duty w.bank.flag w.bank.comm w.bank.stuck
 Tie k w = left_of w.core k ≡ 0
 
 abbrev pub Ties : World → Type 0
@@ -98,7 +110,8 @@ WordMoves b after = after.hi ≡ b.hi → after.lo ≡ b.lo → ⊥
 
 -- where a step changes the gate word, its G fits before the step's own notes
 abbrev pub GateFits : World → Bank → Type 0
-GateFits w after = GatesTied w.bank.hi w.bank.lo w.back → WordMoves w.bank after → NestRuleAt w.nest (so_far w) (note.Gate (as_tick w.bank.time) after.hi after.lo)
+GateFits w after =
+    GatesTied w.bank.hi w.bank.lo w.back → WordMoves w.bank after → NestRuleAt w.nest (so_far w) (note.Gate (as_tick w.bank.time) after.hi after.lo)
 
 pub record StepKeeps (k : Kind) (outer : List Kind) (w : World) (s : Stepped) : Type 0 where
   pub gate : GateFits w (accessed w.bank s.access)

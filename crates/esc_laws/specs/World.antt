@@ -84,10 +84,11 @@ at_time w u = record w { bank = advanced w.bank u }
 -- what an event at now leaves of the registers: an edge of the signal line changes them, others nothing
 abbrev pub after_event : Bank → Event → Bank
 after_event b (event.Edge at level) = after_line b level
-after_event b (event.Comp at level) = b
-after_event b (event.Serial at byte) = b
-after_event b (event.Stall at n) = b
+after_event b e = b
 
 -- an event touches these registers alone
 abbrev pub after_outside : World → Event → World
-after_outside w e = record w { trace = w.trace ++ e ∷ []; bank = record w.bank { level = (after_event w.bank e).level; window = (after_event w.bank e).window } }
+after_outside w e = record w {
+  trace = w.trace ++ e ∷ [];
+  bank = record w.bank { level = (after_event w.bank e).level; window = (after_event w.bank e).window };
+}

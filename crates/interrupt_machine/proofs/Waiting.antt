@@ -2,6 +2,7 @@
 use Rattle.std.proofs.Common.{◌≡◌, ◌≢◌, ◌<◌, ◌≤◌, ◌+◌, ℕ, Bool, true, false, not, ◌&&◌, ◌==◌, if◌then◌else◌, List, [], ◌∷◌, ◌++◌, length, Option, Some, None, refl, sym, ◌∙◌, ap, subst, arith, ◌⊎◌, inl, inr, pos_of_ne-zero, lit<}
 use Rattle.std.proofs.Math.Numerals.{lt_of_le_of_ne}
 use Rattle.std.proofs.lemmas.Bool.{cases_Bool, cases_lt, and_parts, not-true, leb-true, leb-false, lt-ltb, le-ltb, eqb-true, eqb-false, ne_eqb, lt-leb, or_left, or_parts, eq-eqb}
+use Rattle.std.specs.List.{find}
 use Rattle.std.proofs.lemmas.Bool.Decides.{nat_tests}
 use Rattle.std.proofs.lemmas.List.Sums.{fold_push}
 use Rattle.esc_base.specs.declared.kind.Kind.{Kind}
@@ -11,7 +12,7 @@ use Rattle.timer_regs.specs.Bank.{Bank}
 use Rattle.timer_regs.specs.Effects.{after_entry}
 use Rattle.interrupt_machine.specs.declared.nest.Nest.{Nest}
 use Rattle.interrupt_machine.specs.declared.nest.Nest.TheVariants.{One, Full}
-use Rattle.interrupt_machine.specs.Open.{innermost, outer_ones, is_open, by_priority, first_due, highest, may_enter, enters_above, next_entry, IsStack}
+use Rattle.interrupt_machine.specs.Open.{innermost, outer_ones, is_open, by_priority, highest, may_enter, enters_above, next_entry, IsStack}
 use Rattle.interrupt_machine.specs.Response.{is_waiting, is_behind, counts, Moment, Stepped, Passed, stepper, wait_next, waited_next, waited, room, Patient, Responds}
 use Rattle.interrupt_machine.proofs.OpenKinds.{number_same, closed_above}
 
@@ -41,7 +42,8 @@ first_most h rest k falls within = elim (cases_lt (kind_number h) (kind_number k
   | inr not_higher ↦ omega arith
 ]
 
-most_in : (due : Kind → Bool) (kinds : List Kind) (j k : Kind) → IsStack kinds → is_open kinds k ≡ true → due k ≡ true → first_due due kinds ≡ Some j → kind_number k ≤ kind_number j
+most_in : (due : Kind → Bool) (kinds : List Kind) (j k : Kind) → IsStack kinds → is_open kinds k ≡ true → due k ≡ true → find due kinds ≡ Some j
+    → kind_number k ≤ kind_number j
 most_in due [] j k falls within d e = absurd (let z : false ≡ true = within in cc)
 most_in due (h ∷ rest) j k falls within d e = elim (cases_Bool (due h)) [
   | inl here ↦ (
@@ -49,7 +51,8 @@ most_in due (h ∷ rest) j k falls within d e = elim (cases_Bool (due h)) [
       let s : h ≡ j = cc in
       subst (λ (x : Kind). kind_number k ≤ kind_number x) s (first_most h rest k falls within))
   | inr not_here ↦ (
-      let other : kind_number h ≡ kind_number k → ⊥ = (λ n. let z : true ≡ false = sym d ∙ subst (λ (x : Kind). due x ≡ false) (number_same h k n) not_here in cc) in
+      let other : kind_number h ≡ kind_number k → ⊥ =
+      (λ n. let z : true ≡ false = sym d ∙ subst (λ (x : Kind). due x ≡ false) (number_same h k n) not_here in cc) in
       most_in due rest j k falls.1 (rw (ne_eqb (kind_number h) (kind_number k) other) at within) d (rw not_here at e))
 ]
 
@@ -61,10 +64,10 @@ none_here : (v : Bool) (h : Kind) (rest : Option Kind) → (if v then Some h els
 none_here true h rest e = cc
 none_here false h rest e = (refl, e)
 
-none_in : (due : Kind → Bool) (kinds : List Kind) (k : Kind) → is_open kinds k ≡ true → first_due due kinds ≡ None → due k ≡ false
+none_in : (due : Kind → Bool) (kinds : List Kind) (k : Kind) → is_open kinds k ≡ true → find due kinds ≡ None → due k ≡ false
 none_in due [] k within e = absurd (let z : false ≡ true = within in cc)
 none_in due (h ∷ rest) k within e =
-    let none = none_here (due h) h (first_due due rest) e in
+    let none = none_here (due h) h (find due rest) e in
     elim (cases_Bool (kind_number h == kind_number k)) [
       | inl same ↦ subst (λ (x : Kind). due x ≡ false) (number_same h k (eqb-true (kind_number h) (kind_number k) same)) none.0
       | inr other ↦ none_in due rest k (rw other at within) none.1
@@ -74,7 +77,7 @@ none_in due (h ∷ rest) k within e =
 pub highest_none : (due : Kind → Bool) (k : Kind) → highest due ≡ None → due k ≡ false
 highest_none due k e = none_in due by_priority k (listed k) e
 
-first_is_due : (due : Kind → Bool) (kinds : List Kind) (j : Kind) → first_due due kinds ≡ Some j → due j ≡ true
+first_is_due : (due : Kind → Bool) (kinds : List Kind) (j : Kind) → find due kinds ≡ Some j → due j ≡ true
 first_is_due due [] j e = (let z : None ≡ Some j = e in cc)
 first_is_due due (h ∷ rest) j e = elim (cases_Bool (due h)) [
   | inl here ↦ (let z : Some h ≡ Some j = rw here at e in let s : h ≡ j = cc in subst (λ (x : Kind). due x ≡ true) s here)
@@ -129,7 +132,8 @@ may_above One k j h e ne le = main_below (kind_number j) (kind_number k) (kind_n
     main_below j k h e ne le = grind (arith, nat_tests)
 
 -- where the mask is down and no kind enters, no counted step keeps a due kind out
-none_kept : (nest : Nest) (j k : Kind) (outer : List Kind) (due : Kind → Bool) → counts nest k (Some j) ≡ true → k ≢ j → due k ≡ true → next_entry nest (j ∷ outer) due ≡ None → ⊥
+none_kept : (nest : Nest) (j k : Kind) (outer : List Kind) (due : Kind → Bool) → counts nest k (Some j) ≡ true → k ≢ j → due k ≡ true
+    → next_entry nest (j ∷ outer) due ≡ None → ⊥
 none_kept nest j k outer due c ne d e = by_highest (highest due) refl
   where
     by_highest : (o : Option Kind) → highest due ≡ o → ⊥
@@ -177,10 +181,12 @@ wait_fresh : (nest : Nest) (k : Kind) (b a : Bool) (by : Option Kind) (w : ℕ) 
 wait_fresh nest k true a by w e = cc
 wait_fresh nest k false a by w e = refl
 
-wait_uncounted : (nest : Nest) (k : Kind) (b a : Bool) (by : Option Kind) (w : ℕ) → b ≡ true → a ≡ true → counts nest k by ≡ false → wait_next nest k b a by w ≡ w
+wait_uncounted : (nest : Nest) (k : Kind) (b a : Bool) (by : Option Kind) (w : ℕ) → b ≡ true → a ≡ true → counts nest k by ≡ false
+    → wait_next nest k b a by w ≡ w
 wait_uncounted nest k b a by w e f c = rw (e, f, c) refl
 
-wait_counted : (nest : Nest) (k : Kind) (b a : Bool) (by : Option Kind) (w : ℕ) → b ≡ true → a ≡ true → counts nest k by ≡ true → wait_next nest k b a by w ≡ w + 1
+wait_counted : (nest : Nest) (k : Kind) (b a : Bool) (by : Option Kind) (w : ℕ) → b ≡ true → a ≡ true → counts nest k by ≡ true
+    → wait_next nest k b a by w ≡ w + 1
 wait_counted nest k b a by w e f c = rw (e, f, c) refl
 
 pub self_open : (j : Kind) (stack : List Kind) → is_open (j ∷ stack) j ≡ true
@@ -227,11 +233,12 @@ own_patient nest j outer stack' due seen seen' masked masked' hold hold' w sees 
           let parts = waits_parts seen (j ∷ outer) k before in
           let ne = other_kind k j outer parts.1 in
           elim (cases_Bool (counts nest k (Some j))) [
-            | inl c ↦ rw (wait_counted nest k (is_waiting seen (j ∷ outer) k) (is_waiting seen' stack' k) (Some j) (w k) before after c) (elim (cases_Bool masked) [
-              | inl m ↦ rest_kept (is_behind nest (innermost stack') k) masked' (w k + 1) hold'
-                  (less_room masked masked' hold hold' (w k) m (some m) (less m) (rw (not_behind nest k j c) at (p.bound k)))
-              | inr m ↦ absurd (none_kept nest j k outer due c ne (sees m k before) (none m))
-            ])
+            | inl c ↦ rw (wait_counted nest k (is_waiting seen (j ∷ outer) k) (is_waiting seen' stack' k) (Some j) (w k) before after c)
+                (elim (cases_Bool masked) [
+                  | inl m ↦ rest_kept (is_behind nest (innermost stack') k) masked' (w k + 1) hold'
+                      (less_room masked masked' hold hold' (w k) m (some m) (less m) (rw (not_behind nest k j c) at (p.bound k)))
+                  | inr m ↦ absurd (none_kept nest j k outer due c ne (sees m k before) (none m))
+                ])
             | inr n ↦ rw (wait_uncounted nest k (is_waiting seen (j ∷ outer) k) (is_waiting seen' stack' k) (Some j) (w k) before after n) (
                 let le = drop_rest (w k) _ (p.bound k) in
                 elim goes [
@@ -250,21 +257,25 @@ pub pass_patient : (nest : Nest) (stack : List Kind) (seen seen' : Kind → Bool
     → Patient nest hold masked stack seen' (λ k. wait_next nest k (is_waiting seen stack k) (is_waiting seen' stack k) None (w k))
 pass_patient nest stack seen seen' masked hold w p = record {
   bound = λ k. elim (cases_Bool (is_waiting seen' stack k)) [
-    | inr over ↦ rw (wait_over nest k (is_waiting seen stack k) (is_waiting seen' stack k) None (w k) over) (rest_room (is_behind nest (innermost stack) k) masked hold p.held)
+    | inr over ↦ rw (wait_over nest k (is_waiting seen stack k) (is_waiting seen' stack k) None (w k) over)
+        (rest_room (is_behind nest (innermost stack) k) masked hold p.held)
     | inl after ↦ elim (cases_Bool (is_waiting seen stack k)) [
       | inl before ↦ rw (wait_uncounted nest k (is_waiting seen stack k) (is_waiting seen' stack k) None (w k) before after refl) (p.bound k)
-      | inr fresh ↦ rw (wait_fresh nest k (is_waiting seen stack k) (is_waiting seen' stack k) None (w k) fresh) (rest_room (is_behind nest (innermost stack) k) masked hold p.held)
+      | inr fresh ↦ rw (wait_fresh nest k (is_waiting seen stack k) (is_waiting seen' stack k) None (w k) fresh)
+          (rest_room (is_behind nest (innermost stack) k) masked hold p.held)
     ]
   ];
   held = p.held;
 }
 
 -- the same where the count is by steps alone
-pub grow_patient : (nest : Nest) (stack : List Kind) (seen seen' : Kind → Bool) (masked : Bool) (hold : ℕ) (w : Kind → ℕ) → Patient nest hold masked stack seen w → Patient nest hold masked stack seen' w
+pub grow_patient : (nest : Nest) (stack : List Kind) (seen seen' : Kind → Bool) (masked : Bool) (hold : ℕ) (w : Kind → ℕ)
+    → Patient nest hold masked stack seen w → Patient nest hold masked stack seen' w
 grow_patient nest stack seen seen' masked hold w p = record { bound = p.bound; held = p.held }
 
 -- equal counts
-pub same_patient : (nest : Nest) (hold : ℕ) (masked : Bool) (stack : List Kind) (due : Kind → Bool) (w w' : Kind → ℕ) → ((k : Kind) → w' k ≡ w k) → Patient nest hold masked stack due w → Patient nest hold masked stack due w'
+pub same_patient : (nest : Nest) (hold : ℕ) (masked : Bool) (stack : List Kind) (due : Kind → Bool) (w w' : Kind → ℕ) → ((k : Kind) → w' k ≡ w k)
+    → Patient nest hold masked stack due w → Patient nest hold masked stack due w'
 same_patient nest hold masked stack due w w' e p = record {
   bound = λ k. rw (e k) (p.bound k);
   held = p.held;
@@ -272,10 +283,12 @@ same_patient nest hold masked stack due w w' e p = record {
 
 -- ---- along a log
 
-pub patient_most : (nest : Nest) (hold : ℕ) (masked : Bool) (stack : List Kind) (due : Kind → Bool) (w : Kind → ℕ) → Patient nest hold masked stack due w → (k : Kind) → w k ≤ 8
+pub patient_most : (nest : Nest) (hold : ℕ) (masked : Bool) (stack : List Kind) (due : Kind → Bool) (w : Kind → ℕ) → Patient nest hold masked stack due w
+    → (k : Kind) → w k ≤ 8
 patient_most nest hold masked stack due w p k = drop_rest (w k) _ (p.bound k)
 
-responds : (nest : Nest) (hold : ℕ) (masked : Bool) (stack : List Kind) (due : Kind → Bool) (log : List Moment) → Patient nest hold masked stack due (waited nest log) → Responds nest hold masked stack due log
+responds : (nest : Nest) (hold : ℕ) (masked : Bool) (stack : List Kind) (due : Kind → Bool) (log : List Moment)
+    → Patient nest hold masked stack due (waited nest log) → Responds nest hold masked stack due log
 responds nest hold masked stack due log p = record { patient = p; most = patient_most nest hold masked stack due (waited nest log) p }
 
 waited-none : (nest : Nest) (k : Kind) → waited nest [] k ≡ 0
@@ -316,11 +329,13 @@ entry_logged nest hold hold' masked masked' stack stack' due due' j m m' s chose
 own_responds : (nest : Nest) (hold hold' : ℕ) (masked masked' : Bool) (j : Kind) (outer stack' : List Kind) (due due' : Kind → Bool)
     → (masked ≡ false → next_entry nest (j ∷ outer) due ≡ None) → (stack' ≡ j ∷ outer) ⊎ (masked' ≡ false) → stepper (j ∷ outer) stack' ≡ Some j
     → (masked ≡ true → 0 < hold) → (masked' ≡ true → hold' ≤ 8) → (masked ≡ true → masked' ≡ true → hold' < hold)
-    → (log : List Moment) → Responds nest hold masked (j ∷ outer) due log → Responds nest hold' masked' stack' due' (log ++ Stepped (j ∷ outer) due stack' due' ∷ [])
+    → (log : List Moment) → Responds nest hold masked (j ∷ outer) due log
+    → Responds nest hold' masked' stack' due' (log ++ Stepped (j ∷ outer) due stack' due' ∷ [])
 own_responds nest hold hold' masked masked' j outer stack' due due' none goes by some most less log r =
     responds nest hold' masked' stack' due' _ (same_patient nest hold' masked' stack' due' _ _
     (λ k. waited-push nest log (Stepped (j ∷ outer) due stack' due') k ∙ ap (λ (o : Option Kind). wait_next nest k (is_waiting due (j ∷ outer) k) (is_waiting due' stack' k) o (waited nest log k)) by)
-    (own_patient nest j outer stack' due due due' masked masked' hold hold' (waited nest log) (λ m k s. (waits_parts due (j ∷ outer) k s).0) none goes some most less r.patient))
+    (own_patient nest j outer stack' due due due' masked masked' hold hold' (waited nest log) (λ m k s. (waits_parts due (j ∷ outer) k s).0) none goes some
+    most less r.patient))
 
 -- an own step that goes on
 pub own_logged : (nest : Nest) (hold hold' : ℕ) (masked masked' : Bool) (stack : List Kind) (due due' : Kind → Bool) (j : Kind)

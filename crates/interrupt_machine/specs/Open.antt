@@ -1,6 +1,6 @@
 -- The kinds that are open, the innermost first, and which due kind enters.
 use Rattle.std.specs.Prelude.{ℕ, Bool, true, false, not, ◌&&◌, ◌==◌, nat_lt, ◌<◌, if◌then◌else◌, List, [], ◌∷◌, Option, Some, None, is_none}
-use Rattle.std.specs.List.{list_any}
+use Rattle.std.specs.List.{find, list_any}
 use Rattle.esc_base.specs.declared.kind.Kind.{Kind}
 use Rattle.esc_base.specs.declared.kind.Kind.TheVariants as kind
 use Rattle.esc_base.specs.Numbers.{kind_number}
@@ -52,12 +52,8 @@ due_in waits set kind.Main = waits
 due_in waits set k = has_kind set k
 
 -- the highest kind of those that are due
-abbrev pub first_due : (Kind → Bool) → List Kind → Option Kind
-first_due due [] = None
-first_due due (k ∷ rest) = if due k then Some k else first_due due rest
-
 abbrev pub highest : (Kind → Bool) → Option Kind
-highest due = first_due due by_priority
+highest due = find due by_priority
 
 -- whether a due kind may enter above the innermost open one
 abbrev pub may_enter : Nest → Option Kind → Kind → Bool

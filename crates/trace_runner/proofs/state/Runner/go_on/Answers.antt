@@ -21,4 +21,5 @@ returns-else-idle-clause-run g c =
     let flash : Told = told g.D.FlashDev.bytes g.D.FlashDev.faults c.args.dev.now in
     runs_from g.K.Sink.given g.K.Sink.took g.K.Sink.broke g.K.Sink.faults c.args.self.now _ c.step.new.self flash _ _ _ _ (λ o trace steps st.
     let p = c.pass.ensures.runs o flash trace steps st in
-    record { logged = p.logged; bound = p.bound; spaced = p.spaced; in_range = p.in_range; flash = p.flash }) c.pass.ensures.kept.nest c.pass.ensures.kept.cost c.step.ensures.run
+    record { logged = p.logged; bound = p.bound; spaced = p.spaced; in_range = p.in_range; flash = p.flash })
+    c.pass.ensures.kept.nest c.pass.ensures.kept.cost c.step.ensures.run

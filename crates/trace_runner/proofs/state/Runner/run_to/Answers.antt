@@ -36,7 +36,8 @@ pub returns-in_err-go_on-clause-run : goal.returns-in_err-go_on-clause-run
 returns-in_err-go_on-clause-run g c = record {
   goes = search rules;
   breaks = on_err c.from_residual.result (λ o.
-      breaks_as g.K.Sink.given g.K.Sink.took g.K.Sink.broke o.loaded (Runs c.args.self.now o _) o _ _ _ _ _ _ _ _ c.loop-self.invariant.nest c.loop-self.invariant.cost
+      breaks_as g.K.Sink.given g.K.Sink.took g.K.Sink.broke o.loaded
+      (Runs c.args.self.now o _) o _ _ _ _ _ _ _ _ c.loop-self.invariant.nest c.loop-self.invariant.cost
       (breaks_later g.K.Sink.given g.K.Sink.took g.K.Sink.broke o.loaded _ _ _ _ _ _ (c.loop-self.invariant.goes o) (c.in_err-go_on.ensures.run.breaks o)));
   failed = search rules;
   no_fewer = let e = c.go_on.ensures.run.no_fewer in omega arith;
