@@ -1,3 +1,4 @@
+-- Machinery, until a law of gates is said with it.
 -- What the notes say of the switches, the newest note first.
 use Rattle.std.specs.Prelude.{◌≡◌, ℕ, List, [], ◌∷◌}
 use Rattle.esc_base.specs.declared.note.Note.{Note}

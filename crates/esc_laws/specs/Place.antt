@@ -38,8 +38,8 @@ pub record Place : Type 0 where
 abbrev pub nowhere : Place
 nowhere = record { stack = []; signal = Silent; cap_entered = 0; windows = 0; verdicts = 0; ticks = 0; saves = 0; last = 0 }
 
-abbrev pub entered_at : Place → ℕ → ℕ → Place
-entered_at p t k =
+abbrev pub place_entered : Place → ℕ → ℕ → Place
+place_entered p t k =
     if k == 3 then record p { stack = kind_of k ∷ p.stack; cap_entered = t; windows = 0; verdicts = 0; last = t }
     else if k == 2 then record p { stack = kind_of k ∷ p.stack; ticks = 0; last = t }
     else if k == 0 then record p { stack = kind_of k ∷ p.stack; saves = 0; last = t }
@@ -49,20 +49,20 @@ abbrev pub rested : Signal → ℕ → Signal
 rested (Judged f opens) t = Rests f t
 rested s t = s
 
-abbrev pub left_at : Place → ℕ → ℕ → Place
-left_at p t k = record p { stack = outer_ones p.stack; signal = if k == 3 then rested p.signal t else p.signal; last = t }
+abbrev pub place_left : Place → ℕ → ℕ → Place
+place_left p t k = record p { stack = outer_ones p.stack; signal = if k == 3 then rested p.signal t else p.signal; last = t }
 
-abbrev pub judged_at : Place → ℕ → Bool → Place
-judged_at p t opens = record p { signal = Judged t opens; verdicts = p.verdicts + 1; last = t }
+abbrev pub place_judged : Place → ℕ → Bool → Place
+place_judged p t opens = record p { signal = Judged t opens; verdicts = p.verdicts + 1; last = t }
 
 abbrev pub next : Place → Note → Place
-next p (note.Enter t k) = entered_at p t.0 k
-next p (note.Leave t k) = left_at p t.0 k
+next p (note.Enter t k) = place_entered p t.0 k
+next p (note.Leave t k) = place_left p t.0 k
 next p (note.Window t m) = record p { signal = Listens t.0 m; windows = p.windows + 1; last = t.0 }
-next p (note.Good t v q) = judged_at p t.0 true
-next p (note.Detected t m) = judged_at p t.0 true
-next p (note.Nothing t) = judged_at p t.0 false
-next p (note.Bad t w) = judged_at p t.0 false
+next p (note.Good t v q) = place_judged p t.0 true
+next p (note.Detected t m) = place_judged p t.0 true
+next p (note.Nothing t) = place_judged p t.0 false
+next p (note.Bad t w) = place_judged p t.0 false
 next p (note.Control t n s d) = record p { ticks = p.ticks + 1; last = t.0 }
 next p (note.Saved t r) = record p { saves = p.saves + 1; last = t.0 }
 next p n = record p { last = time_of n }
