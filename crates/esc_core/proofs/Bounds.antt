@@ -117,7 +117,8 @@ copy_moves false rest c b = record {
   hold = refl;
 }
 
-begin_moves : (c : Brain) (b : Bank) → PlainMoves kind.Cap 40 c b (goes_on (record c { burst = []; cap_at = after_edges (read_value b reg.CapState) }) (Reads reg.CapState))
+begin_moves : (c : Brain) (b : Bank)
+    → PlainMoves kind.Cap 40 c b (goes_on (record c { burst = []; cap_at = after_edges (read_value b reg.CapState) }) (Reads reg.CapState))
 begin_moves c b = record {
   moves = record {
     less = edges_less (read_value b reg.CapState == 0) (read_value b reg.CapState);
@@ -129,7 +130,9 @@ begin_moves c b = record {
   hold = refl;
 }
 
-either_moves : (v : Bool) (c : Brain) (b : Bank) → PlainMoves kind.Cap 40 c b (if v then opens c b else goes_on (record c { burst = []; cap_at = after_edges (read_value b reg.CapState) }) (Reads reg.CapState))
+either_moves : (v : Bool) (c : Brain) (b : Bank)
+    → PlainMoves kind.Cap 40 c b
+    (if v then opens c b else goes_on (record c { burst = []; cap_at = after_edges (read_value b reg.CapState) }) (Reads reg.CapState))
 either_moves true c b = opens_moves 40 c b (lit< tt)
 either_moves false c b = begin_moves c b
 
@@ -418,7 +421,11 @@ tick_masks tick.Back c b l le e =
 bare_moves : (k : Kind) (c : Brain) (b : Bank) → 0 < left_of c k → PlainMoves k (left_of c k) (counted_down c b) b (goes_back (shut (counted_down c b) k))
 bare_moves k c b l =
     let m = shut_moves k (counted_down c b) (goes_back (shut (counted_down c b) k)) refl refl (rw (counted_left k c b) l) in
-    record { moves = record { less = rw (← counted_left k c b) m.less; more = m.more; shut = m.shut; others = m.others }; masked = refl; hold = shut_hold k (counted_down c b) }
+    record {
+      moves = record { less = rw (← counted_left k c b) m.less; more = m.more; shut = m.shut; others = m.others };
+      masked = refl;
+      hold = shut_hold k (counted_down c b);
+    }
 
 pub goes_bounds : (k : Kind) (answers : List Answer) (c : Brain) (b : Bank) → 0 < left_of c k → c.hold ≤ 8 → is_stray k c b ≡ false
     → Bounds k c b (kind_step k answers (counted_down c b) b)

@@ -43,7 +43,7 @@ use Rattle.esc_laws.specs.Place.{Signal, Listens, Judged, Rests}
 use Rattle.esc_laws.specs.Windowed.{verdict_note, Answers, AnswersAt, OpensAt}
 use Rattle.esc_laws.specs.Tied.{cap_view, IsClosing, IsCopying, IsJudged, SignalTied, WindowSound, MainTied}
 use Rattle.esc_laws.specs.World.{World, so_far, at_time, after_outside}
-use Rattle.esc_laws.specs.Rooms.{Ground, CapTie, StepKeeps}
+use Rattle.esc_laws.specs.Rooms.{Ground, cap_seen, CapTie, StepKeeps}
 use Rattle.esc_laws.proofs.Pushes.{All-later}
 use Rattle.esc_laws.proofs.Facts.{cap_shut}
 use Rattle.esc_laws.proofs.Saves.{input_kept, servo_kept, acting_named, obeyed_tied, orders_other}
@@ -63,7 +63,7 @@ few b w = most_few b.window.mode (length b.window.edges) w.few
 -- ---- it reads the edges
 
 begins : (x : World) (outer : List Kind) (w m : ℕ) → Ground x → WindowSound x.bank.window x.bank.time → (so_far x).signal ≡ Listens w m
-    → IsClosing (cap_view x.trace x.core x.bank (so_far x)) w m → (so_far x).stack ≡ kind.Cap ∷ outer
+    → IsClosing (cap_seen x) w m → (so_far x).stack ≡ kind.Cap ∷ outer
     → StepKeeps kind.Cap outer x (goes_on (record x.core { burst = []; cap_at = after_edges (read_value x.bank reg.CapState) }) (Reads reg.CapState))
 begins x outer w m g sound e k on = record {
   gate = λ word moved. absurd (moved refl refl);
@@ -75,8 +75,11 @@ begins x outer w m g sound e k on = record {
 }
 
 copies : (v : Bool) (x : World) (outer : List Kind) (w m left : ℕ) → v ≡ true → Ground x → WindowSound x.bank.window x.bank.time
-    → (so_far x).signal ≡ Listens w m → IsCopying (cap_view x.trace x.core x.bank (so_far x)) w m left → (so_far x).stack ≡ kind.Cap ∷ outer
-    → StepKeeps kind.Cap outer x (goes_on (if v then record x.core { burst = x.core.burst ++ next_edge x.core x.bank ∷ []; cap_at = after_copy left } else record x.core { cap_at = cap.Back }) (Reads (reg.CapEdge (length x.core.burst))))
+    → (so_far x).signal ≡ Listens w m → IsCopying (cap_seen x) w m left → (so_far x).stack ≡ kind.Cap ∷ outer
+    → StepKeeps kind.Cap outer x (goes_on (
+    if v
+    then record x.core { burst = x.core.burst ++ next_edge x.core x.bank ∷ []; cap_at = after_copy left }
+    else record x.core { cap_at = cap.Back }) (Reads (reg.CapEdge (length x.core.burst))))
 copies true x outer w m left v g sound e k on = record {
   gate = λ word moved. absurd (moved refl refl);
   fits = tt;
@@ -96,13 +99,16 @@ open_window x outer s g e may none done on = record {
   gate = λ word moved. absurd (moved refl refl);
   fits = (record { at = refl; owned = refl; window = (rw e may, g.control.ties.mode_is); nest = inside (so_far x).stack kind.Cap outer on }, tt);
   ground = ground_noted x (note.Window (as_tick x.bank.time) (mode_number x.core.control.mode)) refl refl tt refl g;
-  tie = (opens_tied x.trace x.core x.bank (so_far x) g.edges none done, record { past = λ k d l. absurd (omega arith); order = λ a b le l. absurd (omega arith); few = omega arith });
+  tie = (
+    opens_tied x.trace x.core x.bank (so_far x) g.edges none done,
+    record { past = λ k d l. absurd (omega arith); order = λ a b le l. absurd (omega arith); few = omega arith },
+  );
   others = elim [ kind.Cap ↦ λ ne t. absurd (ne refl) | j ↦ λ ne t. t ];
   stack_is = on;
 }
 
 pauses : (x : World) (outer : List Kind) (f at : ℕ) (opens_next : Bool) → Ground x → WindowSound x.bank.window x.bank.time
-    → (so_far x).signal ≡ Judged f opens_next → IsJudged (cap_view x.trace x.core x.bank (so_far x)) → opens_next ≡ false → at ≡ f + 600
+    → (so_far x).signal ≡ Judged f opens_next → IsJudged (cap_seen x) → opens_next ≡ false → at ≡ f + 600
     → (so_far x).stack ≡ kind.Cap ∷ outer → StepKeeps kind.Cap outer x (cap_step (cap.Pause at) x.core x.bank)
 pauses x outer f at opens_next g sound e k shut is on = record {
   gate = λ word moved. absurd (moved refl refl);
@@ -115,7 +121,7 @@ pauses x outer f at opens_next g sound e k shut is on = record {
 
 -- ---- it judges
 
-answers_is : (x : World) (w m : ℕ) → Ground x → IsClosing (cap_view x.trace x.core x.bank (so_far x)) w m → x.core.burst ≡ x.bank.window.edges
+answers_is : (x : World) (w m : ℕ) → Ground x → IsClosing (cap_seen x) w m → x.core.burst ≡ x.bank.window.edges
     → Answers x.loaded x.trace w m (so_far x).cap_entered x.bank.time (verdict_note x.bank.time (judged x.core.window x.core.burst x.core.orders.settings.input (servo_of x.core.orders.settings)))
 answers_is x w m g i e =
     let allowed : x.core.orders.settings.input ≡ x.loaded.settings.input = ap (λ (s : Settings). s.input) g.orders.settings_are ∙ input_kept x.loaded.settings x.back in
@@ -146,12 +152,17 @@ still_asked main.Work o a saves m = (obeyed_save o a m.0, m.1)
     obeyed_save o (Some (Spin side)) e = e
 
 good : (o : Option Act) (x : World) (outer : List Kind) (frame : Frame) (w m : ℕ) → Ground x → WindowSound x.bank.window x.bank.time
-    → IsClosing (cap_view x.trace x.core x.bank (so_far x)) w m
+    → IsClosing (cap_seen x) w m
     → AnswersAt x.loaded x.trace (so_far x).signal (so_far x).cap_entered x.bank.time (verdict_note x.bank.time (Good frame))
     → (so_far x).stack ≡ kind.Cap ∷ outer
     → ((act : Act) → o ≡ Some act → act_of (number_of act) ≡ Some act)
     → Stands (after_frame x.core.control frame.value) (with_frame (as_tick x.bank.time) frame.value (bit_of frame.telemetry) o x.back)
-    → StepKeeps kind.Cap outer x (record { core = record x.core { cap_at = cap.Open; control = after_frame x.core.control frame.value; orders = obeyed_if x.core.orders o }; access = NoAccess; notes = note.Good (as_tick x.bank.time) frame.value (bit_of frame.telemetry) ∷ command_note x.bank.time o; over = false })
+    → StepKeeps kind.Cap outer x (record {
+      core = record x.core { cap_at = cap.Open; control = after_frame x.core.control frame.value; orders = obeyed_if x.core.orders o };
+      access = NoAccess;
+      notes = note.Good (as_tick x.bank.time) frame.value (bit_of frame.telemetry) ∷ command_note x.bank.time o;
+      over = false;
+    })
 good None x outer frame w m g sound k answers on named st = record {
   gate = λ word moved. absurd (moved refl refl);
   fits = (record { at = refl; owned = refl; window = answers; nest = inside (so_far x).stack kind.Cap outer on }, tt);
@@ -181,12 +192,16 @@ good (Some act) x outer frame w m g sound k answers on named st =
         small = g.small;
       };
       tie = (good_tied (Some act) frame x.trace x.core x.bank (so_far x) w m k, sound);
-      others = elim [ kind.Cap ↦ λ ne t. absurd (ne refl) | kind.Main ↦ λ ne t. still_asked x.core.main_at x.core.orders (Some act) (so_far x).saves t | j ↦ λ ne t. t ];
+      others = elim [
+        | kind.Cap ↦ λ ne t. absurd (ne refl)
+        | kind.Main ↦ λ ne t. still_asked x.core.main_at x.core.orders (Some act) (so_far x).saves t
+        | j ↦ λ ne t. t
+      ];
       stack_is = on;
     }
 
 judges : (j : Judgement) (x : World) (outer : List Kind) (w m : ℕ) → Ground x → WindowSound x.bank.window x.bank.time
-    → IsClosing (cap_view x.trace x.core x.bank (so_far x)) w m
+    → IsClosing (cap_seen x) w m
     → AnswersAt x.loaded x.trace (so_far x).signal (so_far x).cap_entered x.bank.time (verdict_note x.bank.time j) → (so_far x).stack ≡ kind.Cap ∷ outer
     → StepKeeps kind.Cap outer x (judge_step j x.core x.bank)
 judges (Good frame) x outer w m g sound k answers on =
@@ -197,7 +212,10 @@ judges (Bad why) x outer w m g sound k answers on = record {
   gate = λ word moved. absurd (moved refl refl);
   fits = (record { at = refl; owned = refl; window = answers; nest = inside (so_far x).stack kind.Cap outer on }, tt);
   ground = ground_noted x (note.Bad (as_tick x.bank.time) (why_number why)) refl refl tt refl g;
-  tie = ((record { verdict = ap (λ (n : ℕ). n + 1) k.no_verdict; taken = k.taken; running = k.hears.running; no_timer = k.hears.no_timer }, (refl, refl)), sound);
+  tie = (
+    (record { verdict = ap (λ (n : ℕ). n + 1) k.no_verdict; taken = k.taken; running = k.hears.running; no_timer = k.hears.no_timer }, (refl, refl)),
+    sound,
+  );
   others = elim [ kind.Cap ↦ λ ne t. absurd (ne refl) | j ↦ λ ne t. t ];
   stack_is = on;
 }
@@ -219,14 +237,17 @@ judges Nothing x outer w m g sound k answers on = record {
   gate = λ word moved. absurd (moved refl refl);
   fits = (record { at = refl; owned = refl; window = answers; nest = inside (so_far x).stack kind.Cap outer on }, tt);
   ground = ground_noted x (note.Nothing (as_tick x.bank.time)) refl refl tt refl g;
-  tie = ((record { verdict = ap (λ (n : ℕ). n + 1) k.no_verdict; taken = k.taken; running = k.hears.running; no_timer = k.hears.no_timer }, (refl, refl)), sound);
+  tie = (
+    (record { verdict = ap (λ (n : ℕ). n + 1) k.no_verdict; taken = k.taken; running = k.hears.running; no_timer = k.hears.no_timer }, (refl, refl)),
+    sound,
+  );
   others = elim [ kind.Cap ↦ λ ne t. absurd (ne refl) | j ↦ λ ne t. t ];
   stack_is = on;
 }
 
 -- ---- it returns
 
-returns : (x : World) (outer : List Kind) → Ground x → SignalTied (so_far x).signal cap.Back (cap_view x.trace x.core x.bank (so_far x))
+returns : (x : World) (outer : List Kind) → Ground x → SignalTied (so_far x).signal cap.Back (cap_seen x)
     → WindowSound x.bank.window x.bank.time → (so_far x).stack ≡ kind.Cap ∷ outer
     → StepKeeps kind.Cap outer x (cap_step cap.Back x.core x.bank)
 returns x outer g tied sound on = record {
@@ -253,11 +274,11 @@ answered : (x : World) (s : Signal) (w m t : ℕ) (n : Note) → s ≡ Listens w
 answered x s w m t n e a = rw e a
 
 steps : (s : Signal) (at : CapAt) (x : World) (outer : List Kind) → Ground x → WindowSound x.bank.window x.bank.time → (so_far x).signal ≡ s
-    → SignalTied s at (cap_view x.trace x.core x.bank (so_far x)) → (so_far x).stack ≡ kind.Cap ∷ outer → 0 < cap_left at
+    → SignalTied s at (cap_seen x) → (so_far x).stack ≡ kind.Cap ∷ outer → 0 < cap_left at
     → StepKeeps kind.Cap outer x (cap_step at x.core x.bank)
 steps s cap.Shut x outer g sound e k on left = absurd (omega arith)
 steps s cap.Back x outer g sound e k on left =
-    returns x outer g (subst (λ (r : Signal). SignalTied r cap.Back (cap_view x.trace x.core x.bank (so_far x))) (sym e) k) sound on
+    returns x outer g (subst (λ (r : Signal). SignalTied r cap.Back (cap_seen x)) (sym e) k) sound on
 steps (Listens w m) cap.Start x outer g sound e k on left = if_false x.core.paused kind.Cap outer x _ _ k.hears.running (begins x outer w m g sound e k on)
 steps (Listens w m) (cap.Copy rest) x outer g sound e k on left =
     copies (takes x.core.burst (next_edge x.core x.bank)) x outer w m rest
@@ -273,21 +294,21 @@ steps s at x outer g sound e k on left = absurd k
 
 -- ---- it is called and entered
 
-shut_tie : (w : World) → CapTie w → cap_left w.core.cap_at ≡ 0 → SignalTied (so_far w).signal cap.Shut (cap_view w.trace w.core w.bank (so_far w))
-shut_tie w t none = subst (λ (at : CapAt). SignalTied (so_far w).signal at (cap_view w.trace w.core w.bank (so_far w))) (cap_shut w.core.cap_at none) t.0
+shut_tie : (w : World) → CapTie w → cap_left w.core.cap_at ≡ 0 → SignalTied (so_far w).signal cap.Shut (cap_seen w)
+shut_tie w t none = subst (λ (at : CapAt). SignalTied (so_far w).signal at (cap_seen w)) (cap_shut w.core.cap_at none) t.0
 
 -- ---- time goes on, and events come
 
 later : (w : World) (u : ℕ) → w.bank.time ≤ u → CapTie w → CapTie (at_time w u)
 later w u from t = (
-  signal_follows (so_far w).signal w.core.cap_at (cap_view w.trace w.core w.bank (so_far w)) (cap_view w.trace w.core (at_time w u).bank (so_far w))
-      (time_follows (cap_view w.trace w.core w.bank (so_far w)) u from) t.0,
+  signal_follows (so_far w).signal w.core.cap_at (cap_seen w) (cap_view w.trace w.core (at_time w u).bank (so_far w))
+      (time_follows (cap_seen w) u from) t.0,
   record { past = All-later (λ e. e.t.0) w.bank.window.edges w.bank.time u from t.1.past; order = t.1.order; few = t.1.few },
 )
 
 plain : (w : World) (e : Event) → line (w.trace ++ e ∷ []) ≡ line w.trace → w.bank.time ≤ tick_of e → CapTie w → CapTie (record w { trace = w.trace ++ e ∷ [] })
 plain w e same le t = (
-  signal_follows (so_far w).signal w.core.cap_at (cap_view w.trace w.core w.bank (so_far w)) (cap_view (w.trace ++ e ∷ []) w.core w.bank (so_far w))
+  signal_follows (so_far w).signal w.core.cap_at (cap_seen w) (cap_view (w.trace ++ e ∷ []) w.core w.bank (so_far w))
       (plain_follows w.trace e w.core w.bank (so_far w) same le) t.0,
   t.1,
 )
@@ -295,7 +316,7 @@ plain w e same le t = (
 edge : (v : Bool) (w : World) (level : Bool) → differ w.bank.level level ≡ v → Ground w → CapTie w
     → CapTie (record w { trace = w.trace ++ event.Edge (as_tick w.bank.time) level ∷ []; bank = record w.bank { level = (if v then edge_bank w.bank level else w.bank).level; window = (if v then edge_bank w.bank level else w.bank).window } })
 edge true w level d g t = (
-  signal_follows (so_far w).signal w.core.cap_at (cap_view w.trace w.core w.bank (so_far w))
+  signal_follows (so_far w).signal w.core.cap_at (cap_seen w)
       (cap_view (w.trace ++ event.Edge (as_tick w.bank.time) level ∷ []) w.core (edge_bank w.bank level) (so_far w))
       (edge_follows w.trace w.core w.bank (so_far w) level
       (ap (λ (l : Line). l.edges) (line_changes w.trace w.bank level (subst (λ (l : Bool). differ l level ≡ true) g.level d)))) t.0,

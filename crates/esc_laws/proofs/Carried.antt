@@ -234,7 +234,8 @@ module _ (loaded : Loaded) (nest : Nest) (cost : ℕ) (trace : List Event) (e : 
         patient = patient_grows loaded nest trace e c b stack log at before l.patient;
         owes = l.owes;
         reached = λ k o. reached_grows cost trace e log (steps_since k log) (entered_at k log) (l.reached k o) (l.reached_by k o (tick_of e) before);
-        reached_by = λ k o t b. rw (uses_before cost trace e (steps_since k log) (entered_at k log) (l.reached_by k o (tick_of e) before)) (l.reached_by k o t b);
+        reached_by = λ k o t b.
+            rw (uses_before cost trace e (steps_since k log) (entered_at k log) (l.reached_by k o (tick_of e) before)) (l.reached_by k o t b);
         fits = fits_grow loaded nest cost trace e log before l.fits;
         past = rw (after_grows cost trace e log) (past_more e (after cost trace log) next l.past);
         awaits = awaits_grow;

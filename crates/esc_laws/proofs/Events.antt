@@ -76,7 +76,8 @@ pub patient_grows : (loaded : Loaded) (nest : Nest) (trace : List Event) (e : Ev
 patient_grows loaded nest trace e c b stack log at below p =
     let same : SameRegs b (after_event b e) = same_regs b e in
     rw (same.masked, same.time)
-    (same_patient nest c.hold b.masked stack (sees (trace ++ e ∷ []) (journal loaded log) b.time) (called loaded nest trace log) (called loaded nest (trace ++ e ∷ []) log) (λ k. count_before loaded nest trace e log k below)
+    (same_patient nest c.hold b.masked stack (sees (trace ++ e ∷ []) (journal loaded log) b.time) (called loaded nest trace log)
+    (called loaded nest (trace ++ e ∷ []) log) (λ k. count_before loaded nest trace e log k below)
     (grow_patient nest stack (sees trace (journal loaded log) b.time) (sees (trace ++ e ∷ []) (journal loaded log) b.time) b.masked c.hold
     (called loaded nest trace log) p))
 

@@ -43,7 +43,8 @@ abbrev pub Flashes : Loaded → Told → Told → Told → ℕ → List Note →
 Flashes loaded first flash flash' t before notes =
     (All (λ n. is_save n ≡ false) notes × (flash' ≡ flash))
     ⊎
-    ((r : ℕ) × (notes ≡ note.Saved (as_tick t) r ∷ []) × (FlashFits loaded first flash before → FlashFits loaded first flash' (before ++ note.Saved (as_tick t) r ∷ [])))
+    ((r : ℕ) × (notes ≡ note.Saved (as_tick t) r ∷ [])
+    × (FlashFits loaded first flash before → FlashFits loaded first flash' (before ++ note.Saved (as_tick t) r ∷ [])))
 
 -- ---- a kind but MAIN saves nothing
 
@@ -79,7 +80,8 @@ work_flash true answers loaded first flash flash' c b before e up is whole whole
     inr (
       result_of (took_first answers),
       rw (e, no_gate b) refl,
-      λ fits. subst (λ (given : List Answer). FlashFits loaded first flash' (before ++ note.Saved (as_tick b.time) (result_of (took_first given)) ∷ [])) (sym one.1)
+      λ fits.
+          subst (λ (given : List Answer). FlashFits loaded first flash' (before ++ note.Saved (as_tick b.time) (result_of (took_first given)) ∷ [])) (sym one.1)
           (saved_flash one.0 loaded first flash flash' b.time before block (ap block_of is) whole whole' one.2 fits),
     )
 work_flash false answers loaded first flash flash' c b before e up is whole whole' did = cc
@@ -133,7 +135,8 @@ flashes loaded nest cost trace c c' b b' first flash flash' stack stack' log not
         let did' : DeviceDid (kind_asked k c made.answers) made.answers flash flash' = rw (core_asked-goes k c b made.answers goes) at made.flash_is in
         rw (are ∙ own_are k b b' (stepped_by k made.answers c b) did c' i)
         (kind_flash k made.answers loaded first flash flash' c b (journal loaded log) (l.ties kind.Main) l.ground.orders.settings_are
-        (step_made k made.answers loaded nest trace c b (notes_in log) outer (stood loaded nest cost trace b.time c b (k ∷ outer) log l') (λ j above. l'.keeps.shut j (closed_above (k ∷ outer) j l'.sorted above)) (l'.keeps.live k (self_open k outer))).1
+        (step_made k made.answers loaded nest trace c b (notes_in log) outer (stood loaded nest cost trace b.time c b (k ∷ outer) log l')
+        (λ j above. l'.keeps.shut j (closed_above (k ∷ outer) j l'.sorted above)) (l'.keeps.live k (self_open k outer))).1
         whole whole' did')
 
 -- ---- what is left of the flash

@@ -279,7 +279,8 @@ later_ground w u from small g = record {
 outside_is : (b : Bank) (e : Event) → after_event b e ≡ record b { level = (after_event b e).level; window = (after_event b e).window }
 outside_is b (event.Edge at level) = by_test (differ b.level level)
   where
-    by_test : (v : Bool) → (if v then edge_bank b level else b) ≡ record b { level = (if v then edge_bank b level else b).level; window = (if v then edge_bank b level else b).window }
+    by_test : (v : Bool)
+        → (if v then edge_bank b level else b) ≡ record b { level = (if v then edge_bank b level else b).level; window = (if v then edge_bank b level else b).window }
     by_test true = refl
     by_test false = refl
 outside_is b e = refl

@@ -139,7 +139,8 @@ entry_turn loaded nest cost trace c b stack log k some l down chosen =
           (entry_above_all nest stack (due_now c.orders.save_asked b) k l.sorted chosen);
       patient =
           rw still
-          (entry_patient nest stack (due_now c.orders.save_asked b) (sees trace (journal loaded log) b.time) (sees trace (journal loaded (log ++ entry_of b.time k ∷ [])) b.time) k c.hold (entered_core c k).hold (called loaded nest trace log)
+          (entry_patient nest stack (due_now c.orders.save_asked b) (sees trace (journal loaded log) b.time)
+          (sees trace (journal loaded (log ++ entry_of b.time k ∷ [])) b.time) k c.hold (entered_core c k).hold (called loaded nest trace log)
           (sees_due loaded nest trace c b stack log l.keeps l.ground l.ties) chosen (rw down at l.patient));
       owes = entry_owes c b stack log k l.owes;
       reached = entry_reached cost trace b stack log k l.at_next l.reached;
@@ -228,7 +229,8 @@ own_turn loaded nest cost trace c b outer log k answers some l none =
           (left_goes s.over b'.masked k outer (mask_down k (need_of c k) c.hold b s bound.mask)) held (λ m. bound.mask.most) bound.mask.less l.patient;
       owes = own_owes c s.core outer log k b.time notes s.over l.owes bound.moves.less (λ j ne. (bound.moves.others j ne).0);
       reached = λ j o. reached_on cost trace log (own_of b.time k notes) j refl (l.at_next (λ e. cc)) (l.reached j (left_open s.over k j outer o));
-      reached_by = λ j o t below. by_on cost trace log (own_of b.time k notes) j t refl (l.at_next (λ e. cc)) (l.reached j (left_open s.over k j outer o)) below;
+      reached_by = λ j o t below.
+          by_on cost trace log (own_of b.time k notes) j t refl (l.at_next (λ e. cc)) (l.reached j (left_open s.over k j outer o)) below;
       fits = own_fits loaded nest cost trace c b outer log k notes l made.1 made.2;
     })
 

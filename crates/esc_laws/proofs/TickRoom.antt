@@ -145,11 +145,16 @@ later at read t u ticks le i = i
 
 pub tick_law : HandlerLaw kind.Tick
 tick_law = record {
-  called = λ w g t none s. tick_due w.core.orders.save_asked w.bank (rw ((t kind.Tick).1, g.control.ties.number_is) (ltb-true (number_at w.back) (w.bank.time / 2400) s));
+  called = λ w g t none s.
+      tick_due w.core.orders.save_asked w.bank (rw ((t kind.Tick).1, g.control.ties.number_is) (ltb-true (number_at w.back) (w.bank.time / 2400) s));
   built = λ w t due. tt;
   entered = λ w g t none due. ((due_tick w.core.orders.save_asked w.bank (t kind.Tick).2 due, refl), (t kind.Tick).1, (t kind.Tick).2);
   beside = λ w. elim [ kind.Tick ↦ λ ne t. absurd (ne refl) | j ↦ λ ne t. t ];
   steps = λ w answers outer g t above on left. steps w.core.tick_at w outer g (t kind.Tick) (t kind.Comm).1.no_mark (t kind.Tick).0 on left;
-  later = λ w u from small g t. (later w.core.tick_at w.bank.number_read w.bank.time u (so_far w).ticks from (t kind.Tick).0, (t kind.Tick).1, (let r = (t kind.Tick).2 in omega arith));
+  later = λ w u from small g t. (
+    later w.core.tick_at w.bank.number_read w.bank.time u (so_far w).ticks from (t kind.Tick).0,
+    (t kind.Tick).1,
+    (let r = (t kind.Tick).2 in omega arith),
+  );
   outside = λ w e at g t. (t kind.Tick);
 }

@@ -64,6 +64,12 @@ stood loaded nest cost trace next c b stack log l = record {
 
 -- ---- the new log
 
+-- a kind's count after a step at t
+abbrev pub counted_by : Loaded → Nest → List Event → ℕ → List Kind → List Kind → List Turned → Turned → Kind → ℕ
+counted_by loaded nest trace t stack stack' log e k =
+    wait_next nest k (is_waiting (sees trace (journal loaded log) t) stack k) (is_waiting (sees trace (journal loaded (log ++ e ∷ [])) t) stack' k) (Some e.kind)
+    (called loaded nest trace log k)
+
 -- what a step of a kind gives, by its log entry
 pub record Given (loaded : Loaded) (nest : Nest) (cost : ℕ) (trace : List Event) (c' : Brain) (b b' : Bank) (stack stack' : List Kind) (log : List Turned)
     (e : Turned) : Type 0 where
@@ -72,7 +78,7 @@ pub record Given (loaded : Loaded) (nest : Nest) (cost : ℕ) (trace : List Even
   pub time : b'.time ≡ b.time
   pub out : Stood loaded nest trace c' b' (notes_in log ++ e.notes) stack'
   pub patient : Patient nest c'.hold b'.masked stack' (sees trace (journal loaded (log ++ e ∷ [])) b.time)
-      (λ k. wait_next nest k (is_waiting (sees trace (journal loaded log) b.time) stack k) (is_waiting (sees trace (journal loaded (log ++ e ∷ [])) b.time) stack' k) (Some e.kind) (called loaded nest trace log k))
+      (λ k. counted_by loaded nest trace b.time stack stack' log e k)
   pub owes : (k : Kind) → is_open stack' k ≡ true → own_steps k (log ++ e ∷ []) + left_of c' k ≤ most k
   pub reached : (k : Kind) → is_open stack' k ≡ true
       → after cost trace (log ++ e ∷ []) ≡ uses cost trace (steps_since k (log ++ e ∷ []) + 1) (entered_at k (log ++ e ∷ []))
@@ -97,7 +103,7 @@ logged_after loaded nest cost trace c c' b b' stack stack' log e some at l g =
     let ends : All (λ x. stall_end x ≤ b.time + cost) trace = All-later stall_end trace b.time (b.time + cost) (omega arith) l.stalls in
     let next : after cost trace (log ++ e ∷ []) ≡ b.time + cost =
     after-push cost trace log e ∙ ap (λ (t : ℕ). next_step cost trace t) at ∙ free_ended trace b.time (b.time + cost) l.stalls (omega arith) in
-    let counts : (k : Kind) → called loaded nest trace (log ++ e ∷ []) k ≡ wait_next nest k (is_waiting (sees trace (journal loaded log) b.time) stack k) (is_waiting (sees trace (journal loaded (log ++ e ∷ [])) b.time) stack' k) (Some e.kind) (called loaded nest trace log k) =
+    let counts : (k : Kind) → called loaded nest trace (log ++ e ∷ []) k ≡ counted_by loaded nest trace b.time stack stack' log e k =
     (λ k. called-push loaded nest trace log e k
     ∙ counts_by nest k (Some e.kind) (called loaded nest trace log k) (λ t. sees trace (journal loaded log) t)
     (λ t. sees trace (journal loaded (log ++ e ∷ [])) t) e.tick b.time (open_in loaded log) stack (open_in loaded (log ++ e ∷ [])) stack'

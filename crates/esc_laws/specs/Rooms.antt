@@ -22,7 +22,7 @@ use Rattle.interrupt_machine.specs.Did.{accessed}
 use Rattle.interrupt_machine.specs.Open.{kind_of}
 use Rattle.esc_laws.specs.Windowed.{WindowRuleAt}
 use Rattle.esc_laws.specs.Nested.{NestRuleAt}
-use Rattle.esc_laws.specs.Tied.{SignalTied, cap_view, WindowSound, TickTied, MainTied, OrdersTied, GatesTied}
+use Rattle.esc_laws.specs.Tied.{SignalTied, CapView, cap_view, WindowSound, TickTied, MainTied, OrdersTied, GatesTied}
 use Rattle.esc_laws.specs.World.{World, so_far, noted, step_notes, after_step, open_left}
 
 -- ---- what all handlers share
@@ -48,8 +48,12 @@ pub record Undriven (hi lo duty : ℕ) (flag : Bool) (comm : Option ℕ) (stuck 
   pub disarmed : comm ≡ None
   pub no_mark : stuck ≡ false
 
+-- what CAP's tie speaks of
+abbrev pub cap_seen : World → CapView
+cap_seen w = cap_view w.trace w.core w.bank (so_far w)
+
 abbrev pub CapTie : World → Type 0
-CapTie w = SignalTied (so_far w).signal w.core.cap_at (cap_view w.trace w.core w.bank (so_far w)) × WindowSound w.bank.window w.bank.time
+CapTie w = SignalTied (so_far w).signal w.core.cap_at (cap_seen w) × WindowSound w.bank.window w.bank.time
 
 -- the number that was read last is that of control's newest tick
 abbrev pub TickTie : World → Type 0

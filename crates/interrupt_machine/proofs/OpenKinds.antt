@@ -124,7 +124,9 @@ pub live_less : (before after : Kind → ℕ) (k : Kind) (outer : List Kind) →
     → ((j : Kind) → j ≢ k → after j ≡ before j) → (j : Kind) → is_open outer j ≡ true → 0 < after j
 live_less before after k outer stack live others j o = elim (same_kind j k) [
   | inl s ↦ absurd
-      (let shut = closed_above outer k stack.1 stack.0 in let found : is_open outer k ≡ true = subst (λ (x : Kind). is_open outer x ≡ true) s o in (let z = sym found ∙ shut in cc))
+      (let shut = closed_above outer k stack.1 stack.0 in
+      let found : is_open outer k ≡ true = subst (λ (x : Kind). is_open outer x ≡ true) s o in
+      (let z = sym found ∙ shut in cc))
   | inr ne ↦ rw (others j ne) (live j (or_right _ (is_open outer j) o))
 ]
 

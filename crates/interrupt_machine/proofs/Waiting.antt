@@ -316,7 +316,8 @@ entry_responds : (nest : Nest) (hold hold' : ℕ) (stack : List Kind) (due due' 
     → Responds nest hold' false (j ∷ stack) due' (log ++ Stepped stack due (j ∷ stack) due' ∷ [])
 entry_responds nest hold hold' stack due due' j log chosen r =
     responds nest hold' false (j ∷ stack) due' _ (same_patient nest hold' false (j ∷ stack) due' _ _
-    (λ k. waited-push nest log (Stepped stack due (j ∷ stack) due') k ∙ ap (λ (by : Option Kind). wait_next nest k (is_waiting due stack k) (is_waiting due' (j ∷ stack) k) by (waited nest log k)) (longer j stack))
+    (λ k. waited-push nest log (Stepped stack due (j ∷ stack) due') k
+    ∙ ap (λ (by : Option Kind). wait_next nest k (is_waiting due stack k) (is_waiting due' (j ∷ stack) k) by (waited nest log k)) (longer j stack))
     (entry_patient nest stack due due due' j hold hold' (waited nest log) (λ k s. (waits_parts due stack k s).0) chosen r.patient))
 
 -- the entry as a step tells it
@@ -333,7 +334,8 @@ own_responds : (nest : Nest) (hold hold' : ℕ) (masked masked' : Bool) (j : Kin
     → Responds nest hold' masked' stack' due' (log ++ Stepped (j ∷ outer) due stack' due' ∷ [])
 own_responds nest hold hold' masked masked' j outer stack' due due' none goes by some most less log r =
     responds nest hold' masked' stack' due' _ (same_patient nest hold' masked' stack' due' _ _
-    (λ k. waited-push nest log (Stepped (j ∷ outer) due stack' due') k ∙ ap (λ (o : Option Kind). wait_next nest k (is_waiting due (j ∷ outer) k) (is_waiting due' stack' k) o (waited nest log k)) by)
+    (λ k. waited-push nest log (Stepped (j ∷ outer) due stack' due') k
+    ∙ ap (λ (o : Option Kind). wait_next nest k (is_waiting due (j ∷ outer) k) (is_waiting due' stack' k) o (waited nest log k)) by)
     (own_patient nest j outer stack' due due due' masked masked' hold hold' (waited nest log) (λ m k s. (waits_parts due (j ∷ outer) k s).0) none goes some
     most less r.patient))
 

@@ -19,7 +19,10 @@ returns-clause-made g c =
     record {
       answers = made.answers;
       stepped = rw (core_step-goes c.args.kind made.answers c.args.self.now c.args.regs.now goes, ← c.count_down.ensures) made.stepped;
-      flash_is = rw
-          (core_asked-goes c.args.kind c.args.self.now c.args.regs.now made.answers goes, ← counted_asked c.args.kind c.args.self.now c.args.regs.now made.answers, ← c.count_down.ensures)
+      flash_is = rw (
+        core_asked-goes c.args.kind c.args.self.now c.args.regs.now made.answers goes,
+        ← counted_asked c.args.kind c.args.self.now c.args.regs.now made.answers,
+        ← c.count_down.ensures,
+      )
           made.flash_is;
     }
