@@ -14,6 +14,7 @@ use Rattle.settings_block.specs.declared.stored.Loaded.{Loaded}
 use Rattle.timer_regs.specs.Bank.{Bank}
 use Rattle.timer_regs.specs.Effects.{advanced, after_entry, is_due}
 use Rattle.timer_regs.specs.NextDue.{IsNextDue, becomes_due}
+use Rattle.timer_regs.proofs.Advance.{advanced-now}
 use Rattle.interrupt_machine.specs.declared.nest.Nest.{Nest}
 use Rattle.interrupt_machine.specs.declared.firmware.Did.{Did}
 use Rattle.interrupt_machine.specs.Open.{due_now, highest, is_idle, is_open, next_entry}
@@ -131,7 +132,7 @@ none_seen loaded nest trace c b log due t u k keeps g ties none is le from below
     shut_now : due_now c.orders.save_asked (advanced b u) k ≡ false
     shut_now = elim (cases_lt b.time u) [
       | inl later ↦ due_by_regs c.orders.save_asked b u k (highest_none (due_now c.orders.save_asked b) k none) (λ e. stays_shut (is_due b k) (is_due (advanced b u) k) e (none_before due b k t u is le later below))
-      | inr not_later ↦ (let same : b.time ≡ u = omega arith in rw (sym same) (highest_none (due_now c.orders.save_asked b) k none))
+      | inr not_later ↦ (let same : b.time ≡ u = omega arith in subst (λ (t : ℕ). due_now c.orders.save_asked (advanced b t) k ≡ false) same (subst (λ (x : Bank). due_now c.orders.save_asked x k ≡ false) (advanced-now b) (highest_none (due_now c.orders.save_asked b) k none)))
     ]
 
     by_seen : (v : Bool) → sees trace (journal loaded log) u k ≡ v → sees trace (journal loaded log) u k ≡ false
