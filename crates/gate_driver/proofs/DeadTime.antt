@@ -1,5 +1,5 @@
 -- The dead time through a step: by registers and off times, and so by the notes.
-use Rattle.std.proofs.Common.{◌≡◌, ◌≤◌, ◌+◌, inl, inr, ℕ, Bool, true, false, ◌&&◌, ◌==◌, bit_and, bit_or, if◌then◌else◌, nat_lt, List, ◌∷◌, Option, Some, None, refl, sym, ◌∙◌, ap, subst, arith}
+use Rattle.std.proofs.Common.{◌≡◌, ◌≤◌, ◌+◌, inl, inr, ℕ, Bool, true, false, ◌&&◌, ◌==◌, bit_and, bit_or, if◌then◌else◌, nat_lt, List, ◌∷◌, Some, None, refl, sym, ◌∙◌, ap, subst, arith}
 use Rattle.std.proofs.lemmas.Bool.Decides.{nat_tests}
 use Rattle.esc_base.specs.declared.gate.Leg.{Leg}
 use Rattle.esc_base.specs.declared.note.Note.{Note}
@@ -7,10 +7,10 @@ use Rattle.esc_base.specs.declared.note.Note.TheVariants as note
 use Rattle.esc_base.specs.Legs.{is_on, mask_of, IsApart}
 use Rattle.esc_base.specs.Numbers.{as_tick}
 use Rattle.timer_regs.specs.Bank.{Bank}
-use Rattle.gate_driver.specs.Gated.{Legs, Gated, at_leg, offs, gates_after, wait_of, high_wait, low_wait}
-use Rattle.gate_driver.specs.DeadSafe.{high_at, low_at, high_free_at, low_free_at, GateSafe, IsSafe, IsTied, with_gate}
+use Rattle.gate_driver.specs.Gated.{Gated, at_leg, offs, gates_after, wait_of, high_wait, low_wait}
+use Rattle.gate_driver.specs.DeadSafe.{high_at, low_at, GateSafe, IsTied}
 use Rattle.gate_driver.specs.Acted.{KeepsDeadTime, IsSaid}
-use Rattle.gate_driver.proofs.Bits.{on_and, or_on, or_is, off_is}
+use Rattle.gate_driver.proofs.Bits.{on_and, or_is, off_is}
 use Rattle.gate_driver.proofs.OffTimes.{off_stays, tied_at, tied_after}
 
 -- ---- when a switch may turn on

@@ -1,13 +1,11 @@
 -- Each step of each program: what it leaves of the word, that off times follow it exactly, and that it keeps the dead time.
-use Rattle.std.proofs.Common.{◌≡◌, ◌≤◌, ◌<◌, ◌+◌, ◌-◌, ℕ, Bool, true, false, nat_lt, bit_and, Option, Some, None, List, refl, sym, ◌∙◌, ap, subst, arith, lit<, lit≤}
+use Rattle.std.proofs.Common.{◌≡◌, ◌≤◌, ◌+◌, ◌-◌, ℕ, Bool, true, false, nat_lt, Option, Some, None, List, refl, ◌∙◌, arith, lit<, lit≤}
 use Rattle.std.specs.Int.Bits.{and_zero_r}
 use Rattle.esc_base.specs.declared.gate.Leg.{Leg}
 use Rattle.esc_base.specs.declared.note.Note.{Note}
 use Rattle.esc_base.specs.Legs.{is_on, mask_of, IsApart}
 use Rattle.timer_regs.specs.Bank.{Bank}
-use Rattle.timer_regs.specs.Effects.{read_value}
-use Rattle.timer_regs.specs.Access.{Access, accessed}
-use Rattle.timer_regs.specs.declared.regs.Reg.TheVariants as reg
+use Rattle.timer_regs.specs.Access.{accessed}
 use Rattle.commutation.specs.Sectors.{high_of, low_of}
 use Rattle.gate_driver.specs.declared.progress.Progress.{Progress}
 use Rattle.gate_driver.specs.declared.all_off.AllOff.{AllOff}

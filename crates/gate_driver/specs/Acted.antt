@@ -8,7 +8,7 @@ use Rattle.esc_base.specs.Numbers.{as_tick}
 use Rattle.timer_regs.specs.Bank.{Bank}
 use Rattle.timer_regs.specs.Effects.{written}
 use Rattle.timer_regs.specs.Access.{Access, accessed}
-use Rattle.timer_regs.specs.Access.Access.{NoAccess, Reads, Writes}
+use Rattle.timer_regs.specs.Access.Access.{NoAccess, Writes}
 use Rattle.timer_regs.specs.declared.regs.Reg.{Reg}
 use Rattle.gate_driver.specs.declared.progress.Progress.{Progress}
 use Rattle.gate_driver.specs.declared.progress.Progress.TheVariants.{More, Done, Later}

@@ -1,9 +1,3 @@
-use Rattle.std.proofs.Common.{◌≡◌, Option, subst}
-use Rattle.esc_base.specs.declared.gate.Leg.{Leg}
-use Rattle.timer_regs.specs.Bank.{Bank}
-use Rattle.timer_regs.specs.Access.{accessed}
-use Rattle.gate_driver.specs.declared.chop.Chop.{Chop}
-use Rattle.gate_driver.specs.Chop.{chop_step, HasChopped}
 use Rattle.gate_driver.proofs.Programs.{chop_keeps, has_chopped, off_times_of, dead_time_of, one_access_of, no_time_of, dead_safe_of}
 use Rattle.gate_driver.proofs.chop.Chop.step.Goals as goal
 
