@@ -37,14 +37,17 @@ pwm_law = record {
 
 -- with no duty time brings no PWM event
 comm_later : (w : World) (u : ℕ) → Tie kind.Comm w → Tie kind.Comm (at_time w u)
-comm_later w u t = (t.0, record {
-  high_off = t.1.high_off;
-  low_off = t.1.low_off;
-  no_duty = t.1.no_duty;
-  no_event = ap (λ (d : ℕ). w.bank.flag || has_edge d w.bank.time u) t.1.no_duty ∙ ap (λ (f : Bool). f || has_edge 0 w.bank.time u) t.1.no_event;
-  disarmed = t.1.disarmed;
-  no_mark = t.1.no_mark;
-})
+comm_later w u t = (
+  t.0,
+  record {
+    high_off = t.1.high_off;
+    low_off = t.1.low_off;
+    no_duty = t.1.no_duty;
+    no_event = ap (λ (d : ℕ). w.bank.flag || has_edge d w.bank.time u) t.1.no_duty ∙ ap (λ (f : Bool). f || has_edge 0 w.bank.time u) t.1.no_event;
+    disarmed = t.1.disarmed;
+    no_mark = t.1.no_mark;
+  },
+)
 
 comm_law : HandlerLaw kind.Comm
 comm_law = record {
