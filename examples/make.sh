@@ -5,6 +5,8 @@
 #   make.sh journals    the traces, then NAME.journal (standard output) for each, and NAME.error (standard error) where
 #                       the program refuses the trace
 #
+# NAME.options, where it is there, has the options of that run.
+#
 # Times are in ticks of 48 MHz. AM32SIM names another program than the repository's own.
 here=$(cd "$(dirname "$0")" && pwd) || exit 1
 program=${AM32SIM:-$here/../am32sim}
@@ -164,6 +166,12 @@ sample stall <<'EOF'
     good(1000, 0); stall(4000, 8000); good(5000, 500); good(13000, 501); end(17000)
 EOF
 
+# At a step cost of 16 a control tick takes long enough for a frame to end in it: CAP enters between two steps of TICK.
+sample nested <<'EOF'
+    good(1190, 0); good(5000, 48); good(8390, 49); end(12000)
+EOF
+echo "--nest 7 --cost 16" >"$here/nested.options"
+
 # A trace whose second frame has an impossible level: the journal ends before it.
 sample refused <<'EOF'
     good(1000, 0); good(5000, 48); print "9000 E 2"; end(12000)
@@ -174,6 +182,8 @@ EOF
 echo "0 END" | "$program" run >/dev/null || exit 1
 for trace in "$here"/*.trace; do
     name=${trace%.trace}
-    "$program" run <"$trace" >"$name.journal" 2>"$name.error"
+    # The options stand in NAME.options, words between spaces.
+    # shellcheck disable=SC2046
+    "$program" run $(cat "$name.options" 2>/dev/null) <"$trace" >"$name.journal" 2>"$name.error"
     [ -s "$name.error" ] || rm "$name.error"
 done
