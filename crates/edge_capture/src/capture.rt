@@ -130,10 +130,7 @@ impl Capture {
     fn hears(&self, edge: Edge) -> bool
         ensures { result ≡ window_hears self.now edge }
     {
-        self.armed
-            && self.opened.0 < edge.t.0
-            && !self.is_over(edge.t)
-            && !self.is_early(edge)
+        self.armed && self.opened.0 < edge.t.0 && !self.is_over(edge.t) && !self.is_early(edge)
     }
 
     // It has heard the last edge allowed by this tick, or the idle limit has passed.
