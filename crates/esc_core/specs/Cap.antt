@@ -6,7 +6,7 @@ use Rattle.esc_base.specs.declared.signal.Edge.{Edge}
 use Rattle.esc_base.specs.declared.signal.Frame.{Frame}
 use Rattle.esc_base.specs.declared.note.Note.{Note}
 use Rattle.esc_base.specs.declared.note.Note.TheVariants as note
-use Rattle.esc_base.specs.Numbers.{mode_number, why_number}
+use Rattle.esc_base.specs.Numbers.{as_tick, bit_of, mode_number, why_number}
 use Rattle.edge_capture.specs.Edges.{last_at}
 use Rattle.timer_regs.specs.Bank.{Bank}
 use Rattle.timer_regs.specs.Effects.{read_value}
@@ -23,7 +23,6 @@ use Rattle.esc_core.specs.Brain.{Brain}
 use Rattle.esc_core.specs.Judge.{inputs_of, judged}
 use Rattle.esc_core.specs.Orders.{obeyed_if}
 use Rattle.esc_core.specs.Stepped.{Stepped, goes_on, goes_back}
-
 
 -- the edge that a register shows
 abbrev pub edge_of : ℕ → Edge
@@ -49,7 +48,6 @@ opens c b = record {
 abbrev pub command_note : ℕ → Option Act → List Note
 command_note t None = []
 command_note t (Some act) = note.Command (as_tick t) (number_of act) ∷ []
-
 
 -- a pause of 600 ticks after a bad window, from the tick of its verdict
 abbrev pub pause_from : ℕ → ℕ

@@ -2,11 +2,11 @@ ghost use Rattle.std.specs.Prelude.{◌≡◌, ◌+◌, ◌<◌, ◌≤◌, ◌^
 ghost use Rattle.esc_base.specs.declared.kind.Kind.{Kind};
 ghost use Rattle.esc_base.specs.declared.kind.Kind.TheVariants as kinds;
 ghost use Rattle.esc_base.specs.Numbers.{mode_of};
+ghost use Rattle.esc_base.specs.Times.{is_reached as reached};
 ghost use Rattle.timer_regs.specs.Kinds.{has_kind};
 ghost use Rattle.timer_regs.specs.Sound.{IsSound};
 ghost use Rattle.timer_regs.specs.Rest.{rests_from, put_off as put_off_at};
 ghost use Rattle.timer_regs.specs.Effects.{reset, counted, read_value, IsSmall, after_read, IsRange, written, advanced, after_line, is_due, after_entry, edges_read, edge_read, shown_edge};
-ghost use Rattle.esc_base.specs.Times.{is_reached as reached};
 ghost use Rattle.timer_regs.specs.NextDue.{tick_of, sooner as sooner_of, IsFirstDue, IsNextDue};
 
 use crate::KindSet;
