@@ -2,7 +2,9 @@
 use Rattle.std.proofs.Common.{◌≡◌, ◌≤◌, ◌<◌, ◌+◌, ℕ, Bool, true, false, if◌then◌else◌, List, [], ◌∷◌, ◌++◌, length, Option, Some, None, refl, sym, ◌∙◌, ap, subst, arith, lit≤, ◌⊎◌, inl, inr}
 use Rattle.esc_base.specs.declared.kind.Kind.{Kind}
 use Rattle.esc_base.specs.declared.kind.Kind.TheVariants as kind
+use Rattle.esc_base.specs.declared.signal.Edge.{Edge}
 use Rattle.esc_base.specs.declared.signal.Frame.{Frame}
+use Rattle.esc_base.specs.Times.{least_pause}
 use Rattle.esc_base.specs.declared.signal.Mode.{Mode}
 use Rattle.esc_base.specs.declared.signal.Mode.TheVariants as mode
 use Rattle.esc_base.specs.declared.event.Event.{Event}
@@ -14,6 +16,7 @@ use Rattle.esc_base.specs.Trace.{Line, line, tick_of, differ}
 use Rattle.esc_base.proofs.TraceLaws.{line-push}
 use Rattle.edge_capture.specs.Modes.{most}
 use Rattle.timer_regs.specs.Bank.{Bank}
+use Rattle.timer_regs.specs.Rest.{rests_from, put_off}
 use Rattle.timer_regs.specs.Effects.{after_line, read_value}
 use Rattle.timer_regs.specs.declared.regs.Reg.TheVariants as reg
 use Rattle.interrupt_machine.specs.Did.{NoAccess, Reads}
@@ -38,15 +41,16 @@ use Rattle.esc_core.specs.Firmware.{cap_left, counted_down}
 use Rattle.esc_core.proofs.Bounds.{cap_moves}
 use Rattle.esc_laws.specs.Place.{Signal, Listens, Judged, Rests}
 use Rattle.esc_laws.specs.Windowed.{verdict_note, Answers, AnswersAt, OpensAt}
-use Rattle.esc_laws.specs.Tied.{cap_view, IsClosing, IsCopying, IsJudged, SignalTied, WindowSound, MainTied}
+use Rattle.esc_laws.specs.Tied.{cap_view, IsClosing, IsCopying, IsJudged, SignalTied, TimerTied, WindowSound, MainTied}
 use Rattle.esc_laws.specs.World.{World, so_far, at_time, after_outside}
 use Rattle.esc_laws.specs.Rooms.{Ground, CapTie, StepKeeps}
 use Rattle.esc_laws.proofs.Pushes.{All-later}
 use Rattle.esc_laws.proofs.Facts.{cap_shut}
 use Rattle.esc_laws.proofs.Saves.{inputs_kept, acting_named, obeyed_tied, orders_other}
-use Rattle.esc_laws.proofs.CapTies.{start_tied, copy_goes, copy_tied, good_tied, opens_tied, pause_tied, back_tied, back_done, back_may}
+use Rattle.esc_laws.proofs.CapTies.{start_tied, copy_goes, copy_tied, good_tied, opens_tied, pause_tied, back_tied, back_timer, timer_off, timer_grows, back_done, back_may}
 use Rattle.esc_laws.proofs.Lines.{plain_follows, edge_now, edge_bank, edge_follows, edge_sound, line_changes, line_same}
 use Rattle.esc_laws.proofs.Dues.{cap_called, cap_entered, signal_follows, time_follows}
+use Rattle.esc_laws.proofs.Rests.{set_now}
 use Rattle.esc_laws.proofs.Law.{HandlerLaw, mask_free}
 use Rattle.esc_laws.proofs.RoomSteps.{ground_noted, inside, popped, if_true, if_false}
 
@@ -64,7 +68,7 @@ begins : (x : World) (outer : List Kind) (w m : ℕ) → Ground x → WindowSoun
 begins x outer w m g sound e k on = record {
   fits = tt;
   ground = g;
-  tie = (start_tied x.trace x.core x.bank (so_far x) w m e (few x.bank sound) k, sound);
+  tie = (start_tied x.trace x.core x.bank (so_far x) w m e (few x.bank sound) k, sound, rw e tt);
   others = elim [ kind.Cap ↦ λ ne t. absurd (ne refl) | j ↦ λ ne t. t ];
   stack_is = on;
 }
@@ -74,7 +78,7 @@ copies : (v : Bool) (x : World) (outer : List Kind) (w m left : ℕ) → v ≡ t
 copies true x outer w m left v g sound e k on = record {
   fits = tt;
   ground = g;
-  tie = (copy_tied x.trace x.core x.bank (so_far x) w m left e sound g.small k, sound);
+  tie = (copy_tied x.trace x.core x.bank (so_far x) w m left e sound g.small k, sound, rw e tt);
   others = elim [ kind.Cap ↦ λ ne t. absurd (ne refl) | j ↦ λ ne t. t ];
   stack_is = on;
 }
@@ -82,22 +86,26 @@ copies false x outer w m left v g sound e k on = cc
 
 -- ---- it opens a window, or sets the timer
 
-open_window : (x : World) (outer : List Kind) (s : Signal) → Ground x → (so_far x).signal ≡ s → OpensAt s x.bank.time → x.bank.timer ≡ None
+open_window : (x : World) (outer : List Kind) (s : Signal) → Ground x → (so_far x).signal ≡ s → OpensAt x.trace s (so_far x).cap_entered x.bank.time → x.bank.timer ≡ None
     → ((so_far x).verdicts ≡ 1) ⊎ (((so_far x).verdicts ≡ 0) × ((so_far x).windows ≡ 0)) → (so_far x).stack ≡ kind.Cap ∷ outer → StepKeeps kind.Cap outer x (opens x.core x.bank)
 open_window x outer s g e may none done on = record {
   fits = (record { at = refl; no_entry = refl; save = λ e. cc; window = (rw e may, g.control.ties.mode_is); nest = inside (so_far x).stack kind.Cap outer on }, tt);
   ground = ground_noted x (note.Window (as_tick x.bank.time) (mode_number x.core.control.mode)) refl refl tt refl g;
-  tie = (opens_tied x.trace x.core x.bank (so_far x) g.edges none done, record { past = λ k d l. absurd (omega arith); order = λ a b le l. absurd (omega arith); few = omega arith });
+  tie = (opens_tied x.trace x.core x.bank (so_far x) g.edges none done, record { past = λ k d l. absurd (omega arith); order = λ a b le l. absurd (omega arith); few = omega arith }, tt);
   others = elim [ kind.Cap ↦ λ ne t. absurd (ne refl) | j ↦ λ ne t. t ];
   stack_is = on;
 }
 
-pauses : (x : World) (outer : List Kind) (f at : ℕ) (opens_next : Bool) → Ground x → WindowSound x.bank.window x.bank.time → (so_far x).signal ≡ Judged f opens_next → IsJudged (cap_view x.trace x.core x.bank (so_far x)) → opens_next ≡ false → at ≡ f + 600
+pauses : (x : World) (outer : List Kind) (f at : ℕ) (opens_next : Bool) → Ground x → WindowSound x.bank.window x.bank.time → (so_far x).signal ≡ Judged f opens_next → IsJudged (cap_view x.trace x.core x.bank (so_far x)) → opens_next ≡ false → at ≡ f + least_pause
     → (so_far x).stack ≡ kind.Cap ∷ outer → StepKeeps kind.Cap outer x (cap_step (cap.Pause at) x.core x.bank)
 pauses x outer f at opens_next g sound e k shut is on = record {
   fits = tt;
   ground = g;
-  tie = (pause_tied x.trace x.core x.bank (so_far x) f at opens_next e k shut is, sound);
+  tie = (
+    pause_tied x.trace x.core x.bank (so_far x) f at opens_next e k shut,
+    sound,
+    rw (e, is) (set_now (line x.trace).edges f x.bank.time (rests_from x.bank.changed) g.edges g.rested),
+  );
   others = elim [ kind.Cap ↦ λ ne t. absurd (ne refl) | j ↦ λ ne t. t ];
   stack_is = on;
 }
@@ -138,8 +146,8 @@ good : (o : Option Act) (x : World) (outer : List Kind) (frame : Frame) (w m : �
     → StepKeeps kind.Cap outer x (record { core = record x.core { cap_at = cap.Open; control = after_frame x.core.control frame.value; orders = obeyed_if x.core.orders o }; access = NoAccess; notes = note.Good (as_tick x.bank.time) frame.value (bit_of frame.telemetry) ∷ command_note x.bank.time o; over = false })
 good None x outer frame w m g sound k answers on named st = record {
   fits = (record { at = refl; no_entry = refl; save = λ e. cc; window = answers; nest = inside (so_far x).stack kind.Cap outer on }, tt);
-  ground = record { control = st; orders = orders_other x.loaded x.core.orders (note.Good (as_tick x.bank.time) frame.value (bit_of frame.telemetry)) x.back refl g.orders; level = g.level; edges = g.edges; small = g.small };
-  tie = (good_tied None frame x.trace x.core x.bank (so_far x) w m k, sound);
+  ground = record { control = st; orders = orders_other x.loaded x.core.orders (note.Good (as_tick x.bank.time) frame.value (bit_of frame.telemetry)) x.back refl g.orders; level = g.level; edges = g.edges; rested = g.rested; small = g.small };
+  tie = (good_tied None frame x.trace x.core x.bank (so_far x) w m k, sound, tt);
   others = elim [ kind.Cap ↦ λ ne t. absurd (ne refl) | j ↦ λ ne t. t ];
   stack_is = on;
 }
@@ -148,8 +156,8 @@ good (Some act) x outer frame w m g sound k answers on named st =
     let here = inside (so_far x).stack kind.Cap outer on in
     record {
       fits = (record { at = refl; no_entry = refl; save = λ e. cc; window = answers; nest = here }, (record { at = refl; no_entry = refl; save = λ e. cc; window = tt; nest = here }, tt));
-      ground = record { control = st; orders = obeyed_tied x.loaded x.core.orders act (as_tick x.bank.time) (n ∷ x.back) (named act refl) (orders_other x.loaded x.core.orders n x.back refl g.orders); level = g.level; edges = g.edges; small = g.small };
-      tie = (good_tied (Some act) frame x.trace x.core x.bank (so_far x) w m k, sound);
+      ground = record { control = st; orders = obeyed_tied x.loaded x.core.orders act (as_tick x.bank.time) (n ∷ x.back) (named act refl) (orders_other x.loaded x.core.orders n x.back refl g.orders); level = g.level; edges = g.edges; rested = g.rested; small = g.small };
+      tie = (good_tied (Some act) frame x.trace x.core x.bank (so_far x) w m k, sound, tt);
       others = elim [ kind.Cap ↦ λ ne t. absurd (ne refl) | kind.Main ↦ λ ne t. still_asked x.core.main_at x.core.orders (Some act) (so_far x).saves t | j ↦ λ ne t. t ];
       stack_is = on;
     }
@@ -162,30 +170,30 @@ judges (Good frame) x outer w m g sound k answers on =
 judges (Bad why) x outer w m g sound k answers on = record {
   fits = (record { at = refl; no_entry = refl; save = λ e. cc; window = answers; nest = inside (so_far x).stack kind.Cap outer on }, tt);
   ground = ground_noted x (note.Bad (as_tick x.bank.time) (why_number why)) refl refl tt refl g;
-  tie = ((record { verdict = ap (λ (n : ℕ). n + 1) k.no_verdict; taken = k.taken; running = k.hears.running; no_timer = k.hears.no_timer }, (refl, refl)), sound);
+  tie = ((record { verdict = ap (λ (n : ℕ). n + 1) k.no_verdict; taken = k.taken; running = k.hears.running; no_timer = k.hears.no_timer }, (refl, refl)), sound, tt);
   others = elim [ kind.Cap ↦ λ ne t. absurd (ne refl) | j ↦ λ ne t. t ];
   stack_is = on;
 }
 judges (Found mode) x outer w m g sound k answers on = record {
   fits = (record { at = refl; no_entry = refl; save = λ e. cc; window = answers; nest = inside (so_far x).stack kind.Cap outer on }, tt);
-  ground = record { control = found_stands x.core.control x.back (as_tick x.bank.time) mode g.control; orders = orders_other x.loaded x.core.orders (note.Detected (as_tick x.bank.time) (mode_number mode)) x.back refl g.orders; level = g.level; edges = g.edges; small = g.small };
-  tie = ((record { verdict = ap (λ (n : ℕ). n + 1) k.no_verdict; taken = k.taken; running = k.hears.running; no_timer = k.hears.no_timer }, refl), sound);
+  ground = record { control = found_stands x.core.control x.back (as_tick x.bank.time) mode g.control; orders = orders_other x.loaded x.core.orders (note.Detected (as_tick x.bank.time) (mode_number mode)) x.back refl g.orders; level = g.level; edges = g.edges; rested = g.rested; small = g.small };
+  tie = ((record { verdict = ap (λ (n : ℕ). n + 1) k.no_verdict; taken = k.taken; running = k.hears.running; no_timer = k.hears.no_timer }, refl), sound, tt);
   others = elim [ kind.Cap ↦ λ ne t. absurd (ne refl) | j ↦ λ ne t. t ];
   stack_is = on;
 }
 judges Nothing x outer w m g sound k answers on = record {
   fits = (record { at = refl; no_entry = refl; save = λ e. cc; window = answers; nest = inside (so_far x).stack kind.Cap outer on }, tt);
   ground = ground_noted x (note.Nothing (as_tick x.bank.time)) refl refl tt refl g;
-  tie = ((record { verdict = ap (λ (n : ℕ). n + 1) k.no_verdict; taken = k.taken; running = k.hears.running; no_timer = k.hears.no_timer }, (refl, refl)), sound);
+  tie = ((record { verdict = ap (λ (n : ℕ). n + 1) k.no_verdict; taken = k.taken; running = k.hears.running; no_timer = k.hears.no_timer }, (refl, refl)), sound, tt);
   others = elim [ kind.Cap ↦ λ ne t. absurd (ne refl) | j ↦ λ ne t. t ];
   stack_is = on;
 }
 
 -- ---- it returns
 
-returns : (x : World) (outer : List Kind) → Ground x → SignalTied (so_far x).signal cap.Back (cap_view x.trace x.core x.bank (so_far x)) → WindowSound x.bank.window x.bank.time → (so_far x).stack ≡ kind.Cap ∷ outer
+returns : (x : World) (outer : List Kind) → Ground x → SignalTied (so_far x).signal cap.Back (cap_view x.trace x.core x.bank (so_far x)) → WindowSound x.bank.window x.bank.time → TimerTied (so_far x).signal cap.Back (line x.trace).edges x.cap_since x.bank.timer → x.cap_since ≤ x.bank.time → (so_far x).stack ≡ kind.Cap ∷ outer
     → StepKeeps kind.Cap outer x (cap_step cap.Back x.core x.bank)
-returns x outer g tied sound on = record {
+returns x outer g tied sound timer past on = record {
   fits = (
     record {
       at = refl;
@@ -197,7 +205,11 @@ returns x outer g tied sound on = record {
     tt,
   );
   ground = ground_noted x (note.Leave (as_tick x.bank.time) 3) refl refl tt refl g;
-  tie = (back_tied x.trace x.core x.bank (so_far x) (so_far x).signal x.bank.time refl tied, sound);
+  tie = (
+    back_tied x.trace x.core x.bank (so_far x) (so_far x).signal x.bank.time refl tied,
+    sound,
+    back_timer (so_far x).signal (cap_view x.trace x.core x.bank (so_far x)) (line x.trace).edges x.cap_since x.bank.time x.bank.timer tied past timer,
+  );
   others = elim [ kind.Cap ↦ λ ne t. absurd (ne refl) | j ↦ λ ne t. t ];
   stack_is = popped (so_far x).stack kind.Cap outer on;
 }
@@ -207,25 +219,30 @@ returns x outer g tied sound on = record {
 answered : (x : World) (s : Signal) (w m t : ℕ) (n : Note) → s ≡ Listens w m → Answers x.loaded x.trace w m (so_far x).cap_entered t n → AnswersAt x.loaded x.trace s (so_far x).cap_entered t n
 answered x s w m t n e a = rw e a
 
-steps : (s : Signal) (at : CapAt) (x : World) (outer : List Kind) → Ground x → WindowSound x.bank.window x.bank.time → (so_far x).signal ≡ s → SignalTied s at (cap_view x.trace x.core x.bank (so_far x)) → (so_far x).stack ≡ kind.Cap ∷ outer → 0 < cap_left at
+steps : (s : Signal) (at : CapAt) (x : World) (outer : List Kind) → Ground x → WindowSound x.bank.window x.bank.time → (so_far x).signal ≡ s → SignalTied s at (cap_view x.trace x.core x.bank (so_far x)) → TimerTied s at (line x.trace).edges x.cap_since x.bank.timer → x.cap_since ≤ x.bank.time → (so_far x).stack ≡ kind.Cap ∷ outer → 0 < cap_left at
     → StepKeeps kind.Cap outer x (cap_step at x.core x.bank)
-steps s cap.Shut x outer g sound e k on left = absurd (omega arith)
-steps s cap.Back x outer g sound e k on left = returns x outer g (subst (λ (r : Signal). SignalTied r cap.Back (cap_view x.trace x.core x.bank (so_far x))) (sym e) k) sound on
-steps (Listens w m) cap.Start x outer g sound e k on left = if_false x.core.paused kind.Cap outer x _ _ k.hears.running (begins x outer w m g sound e k on)
-steps (Listens w m) (cap.Copy rest) x outer g sound e k on left =
+steps s cap.Shut x outer g sound e k timer past on left = absurd (omega arith)
+steps s cap.Back x outer g sound e k timer past on left = 
+    returns x outer g (subst (λ (r : Signal). SignalTied r cap.Back (cap_view x.trace x.core x.bank (so_far x))) (sym e) k) sound
+    (subst (λ (r : Signal). TimerTied r cap.Back (line x.trace).edges x.cap_since x.bank.timer) (sym e) timer) past on
+steps (Listens w m) cap.Start x outer g sound e k timer past on left = if_false x.core.paused kind.Cap outer x _ _ k.hears.running (begins x outer w m g sound e k on)
+steps (Listens w m) (cap.Copy rest) x outer g sound e k timer past on left =
     copies (takes x.core.burst (next_edge x.core x.bank)) x outer w m rest (copy_goes x.trace x.core x.bank (so_far x) w m rest (few x.bank sound) sound g.small k) g sound e k on
-steps (Listens w m) cap.Judge x outer g sound e k on left =
+steps (Listens w m) cap.Judge x outer g sound e k timer past on left =
     judges (judged (inputs_of x.core.orders.settings) x.core.window x.core.burst) x outer w m g sound k.0
     (answered x (so_far x).signal w m x.bank.time _ e (answers_is x w m g k.0 k.1)) on
-steps (Judged f opens_next) cap.Open x outer g sound e k on left = open_window x outer (Judged f opens_next) g e k.1 k.0.no_timer (inl k.0.verdict) on
-steps (Judged f opens_next) (cap.Pause at) x outer g sound e k on left = pauses x outer f at opens_next g sound e k.0 k.1.0 k.1.1 on
-steps (Rests f r) cap.Start x outer g sound e k on left = if_true x.core.paused kind.Cap outer x _ _ k.paused (open_window x outer (Rests f r) g e k.reached k.no_timer (inr (k.no_verdict, k.no_window)) on)
-steps s at x outer g sound e k on left = absurd k
+steps (Judged f opens_next) cap.Open x outer g sound e k timer past on left = open_window x outer (Judged f opens_next) g e k.1 k.0.no_timer (inl k.0.verdict) on
+steps (Judged f opens_next) (cap.Pause at) x outer g sound e k timer past on left = pauses x outer f at opens_next g sound e k.0 k.1.0 k.1.1 on
+steps (Rests f r) cap.Start x outer g sound e k timer past on left = if_true x.core.paused kind.Cap outer x _ _ k.paused (open_window x outer (Rests f r) g e (record { rested = k.rested; entered_before = k.entered }) k.no_timer (inr (k.no_verdict, k.no_window)) on)
+steps s at x outer g sound e k timer past on left = absurd k
 
 -- ---- it is called and entered
 
 shut_tie : (w : World) → CapTie w → cap_left w.core.cap_at ≡ 0 → SignalTied (so_far w).signal cap.Shut (cap_view w.trace w.core w.bank (so_far w))
 shut_tie w t none = subst (λ (at : CapAt). SignalTied (so_far w).signal at (cap_view w.trace w.core w.bank (so_far w))) (cap_shut w.core.cap_at none) t.0
+
+shut_timer : (w : World) → CapTie w → cap_left w.core.cap_at ≡ 0 → TimerTied (so_far w).signal cap.Shut (line w.trace).edges w.cap_since w.bank.timer
+shut_timer w t none = subst (λ (at : CapAt). TimerTied (so_far w).signal at (line w.trace).edges w.cap_since w.bank.timer) (cap_shut w.core.cap_at none) t.2
 
 -- ---- time goes on, and events come
 
@@ -233,26 +250,31 @@ later : (w : World) (u : ℕ) → w.bank.time ≤ u → CapTie w → CapTie (at_
 later w u from t = (
   signal_follows (so_far w).signal w.core.cap_at (cap_view w.trace w.core w.bank (so_far w)) (cap_view w.trace w.core (at_time w u).bank (so_far w)) (time_follows (cap_view w.trace w.core w.bank (so_far w)) u from) t.0,
   record { past = All-later (λ e. e.t.0) w.bank.window.edges w.bank.time u from t.1.past; order = t.1.order; few = t.1.few },
+  t.2,
 )
 
 plain : (w : World) (e : Event) → line (w.trace ++ e ∷ []) ≡ line w.trace → w.bank.time ≤ tick_of e → CapTie w → CapTie (record w { trace = w.trace ++ e ∷ [] })
 plain w e same le t = (
   signal_follows (so_far w).signal w.core.cap_at (cap_view w.trace w.core w.bank (so_far w)) (cap_view (w.trace ++ e ∷ []) w.core w.bank (so_far w)) (plain_follows w.trace e w.core w.bank (so_far w) same le) t.0,
   t.1,
+  rw same t.2,
 )
 
 edge : (v : Bool) (w : World) (level : Bool) → differ w.bank.level level ≡ v → Ground w → CapTie w
-    → CapTie (record w { trace = w.trace ++ event.Edge (as_tick w.bank.time) level ∷ []; bank = record w.bank { level = (if v then edge_bank w.bank level else w.bank).level; window = (if v then edge_bank w.bank level else w.bank).window } })
+    → CapTie (record w { trace = w.trace ++ event.Edge (as_tick w.bank.time) level ∷ []; bank = record w.bank { level = (if v then edge_bank w.bank level else w.bank).level; window = (if v then edge_bank w.bank level else w.bank).window; timer = (if v then edge_bank w.bank level else w.bank).timer; changed = (if v then edge_bank w.bank level else w.bank).changed } })
 edge true w level d g t = (
   signal_follows (so_far w).signal w.core.cap_at (cap_view w.trace w.core w.bank (so_far w)) (cap_view (w.trace ++ event.Edge (as_tick w.bank.time) level ∷ []) w.core (edge_bank w.bank level) (so_far w))
       (edge_follows w.trace w.core w.bank (so_far w) level (ap (λ (l : Line). l.edges) (line_changes w.trace w.bank level (subst (λ (l : Bool). differ l level ≡ true) g.level d)))) t.0,
   edge_sound w.bank.window (edge_now w.bank level) t.1,
+  subst (λ (edges : List Edge). TimerTied (so_far w).signal w.core.cap_at edges w.cap_since (put_off w.bank.timer w.bank.time))
+      (sym (ap (λ (l : Line). l.edges) (line_changes w.trace w.bank level (subst (λ (l : Bool). differ l level ≡ true) g.level d))))
+      (timer_grows (so_far w).signal w.core.cap_at (line w.trace).edges (edge_now w.bank level) w.cap_since w.bank.timer g.edges t.2),
 )
 edge false w level d g t = plain w (event.Edge (as_tick w.bank.time) level) (line_same w.trace w.bank level (subst (λ (l : Bool). differ l level ≡ false) g.level d)) (omega arith) t
 
 outside : (w : World) (e : Event) → tick_of e ≡ w.bank.time → Ground w → CapTie w → CapTie (after_outside w e)
 outside w (event.Edge at level) is g t =
-    subst (λ (n : ℕ). CapTie (record w { trace = w.trace ++ event.Edge (as_tick n) level ∷ []; bank = record w.bank { level = (after_line w.bank level).level; window = (after_line w.bank level).window } })) (sym is)
+    subst (λ (n : ℕ). CapTie (record w { trace = w.trace ++ event.Edge (as_tick n) level ∷ []; bank = record w.bank { level = (after_line w.bank level).level; window = (after_line w.bank level).window; timer = (after_line w.bank level).timer; changed = (after_line w.bank level).changed } })) (sym is)
     (edge (differ w.bank.level level) w level refl g t)
 outside w (event.Comp at level) is g t = plain w (event.Comp at level) (line-push w.trace (event.Comp at level)) (omega arith) t
 outside w (event.Serial at byte) is g t = plain w (event.Serial at byte) (line-push w.trace (event.Serial at byte)) (omega arith) t
@@ -260,10 +282,14 @@ outside w (event.Stall at n) is g t = plain w (event.Stall at n) (line-push w.tr
 
 pub cap_law : HandlerLaw kind.Cap
 cap_law = record {
-  called = λ w g t none s. cap_called w.core.orders.save_asked (so_far w).signal w.trace w.core w.bank (so_far w) (shut_tie w (t kind.Cap) none) s;
-  entered = λ w g t none due. (cap_entered w.core.orders.save_asked (so_far w).signal w.trace w.core w.bank (so_far w) refl (shut_tie w (t kind.Cap) none) due, (t kind.Cap).1);
+  called = λ w g t none s. cap_called w.core.orders.save_asked (so_far w).signal w.trace w.core w.bank (so_far w) w.cap_since (shut_tie w (t kind.Cap) none) (shut_timer w (t kind.Cap) none) s;
+  entered = λ w g t none due. (
+    cap_entered w.core.orders.save_asked (so_far w).signal w.trace w.core w.bank (so_far w) w.cap_since refl (shut_tie w (t kind.Cap) none) (shut_timer w (t kind.Cap) none) due,
+    (t kind.Cap).1,
+    timer_off (so_far w).signal (line w.trace).edges w.cap_since None,
+  );
   beside = λ w. elim [ kind.Cap ↦ λ ne t. absurd (ne refl) | j ↦ λ ne t. t ];
-  steps = λ w saved outer g t above on left. steps (so_far w).signal w.core.cap_at w outer g (t kind.Cap).1 refl (t kind.Cap).0 on left;
+  steps = λ w saved outer g t above past on left. steps (so_far w).signal w.core.cap_at w outer g (t kind.Cap).1 refl (t kind.Cap).0 (t kind.Cap).2 past on left;
   need = λ c. lit≤ tt;
   mask = λ saved c b outer keeps left. mask_free kind.Cap (cap_left c.cap_at) c b outer _ refl refl keeps (cap_moves c.cap_at (counted_down c b) b left);
   later = λ w u from small g t. later w u from (t kind.Cap);

@@ -28,7 +28,7 @@ pub record HandlerLaw (k : Kind) : Type 0 where
   pub entered : (w : World) → Ground w → Ties w → left_of w.core k ≡ 0 → due_now w.core.orders.save_asked w.bank k ≡ true → Tie k (after_enter k w)
   pub beside : (w : World) (j : Kind) → j ≢ k → Tie j w → Tie j (after_enter k w)
   -- each of its steps, the return too
-  pub steps : (w : World) (saved : Bool) (outer : List Kind) → Ground w → Ties w → Above k w → (so_far w).stack ≡ k ∷ outer → 0 < left_of w.core k → StepKeeps k outer w (kind_step k saved w.core w.bank)
+  pub steps : (w : World) (saved : Bool) (outer : List Kind) → Ground w → Ties w → Above k w → w.cap_since ≤ w.bank.time → (so_far w).stack ≡ k ∷ outer → 0 < left_of w.core k → StepKeeps k outer w (kind_step k saved w.core w.bank)
   -- its steps and the mask
   pub need : (c : Brain) → 1 ≤ need_of c k
   pub mask : (saved : Bool) (c : Brain) (b : Bank) (outer : List Kind) → Keeps c b (k ∷ outer) → 0 < left_of c k → MaskKept k b (kind_step k saved (counted_down c b) b)

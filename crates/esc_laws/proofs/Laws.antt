@@ -23,7 +23,7 @@ law k = record {
   called = λ w g t none s. cc;
   entered = λ w g t none due. tt;
   beside = λ w. elim [ kind.Main ↦ λ ne t. t | j ↦ λ ne t. t ];
-  steps = λ w saved outer g t above on left. record {
+  steps = λ w saved outer g t above past on left. record {
     fits = (record { at = refl; no_entry = refl; save = λ e. cc; window = λ e. cc; nest = (inside (so_far w).stack k outer on, tt) }, tt);
     ground = ground_noted w (note.Leave (as_tick w.bank.time) (kind_number k)) refl refl tt refl g;
     tie = tt;

@@ -26,6 +26,7 @@ saves w saved outer g asked none on = record {
     orders = saved_tied w.loaded w.core.orders (as_tick w.bank.time) (result_of saved) w.back g.orders;
     level = g.level;
     edges = g.edges;
+    rested = g.rested;
     small = g.small;
   };
   tie = ap (λ (n : ℕ). n + 1) none;
@@ -50,7 +51,7 @@ main_law = record {
   called = λ w g t none s. g.orders.save_is ∙ s;
   entered = λ w g t none due. (due, refl);
   beside = λ w. elim [ kind.Main ↦ λ ne t. absurd (ne refl) | j ↦ λ ne t. t ];
-  steps = λ w saved outer g t above on left. steps w.core.main_at w saved outer g (t kind.Main) on left;
+  steps = λ w saved outer g t above past on left. steps w.core.main_at w saved outer g (t kind.Main) on left;
   need = λ c. lit≤ tt;
   mask = λ saved c b outer keeps left. mask_free kind.Main (main_left c.main_at) c b outer _ refl refl keeps (main_moves c.main_at saved (counted_down c b) b left);
   later = λ w u from small g t. (t kind.Main);

@@ -27,12 +27,13 @@ use Rattle.esc_laws.specs.Windowed.{WindowRuleAt, WindowRule}
 use Rattle.esc_laws.specs.Nested.{NestRuleAt, NestRule, IsAboveAll}
 use Rattle.esc_laws.specs.Steps.{opening, is_entry}
 use Rattle.esc_laws.specs.Saves.{is_save}
-use Rattle.esc_laws.specs.World.{World, placed, so_far, onto, noted, enters, after_enter, after_step, step_notes, counted, open_left, at_time, after_event, after_outside}
+use Rattle.esc_laws.specs.World.{World, placed, so_far, onto, noted, enters, after_enter, after_step, step_notes, counted, open_left, cap_since_step, at_time, after_event, after_outside}
 use Rattle.esc_laws.specs.Rooms.{Ground, Tie, Ties, AllFit, StepKeeps}
 use Rattle.esc_laws.proofs.Pushes.{All-later, place-push}
 use Rattle.esc_laws.proofs.Notes.{Said, said_push}
 use Rattle.esc_laws.proofs.Facts.{same_gates}
 use Rattle.esc_laws.proofs.Lines.{edge_now, edge_bank, line_changes, line_same}
+use Rattle.esc_laws.proofs.Rests.{rest_now}
 use Rattle.esc_laws.proofs.RoomSteps.{ground_noted}
 use Rattle.esc_laws.proofs.Laws.{law}
 
@@ -55,13 +56,13 @@ onto-reverse notes (n ∷ more) = ap (λ (back : List Note). onto more back) (sy
 
 -- ---- what holds between two steps, in the words of the rooms
 
-abbrev pub world_of : Loaded → Nest → List Event → Brain → Bank → List Note → World
-world_of loaded nest trace c b rest = record { loaded = loaded; nest = nest; trace = trace; core = c; bank = b; back = reverse (opening loaded ++ rest) }
+abbrev pub world_of : Loaded → Nest → List Event → Brain → Bank → ℕ → List Note → World
+world_of loaded nest trace c b since rest = record { loaded = loaded; nest = nest; trace = trace; core = c; bank = b; back = reverse (opening loaded ++ rest); cap_since = since }
 
-pub record Stood (loaded : Loaded) (nest : Nest) (trace : List Event) (c : Brain) (b : Bank) (rest : List Note) (stack : List Kind) : Type 0 where
+pub record Stood (loaded : Loaded) (nest : Nest) (trace : List Event) (c : Brain) (b : Bank) (since : ℕ) (rest : List Note) (stack : List Kind) : Type 0 where
   pub said : Said loaded nest trace b.time rest
-  pub ground : Ground (world_of loaded nest trace c b rest)
-  pub ties : (j : Kind) → Tie j (world_of loaded nest trace c b rest)
+  pub ground : Ground (world_of loaded nest trace c b since rest)
+  pub ties : (j : Kind) → Tie j (world_of loaded nest trace c b since rest)
   pub stack_is : (place (opening loaded ++ rest)).stack ≡ stack
 
 -- notes that fit are said
@@ -94,15 +95,15 @@ all_own : (k : Kind) (w : World) (notes : List Note) → AllFit k w notes → Al
 all_own k w [] f = All-nil (IsOwn k w.bank.time)
 all_own k w (n ∷ notes) f = All-cons (IsOwn k w.bank.time) n notes (f.0.at, f.0.no_entry, f.0.save) (all_own k (noted w n) notes f.1)
 
-pub step_made : (k : Kind) (saved : Bool) (loaded : Loaded) (nest : Nest) (trace : List Event) (c : Brain) (b : Bank) (rest : List Note) (outer : List Kind) → Stood loaded nest trace c b rest (k ∷ outer) → ((j : Kind) → kind_number k < kind_number j → left_of c j ≡ 0) → 0 < left_of c k
-    → Stood loaded nest trace (kind_step k saved (counted_down c b) b).core (accessed b (kind_step k saved (counted_down c b) b).access) (rest ++ step_notes b.time k (kind_step k saved (counted_down c b) b)) (open_left k outer (kind_step k saved (counted_down c b) b))
+pub step_made : (k : Kind) (saved : Bool) (loaded : Loaded) (nest : Nest) (trace : List Event) (c : Brain) (b : Bank) (since : ℕ) (rest : List Note) (outer : List Kind) → Stood loaded nest trace c b since rest (k ∷ outer) → since ≤ b.time → ((j : Kind) → kind_number k < kind_number j → left_of c j ≡ 0) → 0 < left_of c k
+    → Stood loaded nest trace (kind_step k saved (counted_down c b) b).core (accessed b (kind_step k saved (counted_down c b) b).access) (cap_since_step k b.time since) (rest ++ step_notes b.time k (kind_step k saved (counted_down c b) b)) (open_left k outer (kind_step k saved (counted_down c b) b))
     × All (IsOwn k b.time) (step_notes b.time k (kind_step k saved (counted_down c b) b))
-step_made k saved loaded nest trace c b rest outer i above left =
+step_made k saved loaded nest trace c b since rest outer i past above left =
     let s : Stepped = kind_step k saved (counted_down c b) b in
-    let before : World = world_of loaded nest trace c b rest in
+    let before : World = world_of loaded nest trace c b since rest in
     let w : World = counted before in
     let on : (so_far w).stack ≡ k ∷ outer = ap (λ (p : Place). p.stack) (placed-is (opening loaded ++ rest)) ∙ i.stack_is in
-    let keeps : StepKeeps k outer w s = (law k).steps w saved outer i.ground (λ j. counted_tie j before (i.ties j)) (λ j l. counted_left j c b ∙ above j l) on (rw (counted_left k c b) left) in
+    let keeps : StepKeeps k outer w s = (law k).steps w saved outer i.ground (λ j. counted_tie j before (i.ties j)) (λ j l. counted_left j c b ∙ above j l) past on (rw (counted_left k c b) left) in
     let back : onto (step_notes b.time k s) (reverse (opening loaded ++ rest)) ≡ reverse (opening loaded ++ (rest ++ step_notes b.time k s)) =
     onto-reverse (opening loaded ++ rest) (step_notes b.time k s) ∙ ap reverse (append_assoc (opening loaded) rest (step_notes b.time k s)) in
     let gates = same_gates b s.access in (
@@ -132,10 +133,10 @@ enter_stack : (k : Kind) (p : Place) (t : ℕ) → (next p (enters k t)).stack �
 enter_stack kind.Main p t = refl
 enter_stack k p t = refl
 
-pub enter_stood : (k : Kind) (loaded : Loaded) (nest : Nest) (trace : List Event) (c : Brain) (b : Bank) (rest : List Note) (stack : List Kind) → Stood loaded nest trace c b rest stack → left_of c k ≡ 0 → due_now c.orders.save_asked b k ≡ true
-    → IsAboveAll nest stack (kind_number k) → Stood loaded nest trace (entered_core c k) (after_entry b k) (rest ++ enters k b.time ∷ []) (k ∷ stack)
-enter_stood k loaded nest trace c b rest stack i none due above =
-    let w : World = world_of loaded nest trace c b rest in
+pub enter_stood : (k : Kind) (loaded : Loaded) (nest : Nest) (trace : List Event) (c : Brain) (b : Bank) (since : ℕ) (rest : List Note) (stack : List Kind) → Stood loaded nest trace c b since rest stack → left_of c k ≡ 0 → due_now c.orders.save_asked b k ≡ true
+    → IsAboveAll nest stack (kind_number k) → Stood loaded nest trace (entered_core c k) (after_entry b k) since (rest ++ enters k b.time ∷ []) (k ∷ stack)
+enter_stood k loaded nest trace c b since rest stack i none due above =
+    let w : World = world_of loaded nest trace c b since rest in
     let n : Note = enters k b.time in
     let back : n ∷ reverse (opening loaded ++ rest) ≡ reverse (opening loaded ++ (rest ++ n ∷ [])) = sym (reverse-push (opening loaded ++ rest) n) ∙ ap reverse (append_assoc (opening loaded) rest (n ∷ [])) in
     record {
@@ -151,20 +152,21 @@ enter_stood k loaded nest trace c b rest stack i none due above =
 -- ---- time goes on
 
 pub later_ground : (w : World) (u : ℕ) → w.bank.time ≤ u → u < 2147483648 → Ground w → Ground (at_time w u)
-later_ground w u from small g = record { control = g.control; orders = g.orders; level = g.level; edges = All-later (λ e. e.t.0) (line w.trace).edges w.bank.time u from g.edges; small = small }
+later_ground w u from small g = record { control = g.control; orders = g.orders; level = g.level; edges = All-later (λ e. e.t.0) (line w.trace).edges w.bank.time u from g.edges; rested = g.rested; small = small }
 
 -- ---- an event at now
 
-outside_is : (b : Bank) (e : Event) → after_event b e ≡ record b { level = (after_event b e).level; window = (after_event b e).window }
+outside_is : (b : Bank) (e : Event) → after_event b e ≡ record b { level = (after_event b e).level; window = (after_event b e).window; timer = (after_event b e).timer; changed = (after_event b e).changed }
 outside_is b (event.Edge at level) = by_test (differ b.level level)
   where
-    by_test : (v : Bool) → (if v then edge_bank b level else b) ≡ record b { level = (if v then edge_bank b level else b).level; window = (if v then edge_bank b level else b).window }
+    by_test : (v : Bool) → (if v then edge_bank b level else b) 
+        ≡ record b { level = (if v then edge_bank b level else b).level; window = (if v then edge_bank b level else b).window; timer = (if v then edge_bank b level else b).timer; changed = (if v then edge_bank b level else b).changed }
     by_test true = refl
     by_test false = refl
 outside_is b e = refl
 
 edge_ground : (v : Bool) (w : World) (level : Bool) → differ w.bank.level level ≡ v → Ground w
-    → Ground (record w { trace = w.trace ++ event.Edge (as_tick w.bank.time) level ∷ []; bank = record w.bank { level = (if v then edge_bank w.bank level else w.bank).level } })
+    → Ground (record w { trace = w.trace ++ event.Edge (as_tick w.bank.time) level ∷ []; bank = record w.bank { level = (if v then edge_bank w.bank level else w.bank).level; changed = (if v then edge_bank w.bank level else w.bank).changed } })
 edge_ground true w level d g =
     let new = line_changes w.trace w.bank level (subst (λ (l : Bool). differ l level ≡ true) g.level d) in
     record {
@@ -172,19 +174,20 @@ edge_ground true w level d g =
       orders = g.orders;
       level = ap (λ (l : Line). l.level) (sym new);
       edges = rw new (All-push (λ y. y.t.0 ≤ w.bank.time) (line w.trace).edges (edge_now w.bank level) g.edges (omega arith));
+      rested = rw new (rest_now (line w.trace).edges (edge_now w.bank level) g.edges);
       small = g.small;
     }
 edge_ground false w level d g =
     let same = line_same w.trace w.bank level (subst (λ (l : Bool). differ l level ≡ false) g.level d) in
-    record { control = g.control; orders = g.orders; level = rw same g.level; edges = rw same g.edges; small = g.small }
+    record { control = g.control; orders = g.orders; level = rw same g.level; edges = rw same g.edges; rested = rw same g.rested; small = g.small }
 
 outside_ground : (w : World) (e : Event) → tick_of e ≡ w.bank.time → Ground w → Ground (after_outside w e)
 outside_ground w (event.Edge at level) is g =
-    subst (λ (n : ℕ). Ground (record w { trace = w.trace ++ event.Edge (as_tick n) level ∷ []; bank = record w.bank { level = (after_line w.bank level).level; window = (after_line w.bank level).window } })) (sym is)
+    subst (λ (n : ℕ). Ground (record w { trace = w.trace ++ event.Edge (as_tick n) level ∷ []; bank = record w.bank { level = (after_line w.bank level).level; window = (after_line w.bank level).window; timer = (after_line w.bank level).timer; changed = (after_line w.bank level).changed } })) (sym is)
     (edge_ground (differ w.bank.level level) w level refl g)
-outside_ground w (event.Comp at level) is g = record { control = g.control; orders = g.orders; level = rw (line-push w.trace (event.Comp at level)) g.level; edges = rw (line-push w.trace (event.Comp at level)) g.edges; small = g.small }
-outside_ground w (event.Serial at byte) is g = record { control = g.control; orders = g.orders; level = rw (line-push w.trace (event.Serial at byte)) g.level; edges = rw (line-push w.trace (event.Serial at byte)) g.edges; small = g.small }
-outside_ground w (event.Stall at n) is g = record { control = g.control; orders = g.orders; level = rw (line-push w.trace (event.Stall at n)) g.level; edges = rw (line-push w.trace (event.Stall at n)) g.edges; small = g.small }
+outside_ground w (event.Comp at level) is g = record { control = g.control; orders = g.orders; level = rw (line-push w.trace (event.Comp at level)) g.level; edges = rw (line-push w.trace (event.Comp at level)) g.edges; rested = rw (line-push w.trace (event.Comp at level)) g.rested; small = g.small }
+outside_ground w (event.Serial at byte) is g = record { control = g.control; orders = g.orders; level = rw (line-push w.trace (event.Serial at byte)) g.level; edges = rw (line-push w.trace (event.Serial at byte)) g.edges; rested = rw (line-push w.trace (event.Serial at byte)) g.rested; small = g.small }
+outside_ground w (event.Stall at n) is g = record { control = g.control; orders = g.orders; level = rw (line-push w.trace (event.Stall at n)) g.level; edges = rw (line-push w.trace (event.Stall at n)) g.edges; rested = rw (line-push w.trace (event.Stall at n)) g.rested; small = g.small }
 
 pub event_ground : (w : World) (e : Event) → tick_of e ≡ w.bank.time → Ground w → Ground (record w { trace = w.trace ++ e ∷ []; bank = after_event w.bank e })
 event_ground w e is g = subst (λ (b : Bank). Ground (record w { trace = w.trace ++ e ∷ []; bank = b })) (sym (outside_is w.bank e)) (outside_ground w e is g)

@@ -3,6 +3,7 @@ use Rattle.std.proofs.Common.{◌≡◌, ◌≢◌, ◌≤◌, ◌<◌, ◌+◌,
 use Rattle.std.proofs.lemmas.Bool.{not-true, and_parts}
 use Rattle.std.proofs.lemmas.List.Elements.{All-nil, All-cons, All-weaker}
 use Rattle.esc_base.specs.declared.kind.Kind.{Kind}
+use Rattle.esc_base.specs.declared.kind.Kind.TheVariants as kind
 use Rattle.esc_base.specs.declared.event.Event.{Event}
 use Rattle.esc_base.specs.declared.note.Note.{Note}
 use Rattle.esc_base.specs.Journal.{time_of}
@@ -24,12 +25,12 @@ use Rattle.esc_core.specs.Firmware.{left_of, entered_core, kind_step, counted_do
 use Rattle.esc_core.proofs.Bounds.{Bounds, bounds, core_step-goes}
 use Rattle.esc_laws.specs.Place.{Place}
 use Rattle.esc_laws.specs.Seen.{sees, sees_at}
-use Rattle.esc_laws.specs.Steps.{Turned, notes_in, journal, after, uses, is_of, is_entry, own_steps, steps_since, entered_at, called, StepFits, Below}
+use Rattle.esc_laws.specs.Steps.{Turned, notes_in, journal, after, uses, is_of, is_entry, own_steps, past_own, steps_since, entered_at, called, StepFits, Below}
 use Rattle.esc_laws.specs.Tied.{Keeps}
 use Rattle.esc_laws.specs.World.{world, enters, step_notes, open_left}
 use Rattle.esc_laws.specs.Rooms.{Ground, Tie}
 use Rattle.esc_laws.specs.Logged.{Logged}
-use Rattle.esc_laws.proofs.Pushes.{own-push, since-push}
+use Rattle.esc_laws.proofs.Pushes.{own-push, past-push, since-push}
 use Rattle.esc_laws.proofs.Stalls.{free_ended}
 use Rattle.esc_laws.proofs.Facts.{of_self, of_other, some_open, outer_open, left_open, same_gates}
 use Rattle.esc_laws.proofs.Laws.{law}
@@ -122,7 +123,8 @@ entry_turn loaded nest cost trace c b stack log k some l down chosen =
       keeps = keeps_entry nest c b stack k l.keeps l.sorted down chosen;
       sorted = (entry_above nest stack (due_now c.orders.save_asked b) k chosen, l.sorted);
       time = enter_time k b;
-      out = enter_stood k loaded nest trace c b (notes_in log) stack (stood loaded nest cost trace b.time c b stack log l) none due (entry_above_all nest stack (due_now c.orders.save_asked b) k l.sorted chosen);
+      out = rw (past-push kind.Cap log (entry_of b.time k))
+          (enter_stood k loaded nest trace c b (past_own kind.Cap log) (notes_in log) stack (stood loaded nest cost trace b.time c b stack log l) none due (entry_above_all nest stack (due_now c.orders.save_asked b) k l.sorted chosen));
       patient = rw still (entry_patient nest stack (due_now c.orders.save_asked b) (sees trace (journal loaded log) b.time) (sees trace (journal loaded (log ++ entry_of b.time k ∷ [])) b.time) k c.hold (entered_core c k).hold (called loaded nest trace log)
           (sees_due loaded nest trace c b stack log l.keeps l.ground l.ties) chosen (rw down at l.patient));
       owes = entry_owes c b stack log k l.owes;
@@ -190,12 +192,12 @@ own_turn loaded nest cost trace c b outer log k saved some l none =
     let held : b.masked ≡ true → 0 < c.hold = (λ m. (let a = l.keeps.enough m k refl in let n = (law k).need c in omega arith)) in
     let bound : Bounds k c b s = subst (λ (x : Stepped). Bounds k c b x) (core_step-goes k saved c b (steady k c b (k ∷ outer) l.keeps refl)) (bounds k saved c b left l.keeps.hold held) in
     let gates = same_gates b s.access in
-    let made = step_made k saved loaded nest trace c b (notes_in log) outer (stood loaded nest cost trace b.time c b (k ∷ outer) log l) (λ j above. l.keeps.shut j (closed_above (k ∷ outer) j l.sorted above)) left in
+    let made = step_made k saved loaded nest trace c b (past_own kind.Cap log) (notes_in log) outer (stood loaded nest cost trace b.time c b (k ∷ outer) log l) l.cap_past (λ j above. l.keeps.shut j (closed_above (k ∷ outer) j l.sorted above)) left in
     logged_after loaded nest cost trace c s.core b b' (k ∷ outer) (open_left k outer s) log (own_of b.time k notes) some refl l (record {
       keeps = keeps_own k saved c b outer l.sorted l.keeps left bound;
       sorted = left_stack s.over k outer l.sorted;
       time = gates.time;
-      out = made.0;
+      out = rw (past-push kind.Cap log (own_of b.time k notes)) made.0;
       patient = own_patient nest k outer (open_left k outer s) (due_now c.orders.save_asked b) (sees trace (journal loaded log) b.time) (sees trace (journal loaded (log ++ own_of b.time k notes ∷ [])) b.time) b.masked b'.masked c.hold s.core.hold (called loaded nest trace log)
           (λ m. sees_due loaded nest trace c b (k ∷ outer) log l.keeps l.ground l.ties) none (left_goes s.over b'.masked k outer bound.back) held bound.mask.most bound.mask.less l.patient;
       owes = own_owes c s.core outer log k b.time notes s.over l.owes bound.moves.less (λ j ne. (bound.moves.others j ne).0);

@@ -47,7 +47,7 @@ asks (Some cause) armed_now w outer demand kept g none on st number =
     let here = inside (so_far w).stack kind.Tick outer on in
     record {
       fits = (record { at = refl; no_entry = refl; save = λ e. cc; window = tt; nest = here }, (record { at = refl; no_entry = refl; save = λ e. cc; window = tt; nest = here }, tt));
-      ground = record { control = st; orders = orders_other w.loaded w.core.orders (note.Lost (as_tick w.bank.time) (cause_number cause)) (k ∷ w.back) refl (orders_other w.loaded w.core.orders k w.back refl g.orders); level = g.level; edges = g.edges; small = g.small };
+      ground = record { control = st; orders = orders_other w.loaded w.core.orders (note.Lost (as_tick w.bank.time) (cause_number cause)) (k ∷ w.back) refl (orders_other w.loaded w.core.orders k w.back refl g.orders); level = g.level; edges = g.edges; rested = g.rested; small = g.small };
       tie = (ap (λ (n : ℕ). n + 1) none, sym number, omega arith);
       others = elim [ kind.Tick ↦ λ ne t. absurd (ne refl) | j ↦ λ ne t. t ];
       stack_is = on;
@@ -57,7 +57,7 @@ asks None true w outer demand kept g none on st number =
     let here = inside (so_far w).stack kind.Tick outer on in
     record {
       fits = (record { at = refl; no_entry = refl; save = λ e. cc; window = tt; nest = here }, (record { at = refl; no_entry = refl; save = λ e. cc; window = tt; nest = here }, tt));
-      ground = record { control = st; orders = orders_other w.loaded w.core.orders (note.Armed (as_tick w.bank.time)) (k ∷ w.back) refl (orders_other w.loaded w.core.orders k w.back refl g.orders); level = g.level; edges = g.edges; small = g.small };
+      ground = record { control = st; orders = orders_other w.loaded w.core.orders (note.Armed (as_tick w.bank.time)) (k ∷ w.back) refl (orders_other w.loaded w.core.orders k w.back refl g.orders); level = g.level; edges = g.edges; rested = g.rested; small = g.small };
       tie = (ap (λ (n : ℕ). n + 1) none, sym number, omega arith);
       others = elim [ kind.Tick ↦ λ ne t. absurd (ne refl) | j ↦ λ ne t. t ];
       stack_is = on;
@@ -66,7 +66,7 @@ asks None false w outer demand kept g none on st number =
     let k : Note = note.Control (as_tick w.bank.time) (w.bank.time / 2400) 0 demand in
     record {
       fits = (record { at = refl; no_entry = refl; save = λ e. cc; window = tt; nest = inside (so_far w).stack kind.Tick outer on }, tt);
-      ground = record { control = st; orders = orders_other w.loaded w.core.orders k w.back refl g.orders; level = g.level; edges = g.edges; small = g.small };
+      ground = record { control = st; orders = orders_other w.loaded w.core.orders k w.back refl g.orders; level = g.level; edges = g.edges; rested = g.rested; small = g.small };
       tie = (ap (λ (n : ℕ). n + 1) none, sym number, omega arith);
       others = elim [ kind.Tick ↦ λ ne t. absurd (ne refl) | j ↦ λ ne t. t ];
       stack_is = on;
@@ -138,7 +138,7 @@ tick_law = record {
   called = λ w g t none s. tick_due w.core.orders.save_asked w.bank (rw ((t kind.Tick).1, g.control.ties.number_is) (ltb-true (number_at w.back) (w.bank.time / 2400) s));
   entered = λ w g t none due. ((due_tick w.core.orders.save_asked w.bank (t kind.Tick).2 due, refl), (t kind.Tick).1, (t kind.Tick).2);
   beside = λ w. elim [ kind.Tick ↦ λ ne t. absurd (ne refl) | j ↦ λ ne t. t ];
-  steps = λ w saved outer g t above on left. steps w.core.tick_at w outer g (t kind.Tick) (t kind.Tick).0 on left;
+  steps = λ w saved outer g t above past on left. steps w.core.tick_at w outer g (t kind.Tick) (t kind.Tick).0 on left;
   need = λ c. need c.tick_at;
   mask = λ saved c b outer keeps left. mask c.tick_at c b left keeps.hold (λ m. keeps.enough m kind.Tick refl) (λ n. (keeps.masked kind.Tick n).0);
   later = λ w u from small g t. (later w.core.tick_at w.bank.number_read w.bank.time u (so_far w).ticks from (t kind.Tick).0, (t kind.Tick).1, (let r = (t kind.Tick).2 in omega arith));

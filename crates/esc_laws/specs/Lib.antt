@@ -1,5 +1,8 @@
 pub mod Place
+pub mod Rested
 pub mod Windowed
+pub mod HeardWhole
+pub mod RestOpens
 pub mod Nested
 pub mod Seen
 pub mod Steps

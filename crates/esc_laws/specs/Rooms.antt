@@ -9,6 +9,7 @@ use Rattle.esc_base.specs.declared.note.Note.{Note}
 use Rattle.esc_base.specs.Journal.{time_of}
 use Rattle.esc_base.specs.Trace.{line}
 use Rattle.settings_block.specs.declared.stored.Loaded.{Loaded}
+use Rattle.timer_regs.specs.Rest.{rests_from}
 use Rattle.arming.specs.Kept.{Kept}
 use Rattle.arming.specs.Stands.{Stands}
 use Rattle.esc_core.specs.declared.orders.Orders.{Orders}
@@ -19,25 +20,26 @@ use Rattle.esc_laws.specs.Windowed.{WindowRuleAt}
 use Rattle.esc_laws.specs.Nested.{NestRuleAt}
 use Rattle.esc_laws.specs.Steps.{is_entry}
 use Rattle.esc_laws.specs.Saves.{is_save}
-use Rattle.esc_laws.specs.Tied.{SignalTied, cap_view, WindowSound, TickTied, MainTied, OrdersTied}
+use Rattle.esc_laws.specs.Tied.{SignalTied, cap_view, WindowSound, TimerTied, IsRestFrom, TickTied, MainTied, OrdersTied}
 use Rattle.esc_laws.specs.World.{World, so_far, noted, step_notes, after_step, open_left}
 
 -- ---- what all handlers share
 
-pub record Grounded (loaded : Loaded) (trace : List Event) (kept : Kept) (o : Orders) (now_level : Bool) (time : ℕ) (back : List Note) : Type 0 where
+pub record Grounded (loaded : Loaded) (trace : List Event) (kept : Kept) (o : Orders) (now_level : Bool) (rests : ℕ) (time : ℕ) (back : List Note) : Type 0 where
   pub control : Stands kept back
   pub orders : OrdersTied loaded o back
   pub level : now_level ≡ (line trace).level
   pub edges : All (λ e. e.t.0 ≤ time) (line trace).edges
+  pub rested : IsRestFrom (line trace).edges rests
   pub small : time < 2147483648
 
 abbrev pub Ground : World → Type 0
-Ground w = Grounded w.loaded w.trace w.core.control w.core.orders w.bank.level w.bank.time w.back
+Ground w = Grounded w.loaded w.trace w.core.control w.core.orders w.bank.level (rests_from w.bank.changed) w.bank.time w.back
 
 -- ---- a tie for each handler
 
 abbrev pub CapTie : World → Type 0
-CapTie w = SignalTied (so_far w).signal w.core.cap_at (cap_view w.trace w.core w.bank (so_far w)) × WindowSound w.bank.window w.bank.time
+CapTie w = SignalTied (so_far w).signal w.core.cap_at (cap_view w.trace w.core w.bank (so_far w)) × WindowSound w.bank.window w.bank.time × TimerTied (so_far w).signal w.core.cap_at (line w.trace).edges w.cap_since w.bank.timer
 
 -- the number that was read last is that of control's newest tick
 abbrev pub TickTie : World → Type 0
