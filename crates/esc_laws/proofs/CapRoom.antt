@@ -222,7 +222,7 @@ answered x s w m t n e a = rw e a
 steps : (s : Signal) (at : CapAt) (x : World) (outer : List Kind) → Ground x → WindowSound x.bank.window x.bank.time → (so_far x).signal ≡ s → SignalTied s at (cap_view x.trace x.core x.bank (so_far x)) → TimerTied s at (line x.trace).edges x.cap_since x.bank.timer → x.cap_since ≤ x.bank.time → (so_far x).stack ≡ kind.Cap ∷ outer → 0 < cap_left at
     → StepKeeps kind.Cap outer x (cap_step at x.core x.bank)
 steps s cap.Shut x outer g sound e k timer past on left = absurd (omega arith)
-steps s cap.Back x outer g sound e k timer past on left = 
+steps s cap.Back x outer g sound e k timer past on left =
     returns x outer g (subst (λ (r : Signal). SignalTied r cap.Back (cap_view x.trace x.core x.bank (so_far x))) (sym e) k) sound
     (subst (λ (r : Signal). TimerTied r cap.Back (line x.trace).edges x.cap_since x.bank.timer) (sym e) timer) past on
 steps (Listens w m) cap.Start x outer g sound e k timer past on left = if_false x.core.paused kind.Cap outer x _ _ k.hears.running (begins x outer w m g sound e k on)

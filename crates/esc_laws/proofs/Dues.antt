@@ -88,9 +88,9 @@ cap_entered due (Rests f r) trace c b p since e i timer d =
       paused = i.paused;
       no_timer = refl;
       rested = (
-        let reached = due_timer due b timer.at timer.armed i.taken d in
-        let by = first_by (line trace).edges (f + least_pause) timer.at timer.rested timer.late in
-        omega arith);
+          let reached = due_timer due b timer.at timer.armed i.taken d in
+          let by = first_by (line trace).edges (f + least_pause) timer.at timer.rested timer.late in
+          omega arith);
       entered = omega arith;
       no_window = refl;
       no_verdict = refl;

@@ -1,21 +1,29 @@
--- No rest passes without a window.
-use Rattle.std.proofs.Common.{◌≡◌, ◌≤◌, ◌+◌, ℕ, Bool, true, false, not, ◌&&◌, nat_le, max, if◌then◌else◌, List, [], ◌∷◌, ◌++◌, Some, refl, sym, ◌∙◌, ap, subst, arith, append-nil, append_assoc}
-use Rattle.std.proofs.lemmas.Bool.{le-leb}
+-- No rest passes without a window: CAP is called, and opens it.
+use Rattle.std.proofs.Common.{◌≡◌, ◌≤◌, ◌+◌, ℕ, Bool, true, false, not, ◌&&◌, nat_le, max, if◌then◌else◌, List, [], ◌∷◌, ◌++◌, reverse, Some, inl, inr, ◌≢◌, ◌==◌, All, refl, sym, ◌∙◌, ap, subst, arith, append-nil, append_assoc}
+use Rattle.std.proofs.lemmas.Bool.{le-leb, ne_eqb}
+use Rattle.std.proofs.lemmas.List.Elements.{All-head, All-tail}
 use Rattle.esc_base.specs.declared.kind.Kind.{Kind}
 use Rattle.esc_base.specs.declared.kind.Kind.TheVariants as kind
 use Rattle.esc_base.specs.declared.event.Event.{Event}
+use Rattle.esc_base.specs.declared.note.Note.{Note}
+use Rattle.esc_base.specs.declared.note.Note.TheVariants as note
+use Rattle.esc_base.specs.declared.tick.Tick.{Tick}
+use Rattle.esc_base.specs.Journal.{Each}
 use Rattle.esc_base.specs.Times.{most_pause}
 use Rattle.esc_base.specs.Trace.{line}
 use Rattle.settings_block.specs.declared.stored.Loaded.{Loaded}
 use Rattle.interrupt_machine.specs.declared.nest.Nest.{Nest}
-use Rattle.interrupt_machine.specs.Open.{is_open}
+use Rattle.arming.proofs.InOrder.{each_rest}
+use Rattle.interrupt_machine.specs.Open.{is_open, kind_of}
 use Rattle.interrupt_machine.specs.Response.{counts, wait_next}
-use Rattle.esc_laws.specs.Place.{Signal, Rests, place}
+use Rattle.esc_laws.specs.Place.{Signal, Rests, Place, entered_at, left_at, next, place}
+use Rattle.esc_laws.specs.Nested.{HasDone, NestRule}
+use Rattle.esc_laws.specs.Windowed.{AnswersAt, WindowRuleAt, WindowRule}
 use Rattle.esc_laws.specs.Rested.{first_rested}
 use Rattle.esc_laws.specs.Seen.{calls_cap}
-use Rattle.esc_laws.specs.Steps.{Turned, journal, open_in, is_called, called, EachStep, StepFits}
-use Rattle.esc_laws.specs.RestOpens.{waiting_steps, HasNoWindow, StaysWithout, RestOpensWindow}
-use Rattle.esc_laws.proofs.Pushes.{called-push}
+use Rattle.esc_laws.specs.Steps.{Turned, opening, journal, open_in, is_called, called, EachStep, StepFits}
+use Rattle.esc_laws.specs.RestOpens.{waiting_steps, HasNoWindow, StaysWithout, RestCallsCap, OpensNone, CapOpensWindow}
+use Rattle.esc_laws.proofs.Pushes.{called-push, place-push}
 
 steps_rest : (P : List Turned → Turned → Type 0) (before log rest : List Turned) → EachStep P before (log ++ rest) → EachStep P (before ++ log) rest
 steps_rest P before [] rest each = rw (append-nil before) each
@@ -51,10 +59,62 @@ few_steps loaded nest cost trace before (e ∷ through) after f r few each stays
     let rest = few_steps loaded nest cost trace (before ++ e ∷ []) through after f r (each.0.patient kind.Cap) each.1 stays.2 in
     omega arith
 
-pub rest_opens_window : RestOpensWindow
-rest_opens_window loaded nest cost trace before [] after f r each stays = omega arith
-rest_opens_window loaded nest cost trace before (e ∷ through) after f r each stays =
+pub rest_calls_cap : RestCallsCap
+rest_calls_cap loaded nest cost trace before [] after f r each stays = omega arith
+rest_calls_cap loaded nest cost trace before (e ∷ through) after f r each stays =
     let each' : EachStep (StepFits loaded nest cost trace) before (e ∷ through ++ after) = steps_rest (StepFits loaded nest cost trace) [] before (e ∷ through ++ after) each in
     let more = called_on loaded nest trace before e (is_seen loaded trace f r before e.tick stays.0 stays.1) (is_seen loaded trace f r (before ++ e ∷ []) e.tick (stays_head loaded f r _ (before ++ e ∷ []) through stays.2) stays.1) in
     let rest = few_steps loaded nest cost trace (before ++ e ∷ []) through after f r (each'.0.patient kind.Cap) each'.1 stays.2 in
     omega arith
+
+-- ---- CAP, once it is entered, opens a window
+
+-- CAP has noted nothing since its entry
+record NothingYet (f r : ℕ) (p : Place) : Type 0 where
+  signal : p.signal ≡ Rests f r
+  windows : p.windows ≡ 0
+  verdicts : p.verdicts ≡ 0
+
+answers_none : (loaded : Loaded) (trace : List Event) (s : Signal) (f r entered t : ℕ) (said : Note) → s ≡ Rests f r → AnswersAt loaded trace s entered t said → ⊥
+answers_none loaded trace s f r entered t said e a = subst (λ (x : Signal). AnswersAt loaded trace x entered t said) e a
+
+entered_other : (f r : ℕ) (p : Place) (t k : ℕ) → k ≢ 3 → NothingYet f r p → NothingYet f r (entered_at p t k)
+entered_other f r p t k ne h = rw (ne_eqb k 3 ne) (by_tests (k == 2) (k == 0))
+  where
+    by_tests : (a b : Bool) → NothingYet f r (if a then record p { stack = kind_of k ∷ p.stack; ticks = 0; last = t } else if b then record p { stack = kind_of k ∷ p.stack; saves = 0; last = t } else record p { stack = kind_of k ∷ p.stack; last = t })
+    by_tests true b = record { signal = h.signal; windows = h.windows; verdicts = h.verdicts }
+    by_tests false true = record { signal = h.signal; windows = h.windows; verdicts = h.verdicts }
+    by_tests false false = record { signal = h.signal; windows = h.windows; verdicts = h.verdicts }
+
+left_other : (f r : ℕ) (p : Place) (t k : ℕ) → k ≢ 3 → NothingYet f r p → NothingYet f r (left_at p t k)
+left_other f r p t k ne h = record { signal = rw (ne_eqb k 3 ne) h.signal; windows = h.windows; verdicts = h.verdicts }
+
+nothing_on : (loaded : Loaded) (trace : List Event) (f r : ℕ) (p : Place) (back : List Note) (n : Note) → OpensNone n → WindowRuleAt loaded trace p back n → NothingYet f r p → NothingYet f r (next p n)
+nothing_on loaded trace f r p back (note.Window t m) o w h = absurd o
+nothing_on loaded trace f r p back (note.Enter t k) o w h = entered_other f r p t.0 k o h
+nothing_on loaded trace f r p back (note.Leave t k) o w h = left_other f r p t.0 k o h
+nothing_on loaded trace f r p back (note.Good t v q) o w h = absurd (answers_none loaded trace p.signal f r p.cap_entered t.0 (note.Good t v q) h.signal w)
+nothing_on loaded trace f r p back (note.Detected t m) o w h = absurd (answers_none loaded trace p.signal f r p.cap_entered t.0 (note.Detected t m) h.signal w)
+nothing_on loaded trace f r p back (note.Nothing t) o w h = absurd (answers_none loaded trace p.signal f r p.cap_entered t.0 (note.Nothing t) h.signal w)
+nothing_on loaded trace f r p back (note.Bad t y) o w h = absurd (answers_none loaded trace p.signal f r p.cap_entered t.0 (note.Bad t y) h.signal w)
+nothing_on loaded trace f r p back n o w h = record { signal = h.signal; windows = h.windows; verdicts = h.verdicts }
+
+not_done : (f r : ℕ) (p : Place) → NothingYet f r p → HasDone kind.Cap p → ⊥
+not_done f r p h (inl v) = let z = h.verdicts in omega arith
+not_done f r p h (inr w) = let z = h.windows in let y = w.1 in omega arith
+
+returns_not : (loaded : Loaded) (nest : Nest) (trace : List Event) (f r : ℕ) (before through after : List Note) (u : Tick) → NothingYet f r (place before) → All OpensNone through
+    → Each (WindowRule loaded trace) before (through ++ note.Leave u 3 ∷ after) → Each (NestRule nest) before (through ++ note.Leave u 3 ∷ after) → ⊥
+returns_not loaded nest trace f r before [] after u h a w n = not_done f r (place before) h n.0.1
+returns_not loaded nest trace f r before (x ∷ through) after u h a w n =
+    returns_not loaded nest trace f r (before ++ x ∷ []) through after u
+    (rw (place-push before x) (nothing_on loaded trace f r (place before) (reverse before) x (All-head OpensNone x through a) w.0 h))
+    (All-tail OpensNone x through a) w.1 n.1
+
+pub cap_opens_window : CapOpensWindow
+cap_opens_window loaded nest trace before through after f r t u windowed nested rests none =
+    let start : List Note = opening loaded ++ before in
+    let all : List Note = note.Enter t 3 ∷ through ++ note.Leave u 3 ∷ after in
+    let w : Each (WindowRule loaded trace) start all = each_rest (WindowRule loaded trace) (opening loaded) before all (each_rest (WindowRule loaded trace) [] (opening loaded) (before ++ all) windowed) in
+    let n : Each (NestRule nest) start all = each_rest (NestRule nest) (opening loaded) before all nested in
+    returns_not loaded nest trace f r (start ++ note.Enter t 3 ∷ []) through after u (rw (place-push start (note.Enter t 3)) (record { signal = rests; windows = refl; verdicts = refl })) none w.1 n.1

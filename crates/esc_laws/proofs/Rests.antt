@@ -118,10 +118,10 @@ set_now edges f w rests until r = record {
   late = omega arith;
   rested = λ i d l. inr (let o : (slice_index_or edges i d).t.0 + rest ≤ rests = r.over i d l in omega arith);
   soon = λ t le on. (
-    let over = first_over edges t (λ i d l. (let u : (slice_index_or edges i d).t.0 ≤ w = until i d l in omega arith)) in
-    let by = r.first (first_rested edges t) over in
-    let more = first_more edges t in
-    omega arith);
+      let over = first_over edges t (λ i d l. (let u : (slice_index_or edges i d).t.0 ≤ w = until i d l in omega arith)) in
+      let by = r.first (first_rested edges t) over in
+      let more = first_more edges t in
+      omega arith);
 }
 
 -- it stays set from a later tick on

@@ -159,7 +159,7 @@ later_ground w u from small g = record { control = g.control; orders = g.orders;
 outside_is : (b : Bank) (e : Event) → after_event b e ≡ record b { level = (after_event b e).level; window = (after_event b e).window; timer = (after_event b e).timer; changed = (after_event b e).changed }
 outside_is b (event.Edge at level) = by_test (differ b.level level)
   where
-    by_test : (v : Bool) → (if v then edge_bank b level else b) 
+    by_test : (v : Bool) → (if v then edge_bank b level else b)
         ≡ record b { level = (if v then edge_bank b level else b).level; window = (if v then edge_bank b level else b).window; timer = (if v then edge_bank b level else b).timer; changed = (if v then edge_bank b level else b).changed }
     by_test true = refl
     by_test false = refl

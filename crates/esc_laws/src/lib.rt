@@ -3,4 +3,6 @@
 
 mod signal_laws;
 
-pub use signal_laws::{first_rested_tick, rest_opens_window, sent_frame_is_read, whole_signal_is_heard};
+pub use signal_laws::{
+    cap_opens_window, first_rested_tick, rest_calls_cap, sent_frame_is_read, whole_signal_is_heard,
+};

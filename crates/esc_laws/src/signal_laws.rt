@@ -2,7 +2,7 @@
 //! do nothing: their contracts are the laws.
 ghost use Rattle.esc_laws.specs.Rested.{FirstRestedTick};
 ghost use Rattle.esc_laws.specs.HeardWhole.{WholeSignalIsHeard, SentFrameIsRead};
-ghost use Rattle.esc_laws.specs.RestOpens.{RestOpensWindow};
+ghost use Rattle.esc_laws.specs.RestOpens.{RestCallsCap, CapOpensWindow};
 
 /// A whole signal that begins on a line at rest is heard from its first edge: where the newest window is
 /// open before it and no change of the line stands between, the verdict on that window is the verdict on
@@ -19,9 +19,14 @@ pub fn sent_frame_is_read()
 
 /// No rest passes without a window: after a bad window, from the first tick before which the line has
 /// rested, at or after the end of the pause, at most 8 steps are made, those of higher handlers aside,
-/// before CAP is entered to open the next window.
-pub fn rest_opens_window()
-    ensures { RestOpensWindow }
+/// before CAP is entered.
+pub fn rest_calls_cap()
+    ensures { RestCallsCap }
+{}
+
+/// And CAP, when it is entered then, doesn't return before it has opened a window.
+pub fn cap_opens_window()
+    ensures { CapOpensWindow }
 {}
 
 /// What the first rested tick from a tick on is, for changes of the line in their order: no earlier than that
