@@ -79,12 +79,14 @@ answers_none : (loaded : Loaded) (trace : List Event) (s : Signal) (f r entered 
 answers_none loaded trace s f r entered t said e a = subst (λ (x : Signal). AnswersAt loaded trace x entered t said) e a
 
 entered_other : (f r : ℕ) (p : Place) (t k : ℕ) → k ≢ 3 → NothingYet f r p → NothingYet f r (entered_at p t k)
-entered_other f r p t k ne h = rw (ne_eqb k 3 ne) (by_tests (k == 2) (k == 0))
+entered_other f r p t k ne h = by_tests (k == 3) (k == 2) (k == 0) (kind_of k ∷ p.stack) (ne_eqb k 3 ne)
   where
-    by_tests : (a b : Bool) → NothingYet f r (if a then record p { stack = kind_of k ∷ p.stack; ticks = 0; last = t } else if b then record p { stack = kind_of k ∷ p.stack; saves = 0; last = t } else record p { stack = kind_of k ∷ p.stack; last = t })
-    by_tests true b = record { signal = h.signal; windows = h.windows; verdicts = h.verdicts }
-    by_tests false true = record { signal = h.signal; windows = h.windows; verdicts = h.verdicts }
-    by_tests false false = record { signal = h.signal; windows = h.windows; verdicts = h.verdicts }
+    by_tests : (x a b : Bool) (stack : List Kind) → x ≡ false
+        → NothingYet f r (if x then record p { stack = stack; cap_entered = t; windows = 0; verdicts = 0; last = t } else if a then record p { stack = stack; ticks = 0; last = t } else if b then record p { stack = stack; saves = 0; last = t } else record p { stack = stack; last = t })
+    by_tests true a b stack e = absurd (let z = e in cc)
+    by_tests false true b stack e = record { signal = h.signal; windows = h.windows; verdicts = h.verdicts }
+    by_tests false false true stack e = record { signal = h.signal; windows = h.windows; verdicts = h.verdicts }
+    by_tests false false false stack e = record { signal = h.signal; windows = h.windows; verdicts = h.verdicts }
 
 left_other : (f r : ℕ) (p : Place) (t k : ℕ) → k ≢ 3 → NothingYet f r p → NothingYet f r (left_at p t k)
 left_other f r p t k ne h = record { signal = rw (ne_eqb k 3 ne) h.signal; windows = h.windows; verdicts = h.verdicts }
