@@ -17,7 +17,8 @@ use Rattle.edge_capture.specs.Modes.{numbers, most, limit}
 use Rattle.edge_capture.proofs.Stable.{deaf, burst-push, burst_before, burst_later}
 use Rattle.settings_block.specs.declared.stored.Loaded.{Loaded}
 use Rattle.arming.proofs.InOrder.{each_at}
-use Rattle.esc_core.specs.Judge.{inputs_of, judged}
+use Rattle.input_detect.specs.Judge.{judged}
+use Rattle.settings_block.specs.Settings.{servo_of}
 use Rattle.esc_laws.specs.Place.{Signal, Listens, place}
 use Rattle.esc_laws.specs.Windowed.{verdict_note, Answers, AnswersAt, WindowRule, Windowed}
 use Rattle.esc_laws.specs.HeardWhole.{KeepsOn, StandsAlone, IsVerdict, WholeSignalIsHeard}
@@ -90,13 +91,13 @@ alone_heard edges w m first rest a =
 -- ---- the F that answers
 
 answer_of : (loaded : Loaded) (trace : List Event) (s : Signal) (w m entered t : ℕ) (said : Note) (signal : List Edge) → s ≡ Listens w m → burst (line trace).edges w (mode_of m) ≡ signal
-    → AnswersAt loaded trace s entered t said → said ≡ verdict_note t (judged (inputs_of loaded.settings) (mode_of m) signal)
+    → AnswersAt loaded trace s entered t said → said ≡ verdict_note t (judged (mode_of m) signal loaded.settings.input (servo_of loaded.settings))
 answer_of loaded trace s w m entered t said signal e heard a =
     let is : Answers loaded trace w m entered t said = subst (λ (x : Signal). AnswersAt loaded trace x entered t said) e a in
-    is.verdict_is ∙ ap (λ (es : List Edge). verdict_note t (judged (inputs_of loaded.settings) (mode_of m) es)) heard
+    is.verdict_is ∙ ap (λ (es : List Edge). verdict_note t (judged (mode_of m) es loaded.settings.input (servo_of loaded.settings))) heard
 
 said_of : (loaded : Loaded) (trace : List Event) (before : List Note) (said : Note) (w m : ℕ) (signal : List Edge) → IsVerdict said → (place before).signal ≡ Listens w m → burst (line trace).edges w (mode_of m) ≡ signal
-    → WindowRule loaded trace before said → said ≡ verdict_note (time_of said) (judged (inputs_of loaded.settings) (mode_of m) signal)
+    → WindowRule loaded trace before said → said ≡ verdict_note (time_of said) (judged (mode_of m) signal loaded.settings.input (servo_of loaded.settings))
 said_of loaded trace before (note.Good t v q) w m signal f e heard r = answer_of loaded trace (place before).signal w m (place before).cap_entered t.0 (note.Good t v q) signal e heard r
 said_of loaded trace before (note.Detected t d) w m signal f e heard r = answer_of loaded trace (place before).signal w m (place before).cap_entered t.0 (note.Detected t d) signal e heard r
 said_of loaded trace before (note.Nothing t) w m signal f e heard r = answer_of loaded trace (place before).signal w m (place before).cap_entered t.0 (note.Nothing t) signal e heard r

@@ -13,6 +13,7 @@ pub mod CapTies
 pub mod Dues
 pub mod Lines
 pub mod RoomSteps
+pub mod Returns
 pub mod Law
 pub mod MainRoom
 pub mod TickRoom
@@ -27,3 +28,6 @@ pub mod Events
 pub mod Start
 pub mod Carried
 pub mod FlashSteps
+pub mod Refused
+pub mod RefusedSteps
+pub mod Allowed

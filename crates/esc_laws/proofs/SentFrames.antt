@@ -19,8 +19,11 @@ use Rattle.dshot_frame.specs.Bits.{low_bits}
 use Rattle.dshot_frame.specs.Sent.{HasFrames, IsMoved, IsNear, edges_from, sent}
 use Rattle.dshot_frame.specs.Verdict.{verdict_of}
 use Rattle.dshot_frame.proofs.Moved.{length-low_bits, verdict_of-moved, verdict_of-sent}
-use Rattle.esc_core.specs.declared.judge.Judgement.TheVariants.{Good}
-use Rattle.esc_core.specs.Judge.{Inputs, inputs_of, judged, by_verdict}
+use Rattle.input_detect.specs.declared.window.Judgement.TheVariants.{Good}
+use Rattle.input_detect.specs.Judge.{judged, by_verdict}
+use Rattle.servo_input.specs.declared.servo.InputKind.{InputKind}
+use Rattle.servo_input.specs.declared.servo.Servo.{Servo}
+use Rattle.settings_block.specs.Settings.{servo_of}
 use Rattle.esc_laws.specs.Windowed.{verdict_note}
 use Rattle.esc_laws.specs.HeardWhole.{KeepsOn, StandsAlone, SentFrameIsRead}
 use Rattle.esc_laws.proofs.Facts.{mode_of-number}
@@ -123,13 +126,13 @@ most_frame mode.D600 f = refl
 most_frame mode.D300Inv f = refl
 most_frame mode.D600Inv f = refl
 
-judged_frame : (i : Inputs) (m : Mode) (edges : List Edge) → HasFrames m → judged i m edges ≡ by_verdict (verdict_of m edges)
-judged_frame i mode.Unknown edges f = absurd (omega arith)
-judged_frame i mode.Servo edges f = absurd (omega arith)
-judged_frame i mode.D300 edges f = refl
-judged_frame i mode.D600 edges f = refl
-judged_frame i mode.D300Inv edges f = refl
-judged_frame i mode.D600Inv edges f = refl
+judged_frame : (m : Mode) (edges : List Edge) (allowed : InputKind) (servo : Servo) → HasFrames m → judged m edges allowed servo ≡ by_verdict (verdict_of m edges)
+judged_frame mode.Unknown edges allowed servo f = absurd (omega arith)
+judged_frame mode.Servo edges allowed servo f = absurd (omega arith)
+judged_frame mode.D300 edges allowed servo f = refl
+judged_frame mode.D600 edges allowed servo f = refl
+judged_frame mode.D300Inv edges allowed servo f = refl
+judged_frame mode.D600Inv edges allowed servo f = refl
 
 pub sent_frame_is_read : SentFrameIsRead
 sent_frame_is_read loaded trace before after said w m s word frame first rest earlier later windowed listens is frames good moved edges_are at_rest begins ends =
@@ -148,9 +151,9 @@ sent_frame_is_read loaded trace before after said w m s word frame first rest ea
       ends = λ i d l. (let e : last_at (first ∷ rest) ≤ (slice_index_or later i d).t.0 = ends i d l in let z = none in omega arith);
     } in
     let same : mode_of (mode_number m) ≡ m = mode_of-number m in
-    let heard : judged (inputs_of loaded.settings) m (first ∷ rest) ≡ Good frame =
-    judged_frame (inputs_of loaded.settings) m (first ∷ rest) frames
+    let heard : judged m (first ∷ rest) loaded.settings.input (servo_of loaded.settings) ≡ Good frame =
+    judged_frame m (first ∷ rest) loaded.settings.input (servo_of loaded.settings) frames
     ∙ ap by_verdict (verdict_of-moved m ((numbers m).bit / 16) s word (first ∷ rest) frames (omega arith) moved ∙ sym (verdict_of-sent m s word frames) ∙ good) in
     whole_signal_is_heard loaded trace before after said w (mode_number m) first rest windowed listens is (subst (λ (x : Mode). StandsAlone (line trace).edges w x first rest) (sym same) alone)
-    ∙ ap (λ (x : Mode). verdict_note (time_of said) (judged (inputs_of loaded.settings) x (first ∷ rest))) same
+    ∙ ap (λ (x : Mode). verdict_note (time_of said) (judged x (first ∷ rest) loaded.settings.input (servo_of loaded.settings))) same
     ∙ ap (verdict_note (time_of said)) heard

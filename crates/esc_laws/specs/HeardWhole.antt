@@ -16,7 +16,8 @@ use Rattle.edge_capture.specs.Modes.{numbers, most, limit}
 use Rattle.dshot_frame.specs.Sent.{HasFrames, IsMoved, sent}
 use Rattle.dshot_frame.specs.Verdict.{verdict_of}
 use Rattle.settings_block.specs.declared.stored.Loaded.{Loaded}
-use Rattle.esc_core.specs.Judge.{inputs_of, judged}
+use Rattle.input_detect.specs.Judge.{judged}
+use Rattle.settings_block.specs.Settings.{servo_of}
 use Rattle.esc_laws.specs.Place.{Listens, place}
 use Rattle.esc_laws.specs.Windowed.{verdict_note, Windowed}
 
@@ -57,7 +58,7 @@ WholeSignalIsHeard =
     → (place before).signal ≡ Listens w m
     → IsVerdict said
     → StandsAlone (line trace).edges w (mode_of m) first rest
-    → said ≡ verdict_note (time_of said) (judged (inputs_of loaded.settings) (mode_of m) (first ∷ rest))
+    → said ≡ verdict_note (time_of said) (judged (mode_of m) (first ∷ rest) loaded.settings.input (servo_of loaded.settings))
 
 -- So a frame is read that is sent behind the opening of a window in its mode, with each of its edges at most a sixteenth of a
 -- bit early or late: no change of the line stands between the opening and its first edge, and none comes before its last one.

@@ -1,4 +1,6 @@
+-- the laws, which end in `Legal`, and what a journal says of the flash
 pub mod Place
+pub mod Gates
 pub mod Rested
 pub mod Windowed
 pub mod HeardWhole
@@ -8,6 +10,10 @@ pub mod Seen
 pub mod Steps
 pub mod Legal
 pub mod Saves
+-- what is shown of them
+pub mod Refused
+pub mod Allowed
+-- the machinery that proves a run legal
 pub mod Tied
 pub mod World
 pub mod Rooms

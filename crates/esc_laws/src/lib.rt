@@ -1,8 +1,11 @@
-//! The laws of a journal: definitions and lemmas, and the laws that follow from them as contracts.
+//! The laws of a journal. What they are stands in `specs`; the functions here do nothing: their contracts show what the laws
+//! refuse, and that they don't refuse all.
 #![tactic(auto)]
 
+mod shown;
 mod signal_laws;
 
+pub use shown::{control_refuses, nesting_refuses, some_are_legal, steps_refuse, windows_refuse};
 pub use signal_laws::{
     cap_opens_window, first_rested_tick, rest_calls_cap, sent_frame_is_read, whole_signal_is_heard,
 };
