@@ -16,7 +16,7 @@ use Rattle.interrupt_machine.specs.declared.nest.Nest.{Nest}
 use Rattle.arming.proofs.InOrder.{each_rest}
 use Rattle.interrupt_machine.specs.Open.{is_open, kind_of}
 use Rattle.interrupt_machine.specs.Response.{counts, wait_next}
-use Rattle.esc_laws.specs.Place.{Signal, Rests, Place, entered_at, left_at, next, place}
+use Rattle.esc_laws.specs.Place.{Signal, Rests, Place, place_entered, place_left, next, place}
 use Rattle.esc_laws.specs.Nested.{HasDone, NestRule}
 use Rattle.esc_laws.specs.Windowed.{AnswersAt, WindowRuleAt, WindowRule}
 use Rattle.esc_laws.specs.Rested.{first_rested}
@@ -78,7 +78,7 @@ record NothingYet (f r : ℕ) (p : Place) : Type 0 where
 answers_none : (loaded : Loaded) (trace : List Event) (s : Signal) (f r entered t : ℕ) (said : Note) → s ≡ Rests f r → AnswersAt loaded trace s entered t said → ⊥
 answers_none loaded trace s f r entered t said e a = subst (λ (x : Signal). AnswersAt loaded trace x entered t said) e a
 
-entered_other : (f r : ℕ) (p : Place) (t k : ℕ) → k ≢ 3 → NothingYet f r p → NothingYet f r (entered_at p t k)
+entered_other : (f r : ℕ) (p : Place) (t k : ℕ) → k ≢ 3 → NothingYet f r p → NothingYet f r (place_entered p t k)
 entered_other f r p t k ne h = by_tests (k == 3) (k == 2) (k == 0) (kind_of k ∷ p.stack) (ne_eqb k 3 ne)
   where
     by_tests : (x a b : Bool) (stack : List Kind) → x ≡ false
@@ -88,7 +88,7 @@ entered_other f r p t k ne h = by_tests (k == 3) (k == 2) (k == 0) (kind_of k �
     by_tests false false true stack e = record { signal = h.signal; windows = h.windows; verdicts = h.verdicts }
     by_tests false false false stack e = record { signal = h.signal; windows = h.windows; verdicts = h.verdicts }
 
-left_other : (f r : ℕ) (p : Place) (t k : ℕ) → k ≢ 3 → NothingYet f r p → NothingYet f r (left_at p t k)
+left_other : (f r : ℕ) (p : Place) (t k : ℕ) → k ≢ 3 → NothingYet f r p → NothingYet f r (place_left p t k)
 left_other f r p t k ne h = record { signal = rw (ne_eqb k 3 ne) h.signal; windows = h.windows; verdicts = h.verdicts }
 
 nothing_on : (loaded : Loaded) (trace : List Event) (f r : ℕ) (p : Place) (back : List Note) (n : Note) → OpensNone n → WindowRuleAt loaded trace p back n → NothingYet f r p → NothingYet f r (next p n)
