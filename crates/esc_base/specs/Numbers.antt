@@ -1,5 +1,6 @@
--- The numbers under which a journal shows kinds, modes, refusals and causes.
-use Rattle.std.specs.Prelude.{ℕ}
+-- The numbers under which a journal shows times, kinds, modes, refusals and causes.
+use Rattle.std.specs.Prelude.{ℕ, Bool, ◌==◌, if◌then◌else◌}
+use Rattle.esc_base.specs.declared.tick.Tick.{Tick}
 use Rattle.esc_base.specs.declared.kind.Kind.{Kind}
 use Rattle.esc_base.specs.declared.kind.Kind.TheVariants as kind
 use Rattle.esc_base.specs.declared.signal.Mode.{Mode}
@@ -27,6 +28,16 @@ mode_number mode.D300Inv = 3
 mode_number mode.D600Inv = 4
 mode_number mode.Servo = 5
 
+-- the mode with a number
+abbrev pub mode_of : ℕ → Mode
+mode_of m =
+    if m == 1 then mode.D300
+    else if m == 2 then mode.D600
+    else if m == 3 then mode.D300Inv
+    else if m == 4 then mode.D600Inv
+    else if m == 5 then mode.Servo
+    else mode.Unknown
+
 abbrev pub why_number : Why → ℕ
 why_number why.Count = 1
 why_number why.Polarity = 2
@@ -38,3 +49,11 @@ abbrev pub cause_number : Cause → ℕ
 cause_number cause.Timeout = 0
 cause_number cause.Stuck = 1
 cause_number cause.Fuse = 2
+
+-- a time as a note has it
+abbrev pub as_tick : ℕ → Tick
+as_tick t = record { 0 = t }
+
+-- what is so as 1, and what isn't as 0
+abbrev pub bit_of : Bool → ℕ
+bit_of is_so = if is_so then 1 else 0

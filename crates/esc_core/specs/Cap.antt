@@ -6,7 +6,7 @@ use Rattle.esc_base.specs.declared.signal.Edge.{Edge}
 use Rattle.esc_base.specs.declared.signal.Frame.{Frame}
 use Rattle.esc_base.specs.declared.note.Note.{Note}
 use Rattle.esc_base.specs.declared.note.Note.TheVariants as note
-use Rattle.esc_base.specs.Numbers.{mode_number, why_number}
+use Rattle.esc_base.specs.Numbers.{as_tick, bit_of, mode_number, why_number}
 use Rattle.edge_capture.specs.Edges.{last_at}
 use Rattle.timer_regs.specs.Bank.{Bank}
 use Rattle.timer_regs.specs.Effects.{read_value}
@@ -17,19 +17,17 @@ use Rattle.dshot_commands.specs.Act.{acting, number_of}
 use Rattle.arming.specs.Kept.{after_found, after_frame}
 use Rattle.esc_core.specs.declared.state.CapAt.{CapAt}
 use Rattle.esc_core.specs.declared.state.CapAt.TheVariants as cap
-use Rattle.esc_core.specs.declared.judge.Judgement.{Judgement}
-use Rattle.esc_core.specs.declared.judge.Judgement.TheVariants.{Good, Bad, Found, Nothing}
+use Rattle.input_detect.specs.declared.window.Judgement.{Judgement}
+use Rattle.input_detect.specs.declared.window.Judgement.TheVariants.{Good, Bad, Found, Nothing}
 use Rattle.esc_core.specs.Brain.{Brain}
-use Rattle.esc_core.specs.Judge.{inputs_of, judged}
+use Rattle.input_detect.specs.Judge.{judged}
+use Rattle.settings_block.specs.Settings.{servo_of}
 use Rattle.esc_core.specs.Orders.{obeyed_if}
 use Rattle.esc_core.specs.Stepped.{Stepped, goes_on, goes_back}
 
-abbrev pub tick_at : ℕ → Tick
-tick_at t = record { 0 = t }
-
 -- the edge that a register shows
 abbrev pub edge_of : ℕ → Edge
-edge_of v = if nat_lt v 2147483648 then record { t = tick_at v; level = false } else record { t = tick_at (v - 2147483648); level = true }
+edge_of v = if nat_lt v 2147483648 then record { t = as_tick v; level = false } else record { t = as_tick (v - 2147483648); level = true }
 
 -- an edge that a burst may go on with
 abbrev pub takes : List Edge → Edge → Bool
@@ -44,17 +42,13 @@ abbrev pub opens : Brain → Bank → Stepped
 opens c b = record {
   core = record c { cap_at = cap.Back; window = c.control.mode; paused = false };
   access = Writes reg.CapArm (mode_number c.control.mode);
-  notes = note.Window (tick_at b.time) (mode_number c.control.mode) ∷ [];
+  notes = note.Window (as_tick b.time) (mode_number c.control.mode) ∷ [];
   over = false;
 }
 
 abbrev pub command_note : ℕ → Option Act → List Note
 command_note t None = []
-command_note t (Some act) = note.Command (tick_at t) (number_of act) ∷ []
-
-abbrev pub bit_of : Bool → ℕ
-bit_of true = 1
-bit_of false = 0
+command_note t (Some act) = note.Command (as_tick t) (number_of act) ∷ []
 
 -- a pause of 600 ticks after a bad window, from the tick of its verdict
 abbrev pub pause_from : ℕ → ℕ
@@ -68,25 +62,25 @@ abbrev pub judge_step : Judgement → Brain → Bank → Stepped
 judge_step (Good frame) c b = record {
   core = record c { cap_at = cap.Open; control = after_frame c.control frame.value; orders = obeyed_if c.orders (act_in c frame) };
   access = NoAccess;
-  notes = note.Good (tick_at b.time) frame.value (bit_of frame.telemetry) ∷ command_note b.time (act_in c frame);
+  notes = note.Good (as_tick b.time) frame.value (bit_of frame.telemetry) ∷ command_note b.time (act_in c frame);
   over = false;
 }
 judge_step (Bad why) c b = record {
   core = record c { cap_at = cap.Pause (pause_from b.time) };
   access = NoAccess;
-  notes = note.Bad (tick_at b.time) (why_number why) ∷ [];
+  notes = note.Bad (as_tick b.time) (why_number why) ∷ [];
   over = false;
 }
 judge_step (Found mode) c b = record {
   core = record c { cap_at = cap.Open; control = after_found c.control mode };
   access = NoAccess;
-  notes = note.Detected (tick_at b.time) (mode_number mode) ∷ [];
+  notes = note.Detected (as_tick b.time) (mode_number mode) ∷ [];
   over = false;
 }
 judge_step Nothing c b = record {
   core = record c { cap_at = cap.Pause (pause_from b.time) };
   access = NoAccess;
-  notes = note.Nothing (tick_at b.time) ∷ [];
+  notes = note.Nothing (as_tick b.time) ∷ [];
   over = false;
 }
 
@@ -107,7 +101,7 @@ cap_step (cap.Copy rest) c b =
     then record c { burst = c.burst ++ next_edge c b ∷ []; cap_at = after_copy rest }
     else record c { cap_at = cap.Back })
     (Reads (reg.CapEdge (length c.burst)))
-cap_step cap.Judge c b = judge_step (judged (inputs_of c.orders.settings) c.window c.burst) c b
+cap_step cap.Judge c b = judge_step (judged c.window c.burst c.orders.settings.input (servo_of c.orders.settings)) c b
 cap_step cap.Open c b = opens c b
 cap_step (cap.Pause at) c b = goes_on (record c { cap_at = cap.Back; paused = true }) (Writes reg.CapAt at)
 cap_step cap.Back c b = goes_back (record c { cap_at = cap.Shut })

@@ -3,7 +3,7 @@ use Rattle.std.specs.Prelude.{ℕ, Bool, true, false, nat_lt, if◌then◌else�
 use Rattle.esc_base.specs.declared.note.Cause.{Cause}
 use Rattle.esc_base.specs.declared.note.Note.{Note}
 use Rattle.esc_base.specs.declared.note.Note.TheVariants as note
-use Rattle.esc_base.specs.Numbers.{cause_number}
+use Rattle.esc_base.specs.Numbers.{cause_number, as_tick}
 use Rattle.timer_regs.specs.Bank.{Bank}
 use Rattle.timer_regs.specs.Effects.{read_value}
 use Rattle.timer_regs.specs.declared.regs.Reg.TheVariants as reg
@@ -14,16 +14,15 @@ use Rattle.arming.specs.Kept.{after_tick, view_of}
 use Rattle.esc_core.specs.declared.state.TickAt.{TickAt}
 use Rattle.esc_core.specs.declared.state.TickAt.TheVariants as tick
 use Rattle.esc_core.specs.Brain.{Brain}
-use Rattle.esc_core.specs.Cap.{tick_at}
 use Rattle.esc_core.specs.Stepped.{Stepped, goes_on, goes_back}
 
 abbrev pub outcome_note : ℕ → Option Cause → Bool → List Note
-outcome_note t (Some cause) armed_now = note.Lost (tick_at t) (cause_number cause) ∷ []
-outcome_note t None true = note.Armed (tick_at t) ∷ []
+outcome_note t (Some cause) armed_now = note.Lost (as_tick t) (cause_number cause) ∷ []
+outcome_note t None true = note.Armed (as_tick t) ∷ []
 outcome_note t None false = []
 
 abbrev pub tick_notes : ℕ → ℕ → ℕ → Ticked → List Note
-tick_notes t n marks answer = note.Control (tick_at t) n marks answer.demand ∷ outcome_note t answer.lost answer.armed_now
+tick_notes t n marks answer = note.Control (as_tick t) n marks answer.demand ∷ outcome_note t answer.lost answer.armed_now
 
 abbrev pub ticked : Brain → ℕ → ℕ → Ticked
 ticked c n marks = answer_of (decide (view_of c.control) n marks) c.control.demand

@@ -9,24 +9,24 @@ use Rattle.esc_base.specs.declared.signal.Mode.{Mode}
 use Rattle.esc_base.specs.declared.event.Event.{Event}
 use Rattle.esc_base.specs.declared.note.Note.TheVariants as note
 use Rattle.esc_base.specs.Trace.{line}
-use Rattle.esc_base.specs.Numbers.{mode_number}
+use Rattle.esc_base.specs.Numbers.{mode_number, mode_of, as_tick, bit_of}
 use Rattle.edge_capture.specs.Edges.{edge_at, last_at, blank, IsInOrder}
 use Rattle.edge_capture.specs.Burst.{burst, is_closed}
 use Rattle.edge_capture.specs.Window.{window_closed}
 use Rattle.timer_regs.specs.Bank.{Bank}
-use Rattle.timer_regs.specs.Effects.{read_value, edges_read, edge_read, is_readable, shown_edge, mode_of}
+use Rattle.timer_regs.specs.Effects.{read_value, edges_read, edge_read, is_readable, shown_edge}
 use Rattle.timer_regs.specs.declared.regs.Reg.TheVariants as reg
 use Rattle.interrupt_machine.specs.Did.{NoAccess, Reads, Writes, accessed}
 use Rattle.esc_base.specs.declared.signal.Frame.{Frame}
 use Rattle.dshot_commands.specs.declared.act.Act.{Act}
 use Rattle.arming.specs.Kept.{after_frame}
 use Rattle.esc_core.specs.declared.state.CapAt.TheVariants as cap
-use Rattle.esc_core.specs.declared.judge.Judgement.{Judgement}
-use Rattle.esc_core.specs.declared.judge.Judgement.TheVariants.{Good, Bad, Found, Nothing}
+use Rattle.input_detect.specs.declared.window.Judgement.{Judgement}
+use Rattle.input_detect.specs.declared.window.Judgement.TheVariants.{Good, Bad, Found, Nothing}
 use Rattle.esc_core.specs.Brain.{Brain}
 use Rattle.esc_core.specs.Orders.{obeyed_if}
 use Rattle.esc_core.specs.Stepped.{Stepped, goes_on}
-use Rattle.esc_core.specs.Cap.{tick_at, bit_of, act_in, after_edges, after_copy, command_note, edge_of, judge_step, next_edge, opens, takes}
+use Rattle.esc_core.specs.Cap.{act_in, after_edges, after_copy, command_note, edge_of, judge_step, next_edge, opens, takes}
 use Rattle.esc_laws.specs.Place.{Signal, Silent, Listens, Judged, Rests, Place, next}
 use Rattle.esc_laws.specs.Windowed.{MayReturn}
 use Rattle.esc_laws.specs.Tied.{CapView, cap_view, Hears, IsClosing, IsCopying, IsListening, IsJudged, IsPaused, SignalTied, WindowSound}
@@ -201,7 +201,7 @@ copy_tied trace c b p w m rest e sound small i =
 pub good_tied : (o : Option Act) (frame : Frame) (trace : List Event) (c : Brain) (b : Bank) (p : Place) (w m : ℕ) → IsClosing (cap_view trace c b p) w m → TiedAfter trace b p (record {
   core = record c { cap_at = cap.Open; control = after_frame c.control frame.value; orders = obeyed_if c.orders o };
   access = NoAccess;
-  notes = note.Good (tick_at b.time) frame.value (bit_of frame.telemetry) ∷ command_note b.time o;
+  notes = note.Good (as_tick b.time) frame.value (bit_of frame.telemetry) ∷ command_note b.time o;
   over = false;
 })
 good_tied None frame trace c b p w m i = (record { verdict = ap (λ (n : ℕ). n + 1) i.no_verdict; taken = i.taken; running = i.hears.running; no_timer = i.hears.no_timer }, refl)
@@ -229,7 +229,7 @@ opened_hears trace c b p m past none is = record {
 pub opens_tied : (trace : List Event) (c : Brain) (b : Bank) (p : Place) → All (λ e. e.t.0 ≤ b.time) (line trace).edges → b.timer ≡ None
     → (p.verdicts ≡ 1) ⊎ ((p.verdicts ≡ 0) × (p.windows ≡ 0)) → TiedAfter trace b p (opens c b)
 opens_tied trace c b p past none done =
-    (record { hears = opened_hears trace c b (next p (note.Window (tick_at b.time) (mode_number c.control.mode))) c.control.mode past none refl; untaken = refl }, one_window p done)
+    (record { hears = opened_hears trace c b (next p (note.Window (as_tick b.time) (mode_number c.control.mode))) c.control.mode past none refl; untaken = refl }, one_window p done)
   where
     one_window : (p : Place) → (p.verdicts ≡ 1) ⊎ ((p.verdicts ≡ 0) × (p.windows ≡ 0)) → (p.verdicts ≡ 1) ⊎ ((p.verdicts ≡ 0) × (p.windows + 1 ≡ 1))
     one_window p (inl v) = inl v
@@ -243,7 +243,7 @@ pause_tied trace c b p f at opens_next e i shuts is =
 
 -- it returns
 pub back_tied : (trace : List Event) (c : Brain) (b : Bank) (p : Place) (s : Signal) (t : ℕ) → p.signal ≡ s → SignalTied s cap.Back (cap_view trace c b p)
-    → SignalTied (next p (note.Leave (tick_at t) 3)).signal cap.Shut (cap_view trace (record c { cap_at = cap.Shut }) b (next p (note.Leave (tick_at t) 3)))
+    → SignalTied (next p (note.Leave (as_tick t) 3)).signal cap.Shut (cap_view trace (record c { cap_at = cap.Shut }) b (next p (note.Leave (as_tick t) 3)))
 back_tied trace c b p Silent t e i = absurd i
 back_tied trace c b p (Listens w m) t e i =
     let k : IsListening (cap_view trace c b p) w m = i.0 in

@@ -11,14 +11,14 @@ use Rattle.edge_capture.specs.Edges.{last_at}
 use Rattle.edge_capture.specs.Burst.{burst, close, close_of, is_closed, wait}
 use Rattle.edge_capture.specs.Window.{window_closed}
 use Rattle.timer_regs.specs.Bank.{Bank}
-use Rattle.timer_regs.specs.Effects.{is_readable, mode_of, after_entry}
+use Rattle.timer_regs.specs.Effects.{is_readable, after_entry}
 use Rattle.interrupt_machine.specs.Open.{due_now}
 use Rattle.esc_core.specs.declared.state.CapAt.{CapAt}
 use Rattle.esc_core.specs.declared.state.CapAt.TheVariants as cap
 use Rattle.esc_core.specs.Brain.{Brain}
 use Rattle.esc_core.specs.Firmware.{entered_core}
-use Rattle.esc_core.specs.Cap.{tick_at}
 use Rattle.esc_base.specs.declared.note.Note.TheVariants as note
+use Rattle.esc_base.specs.Numbers.{mode_of, as_tick}
 use Rattle.esc_laws.specs.Place.{Signal, Silent, Listens, Judged, Rests, Place, next}
 use Rattle.esc_laws.specs.Seen.{calls_cap}
 use Rattle.esc_laws.specs.Tied.{CapView, cap_view, Hears, IsClosing, IsListening, IsJudged, IsPaused, IsOver, SignalTied}
@@ -61,7 +61,7 @@ closed_by m heard t e =
 
 -- the place after an I of CAP
 abbrev pub cap_place : Place → ℕ → Place
-cap_place p t = next p (note.Enter (tick_at t) 3)
+cap_place p t = next p (note.Enter (as_tick t) 3)
 
 pub cap_entered : (due : Bool) (s : Signal) (trace : List Event) (c : Brain) (b : Bank) (p : Place) → p.signal ≡ s → SignalTied s cap.Shut (cap_view trace c b p) → due_now due b kind.Cap ≡ true
     → SignalTied (cap_place p b.time).signal cap.Start (cap_view trace (entered_core c kind.Cap) (after_entry b kind.Cap) (cap_place p b.time))

@@ -15,12 +15,13 @@ use Rattle.esc_base.specs.declared.note.Note.TheVariants as note
 use Rattle.esc_base.specs.Journal.{Each, time_of}
 use Rattle.esc_base.specs.Trace.{line, tick_of, differ}
 use Rattle.esc_base.proofs.TraceLaws.{line-push}
+use Rattle.esc_base.specs.Numbers.{mode_of}
+use Rattle.esc_base.specs.Times.{is_reached}
 use Rattle.edge_capture.specs.Edges.{last_at, blank}
 use Rattle.edge_capture.specs.Burst.{burst, close, close_of, hears, is_closed, wait}
 use Rattle.edge_capture.proofs.Stable.{burst-push, closed_later}
 use Rattle.edge_capture.proofs.Grows.{burst_grows}
 use Rattle.settings_block.specs.declared.stored.Loaded.{Loaded}
-use Rattle.timer_regs.specs.Effects.{mode_of, is_reached}
 use Rattle.esc_laws.specs.Place.{Signal, Silent, Listens, Judged, Rests, place}
 use Rattle.esc_laws.specs.Windowed.{Answers, AnswersAt, WindowRule, Windowed}
 use Rattle.esc_laws.specs.Seen.{calls_cap, sees}

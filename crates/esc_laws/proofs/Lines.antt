@@ -11,15 +11,14 @@ use Rattle.esc_base.specs.declared.event.Event.{Event}
 use Rattle.esc_base.specs.declared.event.Event.TheVariants as event
 use Rattle.esc_base.specs.Trace.{line, differ, tick_of}
 use Rattle.esc_base.proofs.TraceLaws.{line-push}
+use Rattle.esc_base.specs.Numbers.{mode_of, as_tick}
 use Rattle.edge_capture.specs.Edges.{blank, edge_at, last_at, IsInOrder}
 use Rattle.edge_capture.specs.Modes.{most}
 use Rattle.edge_capture.specs.Burst.{burst, hear, hears, is_closed}
 use Rattle.edge_capture.specs.Window.{Window, after_edge, window_closed, window_hears}
 use Rattle.edge_capture.proofs.Stable.{burst-push, deaf}
 use Rattle.timer_regs.specs.Bank.{Bank}
-use Rattle.timer_regs.specs.Effects.{mode_of}
 use Rattle.esc_core.specs.Brain.{Brain}
-use Rattle.esc_core.specs.Cap.{tick_at}
 use Rattle.esc_laws.specs.Place.{Place}
 use Rattle.esc_laws.specs.Tied.{CapView, cap_view, Hears, WindowSound}
 use Rattle.esc_laws.proofs.CapTies.{closing_closed}
@@ -48,7 +47,7 @@ plain_follows trace e c b p same le = record {
 
 -- the edge that stands at now
 abbrev pub edge_now : Bank → Bool → Edge
-edge_now b level = record { t = tick_at b.time; level = level }
+edge_now b level = record { t = as_tick b.time; level = level }
 
 same_level : (a level : Bool) → differ a level ≡ false → a ≡ level
 same_level true true e = refl
@@ -86,8 +85,8 @@ closed_deaf w x c = and_right w.armed (hears w.mode w.opened w.edges x) (deaf w.
 abbrev pub edge_bank : Bank → Bool → Bank
 edge_bank b level = record b { level = level; window = after_edge b.window (edge_now b level) }
 
-pub edge_follows : (trace : List Event) (c : Brain) (b : Bank) (p : Place) (level : Bool) → (line (trace ++ event.Edge (tick_at b.time) level ∷ [])).edges ≡ (line trace).edges ++ edge_now b level ∷ []
-    → Follows (cap_view trace c b p) (cap_view (trace ++ event.Edge (tick_at b.time) level ∷ []) c (edge_bank b level) p)
+pub edge_follows : (trace : List Event) (c : Brain) (b : Bank) (p : Place) (level : Bool) → (line (trace ++ event.Edge (as_tick b.time) level ∷ [])).edges ≡ (line trace).edges ++ edge_now b level ∷ []
+    → Follows (cap_view trace c b p) (cap_view (trace ++ event.Edge (as_tick b.time) level ∷ []) c (edge_bank b level) p)
 edge_follows trace c b p level more =
     let same = edge_same (window_hears b.window (edge_now b level)) b.window (edge_now b level) in
     record {
@@ -110,7 +109,7 @@ edge_follows trace c b p level more =
         no_timer = h.no_timer;
       };
       settled = λ w m i. heard_edges false b.window (edge_now b level) (closed_deaf b.window (edge_now b level) (closing_closed (cap_view trace c b p) w m i));
-      closes = λ w m at h l. close_grows trace (event.Edge (tick_at b.time) level) w at (mode_of m) h l;
+      closes = λ w m at h l. close_grows trace (event.Edge (as_tick b.time) level) w at (mode_of m) h l;
     }
 
 -- ---- the window's edges stay few and in order
@@ -163,10 +162,10 @@ edge_sound w x s = by_test (window_hears w x) refl
 -- ---- the line after an edge
 
 pub line_changes : (trace : List Event) (b : Bank) (level : Bool) → differ (line trace).level level ≡ true
-    → line (trace ++ event.Edge (tick_at b.time) level ∷ []) ≡ record { level = level; edges = (line trace).edges ++ edge_now b level ∷ [] }
-line_changes trace b level d = line-push trace (event.Edge (tick_at b.time) level) ∙ rw d refl
+    → line (trace ++ event.Edge (as_tick b.time) level ∷ []) ≡ record { level = level; edges = (line trace).edges ++ edge_now b level ∷ [] }
+line_changes trace b level d = line-push trace (event.Edge (as_tick b.time) level) ∙ rw d refl
 
-pub line_same : (trace : List Event) (b : Bank) (level : Bool) → differ (line trace).level level ≡ false → line (trace ++ event.Edge (tick_at b.time) level ∷ []) ≡ line trace
+pub line_same : (trace : List Event) (b : Bank) (level : Bool) → differ (line trace).level level ≡ false → line (trace ++ event.Edge (as_tick b.time) level ∷ []) ≡ line trace
 line_same trace b level d =
-    let new : line (trace ++ event.Edge (tick_at b.time) level ∷ []) ≡ record { level = level; edges = (line trace).edges } = line-push trace (event.Edge (tick_at b.time) level) ∙ rw d refl in
+    let new : line (trace ++ event.Edge (as_tick b.time) level ∷ []) ≡ record { level = level; edges = (line trace).edges } = line-push trace (event.Edge (as_tick b.time) level) ∙ rw d refl in
     new ∙ ap (λ (l : Bool). record { level = l; edges = (line trace).edges }) (sym (same_level (line trace).level level d))

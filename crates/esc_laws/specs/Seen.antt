@@ -1,3 +1,4 @@
+-- A law, or what a law is said with: what `Legal` means rests on this.
 -- Which kinds the notes, the trace and the time call for. Nothing here knows a register.
 use Rattle.std.specs.Prelude.{ℕ, ◌+◌, ◌/◌, Bool, false, nat_lt, nat_le, max, List, reverse}
 use Rattle.esc_base.specs.declared.kind.Kind.{Kind}
@@ -5,8 +6,9 @@ use Rattle.esc_base.specs.declared.kind.Kind.TheVariants as kind
 use Rattle.esc_base.specs.declared.event.Event.{Event}
 use Rattle.esc_base.specs.declared.note.Note.{Note}
 use Rattle.esc_base.specs.Trace.{line}
+use Rattle.esc_base.specs.Numbers.{mode_of}
+use Rattle.esc_base.specs.Times.{is_reached}
 use Rattle.edge_capture.specs.Burst.{close}
-use Rattle.timer_regs.specs.Effects.{mode_of, is_reached}
 use Rattle.arming.specs.ControlAt.{asked_at, number_at}
 use Rattle.esc_laws.specs.Place.{Signal, Silent, Listens, Judged, Rests, Place, place}
 

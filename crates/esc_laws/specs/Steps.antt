@@ -1,3 +1,4 @@
+-- A law, or what a law is said with: what `Legal` means rests on this.
 -- The log of the machine's steps with their ticks, of which the journal is the notes. No value keeps it: an entry has
 -- its own step alone, and each count is a fold over the log.
 use Rattle.std.specs.Prelude.{◌≡◌, ◌≢◌, ◌<◌, ◌≤◌, ◌+◌, ℕ, zero, suc, Bool, true, false, ◌&&◌, ◌==◌, if◌then◌else◌, nat_lt, nat_le, List, [], ◌∷◌, ◌++◌, Option, Some, None, All}
@@ -7,7 +8,7 @@ use Rattle.esc_base.specs.declared.event.Event.{Event}
 use Rattle.esc_base.specs.declared.event.Event.TheVariants as event
 use Rattle.esc_base.specs.declared.note.Note.{Note}
 use Rattle.esc_base.specs.declared.note.Note.TheVariants as note
-use Rattle.esc_base.specs.Numbers.{kind_number}
+use Rattle.esc_base.specs.Numbers.{kind_number, as_tick}
 use Rattle.esc_base.specs.Journal.{time_of}
 use Rattle.settings_block.specs.declared.block.BlockFault.{BlockFault}
 use Rattle.settings_block.specs.declared.block.BlockFault.TheVariants.{Marker, Version, Range}
@@ -16,7 +17,6 @@ use Rattle.interrupt_machine.specs.declared.nest.Nest.{Nest}
 use Rattle.interrupt_machine.specs.Did.{most}
 use Rattle.interrupt_machine.specs.Open.{innermost, is_open}
 use Rattle.interrupt_machine.specs.Response.{is_waiting, wait_next}
-use Rattle.esc_core.specs.Cap.{tick_at}
 use Rattle.esc_laws.specs.Place.{place}
 use Rattle.esc_laws.specs.Seen.{sees}
 
@@ -36,7 +36,7 @@ load_number (Some (Range offset)) = 3
 
 -- the two first notes: the load of the settings, and the first window
 abbrev pub first_notes : Option BlockFault → List Note
-first_notes fault = note.Up (tick_at 0) (load_number fault) ∷ note.Window (tick_at 0) 0 ∷ []
+first_notes fault = note.Up (as_tick 0) (load_number fault) ∷ note.Window (as_tick 0) 0 ∷ []
 
 abbrev pub opening : Loaded → List Note
 opening loaded = first_notes loaded.fault
@@ -128,6 +128,12 @@ abbrev pub is_entry : Note → Bool
 is_entry (note.Enter t k) = true
 is_entry n = false
 
+-- only the last note is an O, where one is, and it is the kind's own
+abbrev pub ReturnsLast : Kind → List Note → Type 0
+ReturnsLast k [] = Unit {0}
+ReturnsLast k (note.Leave t j ∷ rest) = (j ≡ kind_number k) × (rest ≡ [])
+ReturnsLast k (n ∷ rest) = ReturnsLast k rest
+
 pub record StepFits (loaded : Loaded) (nest : Nest) (cost : ℕ) (trace : List Event) (before : List Turned) (e : Turned) : Type 0 where
   pub later : after cost trace before ≤ e.tick
   -- no step stands in a stall
@@ -139,15 +145,16 @@ pub record StepFits (loaded : Loaded) (nest : Nest) (cost : ℕ) (trace : List E
   pub idle : open_in loaded before ≡ [] → (t : ℕ) → after cost trace before ≤ t → t < e.tick → free trace t ≡ t → (k : Kind) → sees trace (journal loaded before) t k ≡ false
   pub first : open_in loaded before ≡ [] → (e.enters ≡ true) × ((k : Kind) → sees trace (journal loaded before) e.tick k ≡ true → kind_number k ≤ kind_number e.kind)
   -- an entry is its I note, and other steps are those of the innermost kind
-  pub entry : e.enters ≡ true → e.notes ≡ note.Enter (tick_at e.tick) (kind_number e.kind) ∷ []
+  pub entry : e.enters ≡ true → e.notes ≡ note.Enter (as_tick e.tick) (kind_number e.kind) ∷ []
   pub own : e.enters ≡ false → innermost (open_in loaded before) ≡ Some e.kind
   -- an own step, the return too, stands where `next_step` leads from the entry, and is one of 1 to the most of its kind
   pub reached : e.enters ≡ false → e.tick ≡ uses cost trace (steps_since e.kind (before ++ e ∷ [])) (entered_at e.kind before)
   pub some : e.enters ≡ false → 1 ≤ own_steps e.kind (before ++ e ∷ [])
   pub few : e.enters ≡ false → own_steps e.kind (before ++ e ∷ []) ≤ most e.kind
-  -- its notes stand at its tick, and an own step has no I
+  -- its notes stand at its tick, and an own step has no I, and no O but its own return at its end
   pub at_tick : All (λ n. time_of n ≡ e.tick) e.notes
   pub no_entry : e.enters ≡ false → All (λ n. is_entry n ≡ false) e.notes
+  pub returns : e.enters ≡ false → ReturnsLast e.kind e.notes
   -- no kind that is seen due waits for more than 8 counted steps
   pub patient : (k : Kind) → called loaded nest trace (before ++ e ∷ []) k ≤ 8
 

@@ -1,27 +1,27 @@
+-- A law, or what a law is said with: what `Legal` means rests on this.
 -- Windows and their verdicts. Each rule looks at a note, at all notes before it, and at the trace up to the note's time.
 use Rattle.std.specs.Prelude.{◌≡◌, ◌≤◌, ◌+◌, ℕ, true, false, List, [], reverse, Some}
 use Rattle.esc_base.specs.declared.event.Event.{Event}
 use Rattle.esc_base.specs.declared.note.Note.{Note}
 use Rattle.esc_base.specs.declared.note.Note.TheVariants as note
-use Rattle.esc_base.specs.Numbers.{mode_number, why_number}
+use Rattle.esc_base.specs.Numbers.{mode_number, why_number, mode_of, bit_of, as_tick}
 use Rattle.esc_base.specs.Journal.{Each}
 use Rattle.esc_base.specs.Trace.{line}
 use Rattle.edge_capture.specs.Burst.{burst, close}
 use Rattle.settings_block.specs.declared.stored.Loaded.{Loaded}
-use Rattle.timer_regs.specs.Effects.{mode_of}
 use Rattle.arming.specs.ControlAt.{mode_at}
-use Rattle.esc_core.specs.declared.judge.Judgement.{Judgement}
-use Rattle.esc_core.specs.declared.judge.Judgement.TheVariants.{Good, Bad, Found, Nothing}
-use Rattle.esc_core.specs.Cap.{bit_of, tick_at}
-use Rattle.esc_core.specs.Judge.{inputs_of, judged}
+use Rattle.input_detect.specs.declared.window.Judgement.{Judgement}
+use Rattle.input_detect.specs.declared.window.Judgement.TheVariants.{Good, Bad, Found, Nothing}
+use Rattle.input_detect.specs.Judge.{judged}
+use Rattle.settings_block.specs.Settings.{servo_of}
 use Rattle.esc_laws.specs.Place.{Signal, Silent, Listens, Judged, Rests, Place, place}
 
 -- the F of a window
 abbrev pub verdict_note : ℕ → Judgement → Note
-verdict_note t (Good frame) = note.Good (tick_at t) frame.value (bit_of frame.telemetry)
-verdict_note t (Bad why) = note.Bad (tick_at t) (why_number why)
-verdict_note t (Found mode) = note.Detected (tick_at t) (mode_number mode)
-verdict_note t Nothing = note.Nothing (tick_at t)
+verdict_note t (Good frame) = note.Good (as_tick t) frame.value (bit_of frame.telemetry)
+verdict_note t (Bad why) = note.Bad (as_tick t) (why_number why)
+verdict_note t (Found mode) = note.Detected (as_tick t) (mode_number mode)
+verdict_note t Nothing = note.Nothing (as_tick t)
 
 -- An F at t answers the window that opened at w in this mode: it is the verdict on the window's burst, in an activation of
 -- CAP that was entered at or after the window's close, with the inputs that the loaded settings allow.
@@ -30,7 +30,7 @@ pub record Answers (loaded : Loaded) (trace : List Event) (w m entered t : ℕ) 
   pub closes : close (line trace).edges w (mode_of m) ≡ Some closed_at
   pub waits : closed_at ≤ entered
   pub entered_before : entered ≤ t
-  pub verdict_is : said ≡ verdict_note t (judged (inputs_of loaded.settings) (mode_of m) (burst (line trace).edges w (mode_of m)))
+  pub verdict_is : said ≡ verdict_note t (judged (mode_of m) (burst (line trace).edges w (mode_of m)) loaded.settings.input (servo_of loaded.settings))
 
 -- W and F alternate, so an F answers the newest W
 abbrev pub AnswersAt : Loaded → List Event → Signal → ℕ → ℕ → Note → Type 0

@@ -2,6 +2,7 @@
 use Rattle.std.proofs.Common.{◌≡◌, ◌≢◌, ◌<◌, ℕ, ◌%◌, Bool, true, false, ◌&&◌, ◌==◌, nat_le, if◌then◌else◌, List, [], ◌∷◌, length, slice_index, slice_set, Ok, refl, sym, ◌∙◌, ap, arith}
 use Rattle.std.proofs.lemmas.Bool.Decides.{nat_tests}
 use Rattle.std.proofs.lemmas.List.{length-set, get_or-set_same, get_or-set_other, set-get_or}
+use Rattle.esc_base.specs.Numbers.{bit_of}
 use Rattle.servo_input.specs.declared.servo.InputKind.{InputKind}
 use Rattle.servo_input.specs.declared.servo.InputKind.TheVariants as input
 use Rattle.settings_block.specs.declared.settings.Settings.{Settings}
@@ -9,7 +10,7 @@ use Rattle.settings_block.specs.declared.field.Field.{Field}
 use Rattle.settings_block.specs.declared.field.TheConstants.{ADVANCE, COMPLEMENTARY, DEAD_BAND, DIRECTION, HIGH, INPUT, LOW, MARKER, NEUTRAL, POLES, THREE_D, VERSION}
 use Rattle.settings_block.specs.Field.{allows, byte_at}
 use Rattle.settings_block.specs.Settings.{input_number, input_of, IsInRange}
-use Rattle.settings_block.specs.Block.{bit, block_of, bytes_of, read_of, settings_of, written}
+use Rattle.settings_block.specs.Block.{block_of, bytes_of, read_of, settings_of, written}
 use Rattle.settings_block.proofs.Faults.{complementary_allowed, input_allowed, sound_fault, three_d_allowed, Allowed, Sound}
 
 -- these bytes stand in the block already
@@ -29,11 +30,11 @@ most_of true true c e = refl
 most_of true false c e = e
 most_of false b c e = absurd (let g = e in cc)
 
-bit_at : (b : Bool) (n : ℕ) → (n == 1) ≡ b → nat_le n 1 ≡ true → bit b ≡ n
+bit_at : (b : Bool) (n : ℕ) → (n == 1) ≡ b → nat_le n 1 ≡ true → bit_of b ≡ n
 bit_at true n e le = grind (arith, nat_tests)
 bit_at false n e le = grind (arith, nat_tests)
 
-bit_same : (field : Field) (n : ℕ) → field.most ≡ 1 → allows field n ≡ true → bit (n == 1) ≡ n
+bit_same : (field : Field) (n : ℕ) → field.most ≡ 1 → allows field n ≡ true → bit_of (n == 1) ≡ n
 bit_same field n most e =
     bit_at (n == 1) n refl (rw most at (most_of (nat_le field.least n) (nat_le n field.most) (n % field.step == 0) e))
 
@@ -92,8 +93,8 @@ record Holds (block : List ℕ) (s : Settings) : Type 0 where
   marker : byte_at block MARKER ≡ 1
   version : byte_at block VERSION ≡ 1
   direction : byte_at block DIRECTION ≡ s.direction
-  three_d : byte_at block THREE_D ≡ bit s.three_d
-  complementary : byte_at block COMPLEMENTARY ≡ bit s.complementary
+  three_d : byte_at block THREE_D ≡ bit_of s.three_d
+  complementary : byte_at block COMPLEMENTARY ≡ bit_of s.complementary
   advance : byte_at block ADVANCE ≡ s.advance
   poles : byte_at block POLES ≡ s.poles
   low : byte_at block LOW ≡ s.low
@@ -127,7 +128,7 @@ holds s len =
       input = at 46;
     }
 
-bit_allowed : (b : Bool) → allows THREE_D (bit b) ≡ true
+bit_allowed : (b : Bool) → allows THREE_D (bit_of b) ≡ true
 bit_allowed true = refl
 bit_allowed false = refl
 
@@ -159,7 +160,7 @@ holds_sound block s h r = record {
   );
 }
 
-bit_back : (b : Bool) → (bit b == 1) ≡ b
+bit_back : (b : Bool) → (bit_of b == 1) ≡ b
 bit_back true = refl
 bit_back false = refl
 

@@ -1,6 +1,7 @@
 -- The block's bytes.
 use Rattle.std.specs.Prelude.{ℕ, Bool, not, ◌==◌, if◌then◌else◌, List, [], ◌∷◌, slice_set, find, Option, Some, None, Result, Ok, Err}
 use Rattle.std.specs.Option.{option_map}
+use Rattle.esc_base.specs.Numbers.{bit_of}
 use Rattle.settings_block.specs.declared.field.Field.{Field}
 use Rattle.settings_block.specs.declared.field.TheConstants.{ADVANCE, COMPLEMENTARY, DEAD_BAND, DIRECTION, HIGH, INPUT, LOW, MARKER, NEUTRAL, POLES, THREE_D, VERSION}
 use Rattle.settings_block.specs.declared.settings.Settings.{Settings}
@@ -47,9 +48,6 @@ read_by (Some fault) block = Err fault
 abbrev pub read_of : List ℕ → Result Settings BlockFault
 read_of block = read_by (fault_of block) block
 
-abbrev pub bit : Bool → ℕ
-bit is_on = if is_on then 1 else 0
-
 -- bytes written in order, each with its field
 abbrev pub written : List (Field × ℕ) → List ℕ → List ℕ
 written [] block = block
@@ -57,7 +55,7 @@ written (byte ∷ bytes) block = written bytes (slice_set block byte.0.offset by
 
 abbrev pub bytes_of : Settings → List (Field × ℕ)
 bytes_of s =
-    (MARKER, MARKER.default) ∷ (VERSION, VERSION.default) ∷ (DIRECTION, s.direction) ∷ (THREE_D, bit s.three_d) ∷ (COMPLEMENTARY, bit s.complementary) ∷ (ADVANCE, s.advance) ∷ (POLES, s.poles)
+    (MARKER, MARKER.default) ∷ (VERSION, VERSION.default) ∷ (DIRECTION, s.direction) ∷ (THREE_D, bit_of s.three_d) ∷ (COMPLEMENTARY, bit_of s.complementary) ∷ (ADVANCE, s.advance) ∷ (POLES, s.poles)
     ∷ (LOW, s.low) ∷ (HIGH, s.high) ∷ (NEUTRAL, s.neutral) ∷ (DEAD_BAND, s.dead_band) ∷ (INPUT, input_number s.input) ∷ []
 
 -- the block of these settings: their bytes over those that are kept
