@@ -9,6 +9,8 @@ mod status;
 mod tests;
 mod usage;
 mod words;
+#[cfg(test)]
+mod words_tests;
 
 use esc_base::{FileFlash, InSource, OutSink, Sink, Source};
 pub use options::{Command, Options};
