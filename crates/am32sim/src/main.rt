@@ -9,15 +9,17 @@ mod status;
 mod tests;
 mod usage;
 mod words;
+#[cfg(test)]
+mod words_tests;
 
 use esc_base::{FileFlash, InSource, OutSink, Sink, Source};
+pub use options::{Command, Options};
 pub use run::sim_main;
 pub use status::{Status, status_text};
 use std::process::ExitCode;
 use std::{env, io};
 use usage::usage_text;
 pub use words::{Asked, Words};
-pub use options::{Command, Options};
 
 /// The words behind the program's name. A word that isn't text is in no command.
 fn words_of(rt: &HostRuntime) -> Result<Words, Status> {

@@ -30,7 +30,9 @@ fn program_help(alloc: Global) -> Result<String, AllocError> {
         .about("A motor speed controller's control core, run on a trace of outside events")
         .disable_help_flag(true)
         .disable_help_subcommand(true)
-        .subcommand(Command::new(alloc, "run").about("Run the core on a trace, and write its journal"))?
+        .subcommand(Command::new(alloc, "run").about(
+            "Run the core on a trace, and write its journal",
+        ))?
         .subcommand(Command::new(alloc, "show").about("Write the settings that a flash holds"))?
         .render_help()
 }
