@@ -50,7 +50,8 @@ journal-append : (loaded : Loaded) (steps log : List Turned) → journal loaded 
 journal-append loaded steps log = ap (λ (ns : List Note). opening loaded ++ ns) (flat_map-append (λ e. e.notes) steps log)
 
 -- what was given so far, and what a call adds
-given_more : (first before after : Option (List ℕ)) (notes more : List Note) → before ≡ append_known first (Text notes) → after ≡ append_known before (Text more) → after ≡ append_known first (Text (notes ++ more))
+given_more : (first before after : Option (List ℕ)) (notes more : List Note) → before ≡ append_known first (Text notes)
+    → after ≡ append_known before (Text more) → after ≡ append_known first (Text (notes ++ more))
 given_more first before after notes more e f =
     f ∙ ap (λ (o : Option (List ℕ)). append_known o (Text more)) e ∙ sym (append_known-twice first (Text notes) (Text more)) ∙ ap (append_known first) (sym (flat_map-append note_bytes notes more))
 
@@ -69,20 +70,24 @@ pub record SoFar (cfg : RunConfig) (o : Outset) (now : Told) (r : Runner) (l : L
   pub given_is : given ≡ append_known given_first (Text (journal o.loaded steps))
   pub read : HasRead l left_first left trace
 
-as_run : (cfg : RunConfig) (o : Outset) (nest : Nest) (cost : ℕ) (trace : List Event) (until : ℕ) (notes : List Note) → nest ≡ cfg.nest → cost ≡ cfg.cost → Legal o.loaded nest cost trace until notes → Legal o.loaded cfg.nest cfg.cost trace until notes
+as_run : (cfg : RunConfig) (o : Outset) (nest : Nest) (cost : ℕ) (trace : List Event) (until : ℕ) (notes : List Note) → nest ≡ cfg.nest → cost ≡ cfg.cost
+    → Legal o.loaded nest cost trace until notes → Legal o.loaded cfg.nest cfg.cost trace until notes
 as_run cfg o nest cost trace until notes e f l = rw (← e, ← f) l
 
-left_as_run : (cfg : RunConfig) (o : Outset) (now : Told) (nest : Nest) (cost until : ℕ) (trace : List Event) (notes : List Note) → nest ≡ cfg.nest → cost ≡ cfg.cost → LeftBelow o now nest cost until trace notes → LeftBelow o now cfg.nest cfg.cost until trace notes
+left_as_run : (cfg : RunConfig) (o : Outset) (now : Told) (nest : Nest) (cost until : ℕ) (trace : List Event) (notes : List Note) → nest ≡ cfg.nest
+    → cost ≡ cfg.cost → LeftBelow o now nest cost until trace notes → LeftBelow o now cfg.nest cfg.cost until trace notes
 left_as_run cfg o now nest cost until trace notes e f l = rw (← e, ← f) l
 
 -- notes below a tick are before an event at that tick and before those that are later
-all_later : (until : ℕ) (notes : List Note) (e : Event) (held : List Event) → All (λ n. time_of n < until) notes → until ≡ tick_of e → All (λ x. until ≤ tick_of x) held → All (λ x. All (λ n. time_of n < tick_of x) notes) (e ∷ held)
+all_later : (until : ℕ) (notes : List Note) (e : Event) (held : List Event) → All (λ n. time_of n < until) notes → until ≡ tick_of e
+    → All (λ x. until ≤ tick_of x) held → All (λ x. All (λ n. time_of n < tick_of x) notes) (e ∷ held)
 all_later until notes e held below at later =
     let before : (x : Event) → until ≤ tick_of x → All (λ n. time_of n < tick_of x) notes = λ x le. All-weaker (λ n. time_of n < until) (λ n. time_of n < tick_of x) (λ n lt. omega arith) notes below in
     All-cons (λ x. All (λ n. time_of n < tick_of x) notes) e held (before e (omega arith)) (All-weaker (λ x. until ≤ tick_of x) (λ x. All (λ n. time_of n < tick_of x) notes) before held later)
 
 module _ {K : Type 0} (given : K → Option (List ℕ)) (took broke : K → List ℕ → K → Type 0) (cfg : RunConfig) (o : Outset) (now now' : Told) where
-  pub so_far_none : (r r' : Runner) (l : Lines) (left : Option (List ℕ)) (a b : K) → StandsFor r o now [] [] → Legal o.loaded (nest_of r) (cost_of r) [] 0 (journal o.loaded []) → FlashFits o.loaded o.flash now (journal o.loaded []) → r' ≡ r
+  pub so_far_none : (r r' : Runner) (l : Lines) (left : Option (List ℕ)) (a b : K) → StandsFor r o now [] []
+      → Legal o.loaded (nest_of r) (cost_of r) [] 0 (journal o.loaded []) → FlashFits o.loaded o.flash now (journal o.loaded []) → r' ≡ r
       → nest_of r ≡ cfg.nest → cost_of r ≡ cfg.cost → newest r ≡ 0 → (place l).time.0 ≡ 0 → ((left : Option (List ℕ)) → HasRead l left left [])
       → given b ≡ append_known (given a) (Text (opening o.loaded)) → SoFar cfg o now r' l left left (given a) (given b)
   so_far_none r r' l left a b st legal flash same nest cost new time begins is = rw same (record {
@@ -99,7 +104,8 @@ module _ {K : Type 0} (given : K → Option (List ℕ)) (took broke : K → List
     read = begins left;
   })
 
-  pub so_far_event : (r r' : Runner) (l l' : Lines) (left_first left left' given_first : Option (List ℕ)) (a b : K) (e : Event) → SoFar cfg o now r l left_first left given_first (given a)
+  pub so_far_event : (r r' : Runner) (l l' : Lines) (left_first left left' given_first : Option (List ℕ)) (a b : K) (e : Event)
+      → SoFar cfg o now r l left_first left given_first (given a)
       → newest r' ≡ tick_of e → nest_of r' ≡ nest_of r → cost_of r' ≡ cost_of r → place l' ≡ after_event (place l) e
       → ((first : Option (List ℕ)) (events : List Event) → HasRead l first left events → HasRead l' first left' (events ++ e ∷ []))
       → ((trace : List Event) (steps : List Turned) → StandsFor r' o now' trace steps → Legal o.loaded (nest_of r') (cost_of r') trace (newest r') (journal o.loaded steps))
@@ -124,7 +130,8 @@ module _ {K : Type 0} (given : K → Option (List ℕ)) (took broke : K → List
   -- ---- the sink refuses a line
 
   -- one of the two first ones
-  pub broken_begin : (left : Option (List ℕ)) (a b : K) → BrokeLines given took broke a (opening o.loaded) b → now' ≡ o.flash → IsWriteFault cfg o now' left left (given a) (given b)
+  pub broken_begin : (left : Option (List ℕ)) (a b : K) → BrokeLines given took broke a (opening o.loaded) b → now' ≡ o.flash
+      → IsWriteFault cfg o now' left left (given a) (given b)
   broken_begin left a b g same = record {
     trace = [];
     later = [];
@@ -141,9 +148,11 @@ module _ {K : Type 0} (given : K → Option (List ℕ)) (took broke : K → List
 
   -- one of a step
   broken : (r : Runner) (until : ℕ) (left_first left given_first : Option (List ℕ)) (trace later : List Event) (steps : List Turned) (a b : K)
-      → StandsFor r o now trace steps → nest_of r ≡ cfg.nest → cost_of r ≡ cfg.cost → given a ≡ append_known given_first (Text (journal o.loaded steps)) → TakenEvents left_first left (trace ++ later)
+      → StandsFor r o now trace steps → nest_of r ≡ cfg.nest → cost_of r ≡ cfg.cost → given a ≡ append_known given_first (Text (journal o.loaded steps))
+      → TakenEvents left_first left (trace ++ later)
       → ((notes : List Note) → All (λ n. time_of n < until) notes → All (λ e. All (λ n. time_of n < tick_of e) notes) later)
-      → BreaksOff given took broke o.loaded (StandsFor r o now) (LeftBelow o now' (nest_of r) (cost_of r) until) a b → IsWriteFault cfg o now' left_first left given_first (given b)
+      → BreaksOff given took broke o.loaded (StandsFor r o now) (LeftBelow o now' (nest_of r) (cost_of r) until) a b
+      → IsWriteFault cfg o now' left_first left given_first (given b)
   broken r until left_first left given_first trace later steps a b st nest cost is reads before g =
       let whole : List Note = journal o.loaded steps ++ (g.notes ++ g.last ∷ []) in
       let l : LeftBelow o now' cfg.nest cfg.cost until trace whole = left_as_run cfg o now' (nest_of r) (cost_of r) until trace whole nest cost (g.left_as trace steps st) in
@@ -155,17 +164,20 @@ module _ {K : Type 0} (given : K → Option (List ℕ)) (took broke : K → List
         wrote = record {
           notes = journal o.loaded steps ++ g.notes;
           last = g.last;
-          left = inr (subst (λ (ns : List Note). IsLegalFront cfg o.loaded trace later ns) (sym (append_assoc (journal o.loaded steps) g.notes (g.last ∷ []))) f);
+          left =
+              inr (subst (λ (ns : List Note). IsLegalFront cfg o.loaded trace later ns) (sym (append_assoc (journal o.loaded steps) g.notes (g.last ∷ []))) f);
           flash = subst (λ (ns : List Note). FlashFits o.loaded o.flash now' ns) (sym (append_assoc (journal o.loaded steps) g.notes (g.last ∷ []))) l.flash;
           front = subst (λ (x : Option (List ℕ)). AppendsFront x (note_bytes g.last) (given b)) (given_more given_first (given a) (given g.mid) (journal o.loaded steps) g.notes is g.given_is) g.appended;
         };
       }
 
   -- an event, and those of the lines that are held, were read and not applied
-  pub broken_event : (r : Runner) (l l' : Lines) (until : ℕ) (left_first left left' given_first : Option (List ℕ)) (a b : K) (e : Event) → SoFar cfg o now r l left_first left given_first (given a) → until ≡ tick_of e
+  pub broken_event : (r : Runner) (l l' : Lines) (until : ℕ) (left_first left left' given_first : Option (List ℕ)) (a b : K) (e : Event)
+      → SoFar cfg o now r l left_first left given_first (given a) → until ≡ tick_of e
       → place l' ≡ after_event (place l) e
       → ((first : Option (List ℕ)) (events : List Event) → HasRead l first left events → HasRead l' first left' (events ++ e ∷ []))
-      → BreaksOff given took broke o.loaded (StandsFor r o now) (LeftBelow o now' (nest_of r) (cost_of r) until) a b → IsWriteFault cfg o now' left_first left' given_first (given b)
+      → BreaksOff given took broke o.loaded (StandsFor r o now) (LeftBelow o now' (nest_of r) (cost_of r) until) a b
+      → IsWriteFault cfg o now' left_first left' given_first (given b)
   broken_event r l l' until left_first left left' given_first a b e s at after reads g =
       let held : List Event = events_of (read_from (place l') (unread l'.held)) in
       let time : until ≡ (place l').time.0 = at ∙ sym (time-after_event (place l) e) ∙ ap (λ (p : Place). p.time.0) (sym after) in
@@ -173,9 +185,11 @@ module _ {K : Type 0} (given : K → Option (List ℕ)) (took broke : K → List
       (subst (λ (es : List Event). TakenEvents left_first left' es) (append_assoc s.trace (e ∷ []) held) (taken_held l' left_first left' (s.trace ++ e ∷ []) (reads left_first s.trace s.read)))
       (λ notes below. all_later until notes e held below at (subst (λ (t : ℕ). All (λ x. t ≤ tick_of x) held) (sym time) (events_in_time (place l') (unread l'.held)))) g
 
-  pub broken_end : (r : Runner) (l : Lines) (until : ℕ) (left_first left left' given_first : Option (List ℕ)) (a b : K) → SoFar cfg o now r l left_first left given_first (given a)
+  pub broken_end : (r : Runner) (l : Lines) (until : ℕ) (left_first left left' given_first : Option (List ℕ)) (a b : K)
+      → SoFar cfg o now r l left_first left given_first (given a)
       → ((first : Option (List ℕ)) (events : List Event) → HasRead l first left events → TakenEvents first left' events)
-      → BreaksOff given took broke o.loaded (StandsFor r o now) (LeftBelow o now' (nest_of r) (cost_of r) until) a b → IsWriteFault cfg o now' left_first left' given_first (given b)
+      → BreaksOff given took broke o.loaded (StandsFor r o now) (LeftBelow o now' (nest_of r) (cost_of r) until) a b
+      → IsWriteFault cfg o now' left_first left' given_first (given b)
   broken_end r l until left_first left left' given_first a b s taken g =
       broken r until left_first left' given_first s.trace [] s.steps a b s.stands s.nest s.cost s.given_is
       (rw (append-nil s.trace) (taken left_first s.trace s.read))
@@ -183,7 +197,8 @@ module _ {K : Type 0} (given : K → Option (List ℕ)) (took broke : K → List
 
   -- ---- the end of the trace
 
-  pub done : (r r' : Runner) (l : Lines) (left_first left given_first : Option (List ℕ)) (a b : K) (t : ℕ) → SoFar cfg o now r l left_first left given_first (given a)
+  pub done : (r r' : Runner) (l : Lines) (left_first left given_first : Option (List ℕ)) (a b : K) (t : ℕ)
+      → SoFar cfg o now r l left_first left given_first (given a)
       → ((text : List ℕ) (events : List Event) → HasRead l (Some text) left events → Read text ≡ Trace events t)
       → newest r' ≡ t → nest_of r' ≡ nest_of r → cost_of r' ≡ cost_of r
       → ((trace : List Event) (steps : List Turned) → StandsFor r' o now' trace steps → Legal o.loaded (nest_of r') (cost_of r') trace (newest r') (journal o.loaded steps))
@@ -206,7 +221,8 @@ module _ {K : Type 0} (given : K → Option (List ℕ)) (took broke : K → List
       }
 
 -- what a run has written is legal up to its newest event
-so_far_wrote : (cfg : RunConfig) (o : Outset) (now : Told) (r : Runner) (l : Lines) (left_first left given_first given : Option (List ℕ)) → (s : SoFar cfg o now r l left_first left given_first given) → Wrote cfg o now s.trace (last_tick s.trace) given_first given
+so_far_wrote : (cfg : RunConfig) (o : Outset) (now : Told) (r : Runner) (l : Lines) (left_first left given_first given : Option (List ℕ))
+    → (s : SoFar cfg o now r l left_first left given_first given) → Wrote cfg o now s.trace (last_tick s.trace) given_first given
 so_far_wrote cfg o now r l left_first left given_first given s = record {
   notes = journal o.loaded s.steps;
   flash = s.flash;
@@ -214,16 +230,21 @@ so_far_wrote cfg o now r l left_first left given_first given s = record {
   appended = s.given_is;
 }
 
-pub refused : (cfg : RunConfig) (o : Outset) (now : Told) (r : Runner) (l : Lines) (left_first left given_first given : Option (List ℕ)) (line : ℕ) (kind : Refusal) → SoFar cfg o now r l left_first left given_first given
-    → ((text : List ℕ) (events : List Event) → HasRead l (Some text) left events → Read text ≡ Refused events line kind) → IsRefused cfg o now line kind left_first given_first given
+pub refused : (cfg : RunConfig) (o : Outset) (now : Told) (r : Runner) (l : Lines) (left_first left given_first given : Option (List ℕ)) (line : ℕ) (kind : Refusal)
+    → SoFar cfg o now r l left_first left given_first given
+    → ((text : List ℕ) (events : List Event) → HasRead l (Some text) left events → Read text ≡ Refused events line kind)
+    → IsRefused cfg o now line kind left_first given_first given
 refused cfg o now r l left_first left given_first given line kind s reads = record {
   trace = s.trace;
-  reads = reads_all left_first (Refused s.trace line kind) (λ text is. reads text s.trace (subst (λ (x : Option (List ℕ)). HasRead l x left s.trace) is s.read));
+  reads =
+      reads_all left_first (Refused s.trace line kind) (λ text is. reads text s.trace (subst (λ (x : Option (List ℕ)). HasRead l x left s.trace) is s.read));
   wrote = so_far_wrote cfg o now r l left_first left given_first given s;
 }
 
-pub faulted : (cfg : RunConfig) (o : Outset) (now : Told) (r : Runner) (l : Lines) (left_first left left' given_first given : Option (List ℕ)) → SoFar cfg o now r l left_first left given_first given
-    → ((first : Option (List ℕ)) (events : List Event) → HasRead l first left events → TakenEvents first left' events) → IsReadFault cfg o now left_first left' given_first given
+pub faulted : (cfg : RunConfig) (o : Outset) (now : Told) (r : Runner) (l : Lines) (left_first left left' given_first given : Option (List ℕ))
+    → SoFar cfg o now r l left_first left given_first given
+    → ((first : Option (List ℕ)) (events : List Event) → HasRead l first left events → TakenEvents first left' events)
+    → IsReadFault cfg o now left_first left' given_first given
 faulted cfg o now r l left_first left left' given_first given s taken = record {
   trace = s.trace;
   reads = taken left_first s.trace s.read;

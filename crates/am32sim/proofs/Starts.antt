@@ -15,7 +15,8 @@ no_image f None e = refl
 no_image f (Some path) e = absurd (cc)
 
 -- from what was attached, and loaded from it
-pub set_out : {A : Type 0} (f : A → List ℕ) (image : Option A) (before attached after : Told) (loaded : Loaded) → (IsNone image → attached.bytes ≡ before.bytes) → IsLoaded attached.bytes loaded
+pub set_out : {A : Type 0} (f : A → List ℕ) (image : Option A) (before attached after : Told) (loaded : Loaded)
+    → (IsNone image → attached.bytes ≡ before.bytes) → IsLoaded attached.bytes loaded
     → after.bytes ≡ attached.bytes → before.faults ≤ after.faults → IsOutset (option_map f image) before (record { loaded = loaded; flash = after })
 set_out f image before attached after loaded as_before is same no_fewer = record {
   attached = attached;

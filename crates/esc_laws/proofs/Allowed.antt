@@ -260,9 +260,11 @@ above_none Full k = All-nil (λ j. kind_number j < k)
 above_none One k = All-nil (λ j. (kind_number j ≡ 0) × (0 < k))
 
 said_at : (loaded : Loaded) (nest : Nest) (t u : ℕ) (rest : List Note) → t ≤ u → Said loaded nest two_edges t rest → Said loaded nest two_edges u rest
-said_at loaded nest t u rest le s = record { in_time = s.in_time; windowed = s.windowed; nested = s.nested; past = λ k d l. (let a = s.past k d l in omega arith) }
+said_at loaded nest t u rest le s =
+    record { in_time = s.in_time; windowed = s.windowed; nested = s.nested; past = λ k d l. (let a = s.past k d l in omega arith) }
 
-sees_nothing : (allowed : InputKind) (servo : Servo) (t : ℕ) → nothing t ≡ verdict_note t (judged (mode_of 0) (burst (line two_edges).edges 0 (mode_of 0)) allowed servo)
+sees_nothing : (allowed : InputKind) (servo : Servo) (t : ℕ)
+    → nothing t ≡ verdict_note t (judged (mode_of 0) (burst (line two_edges).edges 0 (mode_of 0)) allowed servo)
 unfolding line burst
 sees_nothing input.Any servo t = refl
 sees_nothing input.DShot servo t = refl
@@ -272,32 +274,39 @@ answers : (loaded : Loaded) → Answers loaded two_edges 0 0 4200 4202 (nothing 
 unfolding line burst
 answers loaded = record { closed_at = 4200; closes = refl; waits = omega arith; entered_before = omega arith; verdict_is = sees_nothing loaded.settings.input (servo_of loaded.settings) 4202 }
 
-rules_1 : (loaded : Loaded) (nest : Nest) → WindowRule loaded two_edges (opening loaded ++ ([])) (enters 2400 2) × NestRule nest (opening loaded ++ ([])) (enters 2400 2)
+rules_1 : (loaded : Loaded) (nest : Nest)
+    → WindowRule loaded two_edges (opening loaded ++ ([])) (enters 2400 2) × NestRule nest (opening loaded ++ ([])) (enters 2400 2)
 unfolding place
 rules_1 loaded nest = (tt, (tt, above_none nest 2))
 
-rules_2 : (loaded : Loaded) (nest : Nest) → WindowRule loaded two_edges (opening loaded ++ (enters 2400 2 ∷ [])) (ticks 2402 1 0 0) × NestRule nest (opening loaded ++ (enters 2400 2 ∷ [])) (ticks 2402 1 0 0)
+rules_2 : (loaded : Loaded) (nest : Nest)
+    → WindowRule loaded two_edges (opening loaded ++ (enters 2400 2 ∷ [])) (ticks 2402 1 0 0) × NestRule nest (opening loaded ++ (enters 2400 2 ∷ [])) (ticks 2402 1 0 0)
 unfolding place
 rules_2 loaded nest = (tt, refl)
 
-rules_3 : (loaded : Loaded) (nest : Nest) → WindowRule loaded two_edges (opening loaded ++ (enters 2400 2 ∷ ticks 2402 1 0 0 ∷ [])) (leaves 2402 2) × NestRule nest (opening loaded ++ (enters 2400 2 ∷ ticks 2402 1 0 0 ∷ [])) (leaves 2402 2)
+rules_3 : (loaded : Loaded) (nest : Nest)
+    → WindowRule loaded two_edges (opening loaded ++ (enters 2400 2 ∷ ticks 2402 1 0 0 ∷ [])) (leaves 2402 2) × NestRule nest (opening loaded ++ (enters 2400 2 ∷ ticks 2402 1 0 0 ∷ [])) (leaves 2402 2)
 unfolding place
 rules_3 loaded nest = (λ e. cc, (refl, refl))
 
-rules_4 : (loaded : Loaded) (nest : Nest) → WindowRule loaded two_edges (opening loaded ++ (enters 2400 2 ∷ ticks 2402 1 0 0 ∷ leaves 2402 2 ∷ [])) (enters 4200 3) × NestRule nest (opening loaded ++ (enters 2400 2 ∷ ticks 2402 1 0 0 ∷ leaves 2402 2 ∷ [])) (enters 4200 3)
+rules_4 : (loaded : Loaded) (nest : Nest)
+    → WindowRule loaded two_edges (opening loaded ++ (enters 2400 2 ∷ ticks 2402 1 0 0 ∷ leaves 2402 2 ∷ [])) (enters 4200 3) × NestRule nest (opening loaded ++ (enters 2400 2 ∷ ticks 2402 1 0 0 ∷ leaves 2402 2 ∷ [])) (enters 4200 3)
 unfolding place
 rules_4 loaded nest = (tt, (tt, above_none nest 3))
 
-rules_5 : (loaded : Loaded) (nest : Nest) → WindowRule loaded two_edges (opening loaded ++ (enters 2400 2 ∷ ticks 2402 1 0 0 ∷ leaves 2402 2 ∷ enters 4200 3 ∷ [])) (nothing 4202) × NestRule nest (opening loaded ++ (enters 2400 2 ∷ ticks 2402 1 0 0 ∷ leaves 2402 2 ∷ enters 4200 3 ∷ [])) (nothing 4202)
+rules_5 : (loaded : Loaded) (nest : Nest)
+    → WindowRule loaded two_edges (opening loaded ++ (enters 2400 2 ∷ ticks 2402 1 0 0 ∷ leaves 2402 2 ∷ enters 4200 3 ∷ [])) (nothing 4202) × NestRule nest (opening loaded ++ (enters 2400 2 ∷ ticks 2402 1 0 0 ∷ leaves 2402 2 ∷ enters 4200 3 ∷ [])) (nothing 4202)
 unfolding place
 rules_5 loaded nest = (answers loaded, refl)
 
-rules_6 : (loaded : Loaded) (nest : Nest) → WindowRule loaded two_edges (opening loaded ++ (enters 2400 2 ∷ ticks 2402 1 0 0 ∷ leaves 2402 2 ∷ enters 4200 3 ∷ nothing 4202 ∷ [])) (leaves 4202 3) × NestRule nest (opening loaded ++ (enters 2400 2 ∷ ticks 2402 1 0 0 ∷ leaves 2402 2 ∷ enters 4200 3 ∷ nothing 4202 ∷ [])) (leaves 4202 3)
+rules_6 : (loaded : Loaded) (nest : Nest)
+    → WindowRule loaded two_edges (opening loaded ++ (enters 2400 2 ∷ ticks 2402 1 0 0 ∷ leaves 2402 2 ∷ enters 4200 3 ∷ nothing 4202 ∷ [])) (leaves 4202 3) × NestRule nest (opening loaded ++ (enters 2400 2 ∷ ticks 2402 1 0 0 ∷ leaves 2402 2 ∷ enters 4200 3 ∷ nothing 4202 ∷ [])) (leaves 4202 3)
 unfolding place
 rules_6 loaded nest = (λ e. refl, (refl, inl refl))
 
 one_said : (loaded : Loaded) (nest : Nest) → Said loaded nest two_edges 2400 (enters 2400 2 ∷ [])
-one_said loaded nest = said_push loaded nest two_edges 2400 [] (enters 2400 2) (start_said loaded nest two_edges 2400) refl (rules_1 loaded nest).0 (rules_1 loaded nest).1
+one_said loaded nest =
+    said_push loaded nest two_edges 2400 [] (enters 2400 2) (start_said loaded nest two_edges 2400) refl (rules_1 loaded nest).0 (rules_1 loaded nest).1
 
 all_said : (loaded : Loaded) (nest : Nest) → Said loaded nest two_edges 4202 tick_and_verdict
 all_said loaded nest =
@@ -308,7 +317,8 @@ all_said loaded nest =
     said_push loaded nest two_edges 4202 (enters 2400 2 ∷ ticks 2402 1 0 0 ∷ leaves 2402 2 ∷ enters 4200 3 ∷ nothing 4202 ∷ []) (leaves 4202 3) s5 refl (rules_6 loaded nest).0 (rules_6 loaded nest).1
 
 one_controlled : (loaded : Loaded) → Controlled (opening loaded ++ enters 2400 2 ∷ [])
-one_controlled loaded = (record { paid = refl; tick = tt; save = tt }, (record { paid = refl; tick = tt; save = tt }, (record { paid = refl; tick = tt; save = tt }, tt)))
+one_controlled loaded =
+    (record { paid = refl; tick = tt; save = tt }, (record { paid = refl; tick = tt; save = tt }, (record { paid = refl; tick = tt; save = tt }, tt)))
 
 all_controlled : (loaded : Loaded) → Controlled (opening loaded ++ tick_and_verdict)
 all_controlled loaded = (

@@ -96,7 +96,8 @@ copies false x outer w m left v g sound e k on = cc
 
 -- ---- it opens a window, or sets the timer
 
-open_window : (x : World) (outer : List Kind) (s : Signal) → Ground x → (so_far x).signal ≡ s → OpensAt x.trace s (so_far x).cap_entered x.bank.time → x.bank.timer ≡ None
+open_window : (x : World) (outer : List Kind) (s : Signal) → Ground x → (so_far x).signal ≡ s → OpensAt x.trace s (so_far x).cap_entered x.bank.time
+    → x.bank.timer ≡ None
     → ((so_far x).verdicts ≡ 1) ⊎ (((so_far x).verdicts ≡ 0) × ((so_far x).windows ≡ 0)) → (so_far x).stack ≡ kind.Cap ∷ outer
     → StepKeeps kind.Cap outer x (opens x.core x.bank)
 open_window x outer s g e may none done on = record {

@@ -58,7 +58,8 @@ shows_edge_at : (b : Bank) (i : ℕ) → is_readable b ≡ true → i < length b
 shows_edge_at b i e l = rw (shows_edges b e, lt-ltb i (length b.window.edges) l) refl
 
 -- the next edge that CAP copies is the window's
-pub next_is : (c : Brain) (b : Bank) → is_readable b ≡ true → length c.burst < length b.window.edges → (edge_at b.window.edges (length c.burst)).t.0 < 2147483648
+pub next_is : (c : Brain) (b : Bank) → is_readable b ≡ true → length c.burst < length b.window.edges
+    → (edge_at b.window.edges (length c.burst)).t.0 < 2147483648
     → next_edge c b ≡ edge_at b.window.edges (length c.burst)
 next_is c b e l small = ap edge_of (shows_edge_at b (length c.burst) e l) ∙ edge_of-shown (edge_at b.window.edges (length c.burst)) small
 
@@ -89,7 +90,8 @@ begin_copied v w m n i e s =
     none : (n : ℕ) → n - n ≡ 0
     none n = omega arith
 
-pub start_tied : (trace : List Event) (c : Brain) (b : Bank) (p : Place) (w m : ℕ) → p.signal ≡ Listens w m → length b.window.edges ≤ 32 → IsClosing (cap_view trace c b p) w m
+pub start_tied : (trace : List Event) (c : Brain) (b : Bank) (p : Place) (w m : ℕ) → p.signal ≡ Listens w m → length b.window.edges ≤ 32
+    → IsClosing (cap_view trace c b p) w m
     → TiedAfter trace b p (record { core = record c { burst = []; cap_at = after_edges (read_value b reg.CapState) }; access = Reads reg.CapState; notes = []; over = false })
 start_tied trace c b p w m e few i =
     let readable : is_readable b ≡ true = closing_closed (cap_view trace c b p) w m i in
@@ -121,7 +123,8 @@ last_of_front edges (suc i) o l =
     pred : (i : ℕ) → suc i - 1 ≡ i
     pred i = omega arith
 
-copy_takes : (c : Brain) (b : Bank) (i : ℕ) → c.burst ≡ take i b.window.edges → i < length b.window.edges → length b.window.edges ≤ 32 → IsInOrder b.window.edges
+copy_takes : (c : Brain) (b : Bank) (i : ℕ) → c.burst ≡ take i b.window.edges → i < length b.window.edges → length b.window.edges ≤ 32
+    → IsInOrder b.window.edges
     → next_edge c b ≡ edge_at b.window.edges i → takes c.burst (next_edge c b) ≡ true
 copy_takes c b i e l few o n =
     let len : length c.burst ≡ i = rw e (length-take-le i b.window.edges (omega arith)) in
@@ -151,7 +154,8 @@ after_copy_at false rest v w m x i some within e =
     one_less : (n r : ℕ) → 2 ≤ r → r ≤ n → (n - r) + 1 ≡ n - (r - 1)
     one_less n r m le = omega arith
 
-pub copy_reads : (trace : List Event) (c : Brain) (b : Bank) (p : Place) (w m rest : ℕ) → WindowSound b.window b.time → b.time < 2147483648 → IsCopying (cap_view trace c b p) w m rest
+pub copy_reads : (trace : List Event) (c : Brain) (b : Bank) (p : Place) (w m rest : ℕ) → WindowSound b.window b.time → b.time < 2147483648
+    → IsCopying (cap_view trace c b p) w m rest
     → next_edge c b ≡ edge_at b.window.edges (length b.window.edges - rest)
 copy_reads trace c b p w m rest sound small i =
     let edges : List Edge = b.window.edges in
@@ -166,14 +170,16 @@ copy_reads trace c b p w m rest sound small i =
     next_is c b readable (rw len inside) (rw len early) ∙ ap (λ (n : ℕ). edge_at edges n) len
 
 -- each edge of the window fits the burst
-pub copy_goes : (trace : List Event) (c : Brain) (b : Bank) (p : Place) (w m rest : ℕ) → length b.window.edges ≤ 32 → WindowSound b.window b.time → b.time < 2147483648 → IsCopying (cap_view trace c b p) w m rest
+pub copy_goes : (trace : List Event) (c : Brain) (b : Bank) (p : Place) (w m rest : ℕ) → length b.window.edges ≤ 32 → WindowSound b.window b.time
+    → b.time < 2147483648 → IsCopying (cap_view trace c b p) w m rest
     → takes c.burst (next_edge c b) ≡ true
 copy_goes trace c b p w m rest few sound small i =
     let some : 1 ≤ rest = i.some in
     let within : rest ≤ length b.window.edges = i.within in
     copy_takes c b (length b.window.edges - rest) i.copied (omega arith) few sound.order (copy_reads trace c b p w m rest sound small i)
 
-pub copy_tied : (trace : List Event) (c : Brain) (b : Bank) (p : Place) (w m rest : ℕ) → p.signal ≡ Listens w m → WindowSound b.window b.time → b.time < 2147483648
+pub copy_tied : (trace : List Event) (c : Brain) (b : Bank) (p : Place) (w m rest : ℕ) → p.signal ≡ Listens w m → WindowSound b.window b.time
+    → b.time < 2147483648
     → IsCopying (cap_view trace c b p) w m rest
     → TiedAfter trace b p (goes_on (record c { burst = c.burst ++ next_edge c b ∷ []; cap_at = after_copy rest }) (Reads (reg.CapEdge (length c.burst))))
 copy_tied trace c b p w m rest e sound small i =
@@ -201,23 +207,31 @@ copy_tied trace c b p w m rest e sound small i =
     (ap (λ (xs : List Edge). xs ++ next_edge c b ∷ []) copied ∙ ap (λ (x : Edge). take index edges ++ x ∷ []) (copy_reads trace c b p w m rest sound small i) ∙ sym (take_more edges index blank inside)))
 
 -- it judges
-pub good_tied : (o : Option Act) (frame : Frame) (trace : List Event) (c : Brain) (b : Bank) (p : Place) (w m : ℕ) → IsClosing (cap_view trace c b p) w m → TiedAfter trace b p (record {
-  core = record c { cap_at = cap.Open; control = after_frame c.control frame.value; orders = obeyed_if c.orders o };
-  access = NoAccess;
-  notes = note.Good (as_tick b.time) frame.value (bit_of frame.telemetry) ∷ command_note b.time o;
-  over = false;
-})
-good_tied None frame trace c b p w m i = (record { verdict = ap (λ (n : ℕ). n + 1) i.no_verdict; taken = i.taken; running = i.hears.running; no_timer = i.hears.no_timer }, refl)
-good_tied (Some act) frame trace c b p w m i = (record { verdict = ap (λ (n : ℕ). n + 1) i.no_verdict; taken = i.taken; running = i.hears.running; no_timer = i.hears.no_timer }, refl)
+pub good_tied : (o : Option Act) (frame : Frame) (trace : List Event) (c : Brain) (b : Bank) (p : Place) (w m : ℕ) → IsClosing (cap_view trace c b p) w m
+    → TiedAfter trace b p (record {
+      core = record c { cap_at = cap.Open; control = after_frame c.control frame.value; orders = obeyed_if c.orders o };
+      access = NoAccess;
+      notes = note.Good (as_tick b.time) frame.value (bit_of frame.telemetry) ∷ command_note b.time o;
+      over = false;
+    })
+good_tied None frame trace c b p w m i =
+    (record { verdict = ap (λ (n : ℕ). n + 1) i.no_verdict; taken = i.taken; running = i.hears.running; no_timer = i.hears.no_timer }, refl)
+good_tied (Some act) frame trace c b p w m i =
+    (record { verdict = ap (λ (n : ℕ). n + 1) i.no_verdict; taken = i.taken; running = i.hears.running; no_timer = i.hears.no_timer }, refl)
 
-pub judged_tied : (j : Judgement) (trace : List Event) (c : Brain) (b : Bank) (p : Place) (w m : ℕ) → IsClosing (cap_view trace c b p) w m → TiedAfter trace b p (judge_step j c b)
+pub judged_tied : (j : Judgement) (trace : List Event) (c : Brain) (b : Bank) (p : Place) (w m : ℕ) → IsClosing (cap_view trace c b p) w m
+    → TiedAfter trace b p (judge_step j c b)
 judged_tied (Good frame) trace c b p w m i = good_tied (act_in c frame) frame trace c b p w m i
-judged_tied (Bad why) trace c b p w m i = (record { verdict = ap (λ (n : ℕ). n + 1) i.no_verdict; taken = i.taken; running = i.hears.running; no_timer = i.hears.no_timer }, (refl, refl))
-judged_tied (Found mode) trace c b p w m i = (record { verdict = ap (λ (n : ℕ). n + 1) i.no_verdict; taken = i.taken; running = i.hears.running; no_timer = i.hears.no_timer }, refl)
-judged_tied Nothing trace c b p w m i = (record { verdict = ap (λ (n : ℕ). n + 1) i.no_verdict; taken = i.taken; running = i.hears.running; no_timer = i.hears.no_timer }, (refl, refl))
+judged_tied (Bad why) trace c b p w m i =
+    (record { verdict = ap (λ (n : ℕ). n + 1) i.no_verdict; taken = i.taken; running = i.hears.running; no_timer = i.hears.no_timer }, (refl, refl))
+judged_tied (Found mode) trace c b p w m i =
+    (record { verdict = ap (λ (n : ℕ). n + 1) i.no_verdict; taken = i.taken; running = i.hears.running; no_timer = i.hears.no_timer }, refl)
+judged_tied Nothing trace c b p w m i =
+    (record { verdict = ap (λ (n : ℕ). n + 1) i.no_verdict; taken = i.taken; running = i.hears.running; no_timer = i.hears.no_timer }, (refl, refl))
 
 -- it opens a window
-opened_hears : (trace : List Event) (c : Brain) (b : Bank) (p : Place) (m : Mode) → All (λ e. e.t.0 ≤ b.time) (line trace).edges → b.timer ≡ None → c.control.mode ≡ m
+opened_hears : (trace : List Event) (c : Brain) (b : Bank) (p : Place) (m : Mode) → All (λ e. e.t.0 ≤ b.time) (line trace).edges → b.timer ≡ None
+    → c.control.mode ≡ m
     → Hears (cap_view trace (record c { cap_at = cap.Back; window = m; paused = false }) (accessed b (Writes reg.CapArm (mode_number m))) p) b.time (mode_number m)
 opened_hears trace c b p m past none is = record {
   armed = refl;
@@ -239,7 +253,8 @@ opens_tied trace c b p past none done =
     one_window p (inr n) = inr (n.0, ap (λ (x : ℕ). x + 1) n.1)
 
 -- it sets the window timer
-pub pause_tied : (trace : List Event) (c : Brain) (b : Bank) (p : Place) (f at : ℕ) (opens_next : Bool) → p.signal ≡ Judged f opens_next → IsJudged (cap_view trace c b p) → opens_next ≡ false
+pub pause_tied : (trace : List Event) (c : Brain) (b : Bank) (p : Place) (f at : ℕ) (opens_next : Bool) → p.signal ≡ Judged f opens_next
+    → IsJudged (cap_view trace c b p) → opens_next ≡ false
     → TiedAfter trace b p (record { core = record c { cap_at = cap.Back; paused = true }; access = Writes reg.CapAt at; notes = []; over = false })
 pause_tied trace c b p f at opens_next e i shuts = rw e (record { taken = i.taken; paused = refl }, (shuts, i.verdict))
 
@@ -256,7 +271,8 @@ back_tied trace c b p (Judged f opens_next) t e i =
 back_tied trace c b p (Rests f r) t e i = absurd i
 
 -- the window timer while it is set
-pub back_timer : (s : Signal) (v : CapView) (edges : List Edge) (since t : ℕ) (timer : Option ℕ) → SignalTied s cap.Back v → since ≤ t → TimerTied s cap.Back edges since timer → TimerTied (rested s t) cap.Shut edges (t + 1) timer
+pub back_timer : (s : Signal) (v : CapView) (edges : List Edge) (since t : ℕ) (timer : Option ℕ) → SignalTied s cap.Back v → since ≤ t
+    → TimerTied s cap.Back edges since timer → TimerTied (rested s t) cap.Shut edges (t + 1) timer
 back_timer Silent v edges since t timer i le k = absurd i
 back_timer (Listens w m) v edges since t timer i le k = tt
 back_timer (Judged f opens_next) v edges since t timer i le k = set_later edges f since t timer le k
@@ -268,13 +284,15 @@ timer_off (Listens w m) edges since timer = tt
 timer_off (Judged f opens_next) edges since timer = tt
 timer_off (Rests f r) edges since timer = tt
 
-pub timer_grows : (s : Signal) (at : CapAt) (edges : List Edge) (x : Edge) (since : ℕ) (timer : Option ℕ) → All (λ e. e.t.0 ≤ x.t.0) edges → TimerTied s at edges since timer → TimerTied s at (edges ++ x ∷ []) since (put_off timer x.t.0)
+pub timer_grows : (s : Signal) (at : CapAt) (edges : List Edge) (x : Edge) (since : ℕ) (timer : Option ℕ) → All (λ e. e.t.0 ≤ x.t.0) edges
+    → TimerTied s at edges since timer → TimerTied s at (edges ++ x ∷ []) since (put_off timer x.t.0)
 timer_grows (Judged f opens_next) cap.Back edges x since timer until k = set_grows edges x f since timer until k
 timer_grows (Rests f r) cap.Shut edges x since timer until k = set_grows edges x f r timer until k
 timer_grows s at edges x since timer until k = k
 
 -- what it has done by then
-pub back_done : (trace : List Event) (c : Brain) (b : Bank) (p : Place) (s : Signal) → SignalTied s cap.Back (cap_view trace c b p) → (p.verdicts ≡ 1) ⊎ ((p.verdicts ≡ 0) × (p.windows ≡ 1))
+pub back_done : (trace : List Event) (c : Brain) (b : Bank) (p : Place) (s : Signal) → SignalTied s cap.Back (cap_view trace c b p)
+    → (p.verdicts ≡ 1) ⊎ ((p.verdicts ≡ 0) × (p.windows ≡ 1))
 back_done trace c b p Silent i = absurd i
 back_done trace c b p (Listens w m) i = i.1
 back_done trace c b p (Judged f opens_next) i = inl i.1.1

@@ -30,14 +30,17 @@ use Rattle.esc_laws.proofs.Rests.{first_by}
 
 -- ---- a window that is closed by the trace is closed by the registers, and back
 
-heard_closed : (v : CapView) (w m : ℕ) → Hears v w m → is_closed (mode_of m) (burst (line v.trace).edges w (mode_of m)) v.time ≡ true → window_closed v.window v.time ≡ true
+heard_closed : (v : CapView) (w m : ℕ) → Hears v w m → is_closed (mode_of m) (burst (line v.trace).edges w (mode_of m)) v.time ≡ true
+    → window_closed v.window v.time ≡ true
 heard_closed v w m h c = rw (h.armed, h.mode, h.edges) c
 
-closed_heard : (v : CapView) (w m : ℕ) → Hears v w m → window_closed v.window v.time ≡ true → is_closed (mode_of m) (burst (line v.trace).edges w (mode_of m)) v.time ≡ true
+closed_heard : (v : CapView) (w m : ℕ) → Hears v w m → window_closed v.window v.time ≡ true
+    → is_closed (mode_of m) (burst (line v.trace).edges w (mode_of m)) v.time ≡ true
 closed_heard v w m h c = rw (h.armed, h.mode, h.edges) at c
 
 -- a CAP that the notes call for is due
-pub cap_called : (due : Bool) (s : Signal) (trace : List Event) (c : Brain) (b : Bank) (p : Place) (since : ℕ) → SignalTied s cap.Shut (cap_view trace c b p) → TimerTied s cap.Shut (line trace).edges since b.timer → calls_cap trace s b.time ≡ true → due_now due b kind.Cap ≡ true
+pub cap_called : (due : Bool) (s : Signal) (trace : List Event) (c : Brain) (b : Bank) (p : Place) (since : ℕ) → SignalTied s cap.Shut (cap_view trace c b p)
+    → TimerTied s cap.Shut (line trace).edges since b.timer → calls_cap trace s b.time ≡ true → due_now due b kind.Cap ≡ true
 cap_called due Silent trace c b p since i timer e = absurd i
 cap_called due (Listens w m) trace c b p since i timer e =
     cap_due_window due b
@@ -65,7 +68,8 @@ closed_by m heard t e =
 abbrev pub cap_place : Place → ℕ → Place
 cap_place p t = next p (note.Enter (as_tick t) 3)
 
-pub cap_entered : (due : Bool) (s : Signal) (trace : List Event) (c : Brain) (b : Bank) (p : Place) (since : ℕ) → p.signal ≡ s → SignalTied s cap.Shut (cap_view trace c b p) → TimerTied s cap.Shut (line trace).edges since b.timer → due_now due b kind.Cap ≡ true
+pub cap_entered : (due : Bool) (s : Signal) (trace : List Event) (c : Brain) (b : Bank) (p : Place) (since : ℕ) → p.signal ≡ s
+    → SignalTied s cap.Shut (cap_view trace c b p) → TimerTied s cap.Shut (line trace).edges since b.timer → due_now due b kind.Cap ≡ true
     → SignalTied (cap_place p b.time).signal cap.Start (cap_view trace (entered_core c kind.Cap) (after_entry b kind.Cap) (cap_place p b.time))
 cap_entered due Silent trace c b p since e i timer d = absurd i
 cap_entered due (Listens w m) trace c b p since e i timer d =
@@ -187,7 +191,8 @@ time_follows v u le = record {
   entered = refl;
   windows = refl;
   verdicts = refl;
-  hears = λ w m h. record { armed = h.armed; mode = h.mode; opened = h.opened; edges = h.edges; core_mode = h.core_mode; running = h.running; no_timer = h.no_timer };
+  hears =
+      λ w m h. record { armed = h.armed; mode = h.mode; opened = h.opened; edges = h.edges; core_mode = h.core_mode; running = h.running; no_timer = h.no_timer };
   settled = λ w m i. refl;
   closes = λ w m c e l. e;
   rested = λ t le. omega arith;

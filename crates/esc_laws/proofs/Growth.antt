@@ -31,10 +31,12 @@ use Rattle.esc_laws.proofs.Rests.{first_stays, first_before}
 -- ---- windows
 
 -- the close of a window that is closed
-pub close_grows : (trace : List Event) (e : Event) (w c : ℕ) (m : Mode) → close (line trace).edges w m ≡ Some c → c ≤ tick_of e → close (line (trace ++ e ∷ [])).edges w m ≡ Some c
+pub close_grows : (trace : List Event) (e : Event) (w c : ℕ) (m : Mode) → close (line trace).edges w m ≡ Some c → c ≤ tick_of e
+    → close (line (trace ++ e ∷ [])).edges w m ≡ Some c
 close_grows trace e w c m h le = ap (close_of m) (burst_grows trace e w c m h le) ∙ h
 
-answers_grow : (loaded : Loaded) (trace : List Event) (e : Event) (w m entered t : ℕ) (n : Note) → t ≤ tick_of e → Answers loaded trace w m entered t n → Answers loaded (trace ++ e ∷ []) w m entered t n
+answers_grow : (loaded : Loaded) (trace : List Event) (e : Event) (w m entered t : ℕ) (n : Note) → t ≤ tick_of e → Answers loaded trace w m entered t n
+    → Answers loaded (trace ++ e ∷ []) w m entered t n
 answers_grow loaded trace e w m entered t n le a =
     let before : a.closed_at ≤ tick_of e = (let x = a.waits in let y = a.entered_before in omega arith) in
     record {
@@ -45,17 +47,21 @@ answers_grow loaded trace e w m entered t n le a =
       verdict_is = rw (burst_grows trace e w a.closed_at (mode_of m) a.closes before) a.verdict_is;
     }
 
-answers_at_grow : (loaded : Loaded) (trace : List Event) (e : Event) (s : Signal) (entered t : ℕ) (n : Note) → t ≤ tick_of e → AnswersAt loaded trace s entered t n → AnswersAt loaded (trace ++ e ∷ []) s entered t n
+answers_at_grow : (loaded : Loaded) (trace : List Event) (e : Event) (s : Signal) (entered t : ℕ) (n : Note) → t ≤ tick_of e
+    → AnswersAt loaded trace s entered t n → AnswersAt loaded (trace ++ e ∷ []) s entered t n
 answers_at_grow loaded trace e (Listens w m) entered t n le a = answers_grow loaded trace e w m entered t n le a
 answers_at_grow loaded trace e Silent entered t n le a = a
 answers_at_grow loaded trace e (Judged f opens) entered t n le a = a
 answers_at_grow loaded trace e (Rests f r) entered t n le a = a
 
 -- the first rested tick by now
-pub first_grows : (trace : List Event) (e : Event) (t : ℕ) → first_rested (line trace).edges t ≤ tick_of e → first_rested (line (trace ++ e ∷ [])).edges t ≤ first_rested (line trace).edges t
-first_grows trace (event.Edge at level) t le = rw (line-push trace (event.Edge at level)) (changed (differ (line trace).level level) (line trace).edges (record { t = at; level = level }) t le)
+pub first_grows : (trace : List Event) (e : Event) (t : ℕ) → first_rested (line trace).edges t ≤ tick_of e
+    → first_rested (line (trace ++ e ∷ [])).edges t ≤ first_rested (line trace).edges t
+first_grows trace (event.Edge at level) t le =
+    rw (line-push trace (event.Edge at level)) (changed (differ (line trace).level level) (line trace).edges (record { t = at; level = level }) t le)
   where
-    changed : (v : Bool) (edges : List Edge) (x : Edge) (t : ℕ) → first_rested edges t ≤ x.t.0 → first_rested (if v then edges ++ x ∷ [] else edges) t ≤ first_rested edges t
+    changed : (v : Bool) (edges : List Edge) (x : Edge) (t : ℕ) → first_rested edges t ≤ x.t.0
+        → first_rested (if v then edges ++ x ∷ [] else edges) t ≤ first_rested edges t
     changed true edges x t le = rw (first_stays edges x t le) (omega arith)
     changed false edges x t le = omega arith
 first_grows trace (event.Comp at level) t le = rw (line-push trace (event.Comp at level)) (omega arith)
@@ -71,21 +77,27 @@ opens_grow trace e Silent entered t le o = o
 opens_grow trace e (Listens w m) entered t le o = o
 opens_grow trace e (Judged f opens) entered t le o = o
 
-rule_grows : (loaded : Loaded) (trace : List Event) (e : Event) (before : List Note) (n : Note) → time_of n ≤ tick_of e → WindowRule loaded trace before n → WindowRule loaded (trace ++ e ∷ []) before n
-rule_grows loaded trace e before (note.Good t v q) le r = answers_at_grow loaded trace e (place before).signal (place before).cap_entered t.0 (note.Good t v q) le r
-rule_grows loaded trace e before (note.Detected t m) le r = answers_at_grow loaded trace e (place before).signal (place before).cap_entered t.0 (note.Detected t m) le r
-rule_grows loaded trace e before (note.Nothing t) le r = answers_at_grow loaded trace e (place before).signal (place before).cap_entered t.0 (note.Nothing t) le r
+rule_grows : (loaded : Loaded) (trace : List Event) (e : Event) (before : List Note) (n : Note) → time_of n ≤ tick_of e → WindowRule loaded trace before n
+    → WindowRule loaded (trace ++ e ∷ []) before n
+rule_grows loaded trace e before (note.Good t v q) le r =
+    answers_at_grow loaded trace e (place before).signal (place before).cap_entered t.0 (note.Good t v q) le r
+rule_grows loaded trace e before (note.Detected t m) le r =
+    answers_at_grow loaded trace e (place before).signal (place before).cap_entered t.0 (note.Detected t m) le r
+rule_grows loaded trace e before (note.Nothing t) le r =
+    answers_at_grow loaded trace e (place before).signal (place before).cap_entered t.0 (note.Nothing t) le r
 rule_grows loaded trace e before (note.Bad t w) le r = answers_at_grow loaded trace e (place before).signal (place before).cap_entered t.0 (note.Bad t w) le r
 rule_grows loaded trace e before (note.Window t m) le r = (opens_grow trace e (place before).signal (place before).cap_entered t.0 le r.0, r.1)
 rule_grows loaded trace e before (note.Leave t k) le r = r
 rule_grows loaded trace e before n le r = r
 
-windowed_from : (loaded : Loaded) (trace : List Event) (e : Event) (before notes : List Note) → All (λ n. time_of n ≤ tick_of e) notes → Each (WindowRule loaded trace) before notes → Each (WindowRule loaded (trace ++ e ∷ [])) before notes
+windowed_from : (loaded : Loaded) (trace : List Event) (e : Event) (before notes : List Note) → All (λ n. time_of n ≤ tick_of e) notes
+    → Each (WindowRule loaded trace) before notes → Each (WindowRule loaded (trace ++ e ∷ [])) before notes
 windowed_from loaded trace e before [] past w = tt
 windowed_from loaded trace e before (n ∷ notes) past w =
     (rule_grows loaded trace e before n (All-head (λ x. time_of x ≤ tick_of e) n notes past) w.0, windowed_from loaded trace e (before ++ n ∷ []) notes (All-tail (λ x. time_of x ≤ tick_of e) n notes past) w.1)
 
-pub windowed_grows : (loaded : Loaded) (trace : List Event) (e : Event) (notes : List Note) → All (λ n. time_of n ≤ tick_of e) notes → Windowed loaded trace notes → Windowed loaded (trace ++ e ∷ []) notes
+pub windowed_grows : (loaded : Loaded) (trace : List Event) (e : Event) (notes : List Note) → All (λ n. time_of n ≤ tick_of e) notes
+    → Windowed loaded trace notes → Windowed loaded (trace ++ e ∷ []) notes
 windowed_grows loaded trace e notes past w = windowed_from loaded trace e [] notes past w
 
 -- ---- what is seen due
@@ -117,43 +129,53 @@ heard_open m w edges x h =
     let not_yet = and_parts (nat_lt w x.t.0 && not (is_closed m edges x.t.0)) _ h in
     not-true (is_closed m edges x.t.0) (and_parts (nat_lt w x.t.0) (not (is_closed m edges x.t.0)) not_yet.0).1
 
-heard_before : (v : Bool) (m : Mode) (w : ℕ) (heard : List Edge) (x : Edge) (t : ℕ) → hears m w heard x ≡ v → t < x.t.0 → is_closed m (if v then heard ++ x ∷ [] else heard) t ≡ is_closed m heard t
+heard_before : (v : Bool) (m : Mode) (w : ℕ) (heard : List Edge) (x : Edge) (t : ℕ) → hears m w heard x ≡ v → t < x.t.0
+    → is_closed m (if v then heard ++ x ∷ [] else heard) t ≡ is_closed m heard t
 heard_before true m w heard x t h lt =
     let shut : is_closed m heard x.t.0 ≡ false = heard_open m w heard x h in
     open_before m heard x t lt ∙ sym (false_from_ne_true (is_closed m heard t) (λ c. true≢false (sym (closed_later m heard t x.t.0 (omega arith) c) ∙ shut)))
 heard_before false m w heard x t h lt = refl
 
-heard_at : (v : Bool) (m : Mode) (w : ℕ) (heard : List Edge) (x : Edge) (t : ℕ) → hears m w heard x ≡ v → t ≤ x.t.0 → is_closed m heard t ≡ true → is_closed m (if v then heard ++ x ∷ [] else heard) t ≡ true
+heard_at : (v : Bool) (m : Mode) (w : ℕ) (heard : List Edge) (x : Edge) (t : ℕ) → hears m w heard x ≡ v → t ≤ x.t.0 → is_closed m heard t ≡ true
+    → is_closed m (if v then heard ++ x ∷ [] else heard) t ≡ true
 heard_at true m w heard x t h le c =
     let shut : is_closed m heard x.t.0 ≡ false = heard_open m w heard x h in
     let open_too = closed_later m heard t x.t.0 le c in (let z = sym open_too ∙ shut in cc)
 heard_at false m w heard x t h le c = c
 
-edge_before : (v : Bool) (edges : List Edge) (x : Edge) (w t : ℕ) (m : Mode) → t < x.t.0 → is_closed m (burst (if v then edges ++ x ∷ [] else edges) w m) t ≡ is_closed m (burst edges w m) t
+edge_before : (v : Bool) (edges : List Edge) (x : Edge) (w t : ℕ) (m : Mode) → t < x.t.0
+    → is_closed m (burst (if v then edges ++ x ∷ [] else edges) w m) t ≡ is_closed m (burst edges w m) t
 edge_before true edges x w t m lt = rw (burst-push edges x w m) (heard_before (hears m w (burst edges w m) x) m w (burst edges w m) x t refl lt)
 edge_before false edges x w t m lt = refl
 
-edge_at_close : (v : Bool) (edges : List Edge) (x : Edge) (w t : ℕ) (m : Mode) → t ≤ x.t.0 → is_closed m (burst edges w m) t ≡ true → is_closed m (burst (if v then edges ++ x ∷ [] else edges) w m) t ≡ true
+edge_at_close : (v : Bool) (edges : List Edge) (x : Edge) (w t : ℕ) (m : Mode) → t ≤ x.t.0 → is_closed m (burst edges w m) t ≡ true
+    → is_closed m (burst (if v then edges ++ x ∷ [] else edges) w m) t ≡ true
 edge_at_close true edges x w t m le c = rw (burst-push edges x w m) (heard_at (hears m w (burst edges w m) x) m w (burst edges w m) x t refl le c)
 edge_at_close false edges x w t m le c = c
 
 -- before a later event the window is closed exactly where it was
-closed_before : (trace : List Event) (e : Event) (w t : ℕ) (m : Mode) → t < tick_of e → is_closed m (burst (line (trace ++ e ∷ [])).edges w m) t ≡ is_closed m (burst (line trace).edges w m) t
-closed_before trace (event.Edge at level) w t m lt = rw (line-push trace (event.Edge at level)) (edge_before (differ (line trace).level level) (line trace).edges (record { t = at; level = level }) w t m lt)
+closed_before : (trace : List Event) (e : Event) (w t : ℕ) (m : Mode) → t < tick_of e
+    → is_closed m (burst (line (trace ++ e ∷ [])).edges w m) t ≡ is_closed m (burst (line trace).edges w m) t
+closed_before trace (event.Edge at level) w t m lt =
+    rw (line-push trace (event.Edge at level)) (edge_before (differ (line trace).level level) (line trace).edges (record { t = at; level = level }) w t m lt)
 closed_before trace (event.Comp at level) w t m lt = rw (line-push trace (event.Comp at level)) refl
 closed_before trace (event.Serial at byte) w t m lt = rw (line-push trace (event.Serial at byte)) refl
 closed_before trace (event.Stall at n) w t m lt = rw (line-push trace (event.Stall at n)) refl
 
-closed_still : (trace : List Event) (e : Event) (w t : ℕ) (m : Mode) → t ≤ tick_of e → is_closed m (burst (line trace).edges w m) t ≡ true → is_closed m (burst (line (trace ++ e ∷ [])).edges w m) t ≡ true
+closed_still : (trace : List Event) (e : Event) (w t : ℕ) (m : Mode) → t ≤ tick_of e → is_closed m (burst (line trace).edges w m) t ≡ true
+    → is_closed m (burst (line (trace ++ e ∷ [])).edges w m) t ≡ true
 closed_still trace (event.Edge at level) w t m le c = rw (line-push trace (event.Edge at level)) (edge_at_close (differ (line trace).level level) (line trace).edges (record { t = at; level = level }) w t m le c)
 closed_still trace (event.Comp at level) w t m le c = rw (line-push trace (event.Comp at level)) c
 closed_still trace (event.Serial at byte) w t m le c = rw (line-push trace (event.Serial at byte)) c
 closed_still trace (event.Stall at n) w t m le c = rw (line-push trace (event.Stall at n)) c
 
-rest_before : (trace : List Event) (e : Event) (from t : ℕ) → t < tick_of e → nat_le (first_rested (line (trace ++ e ∷ [])).edges from) t ≡ nat_le (first_rested (line trace).edges from) t
-rest_before trace (event.Edge at level) from t lt = rw (line-push trace (event.Edge at level)) (changed (differ (line trace).level level) (line trace).edges (record { t = at; level = level }) from t lt)
+rest_before : (trace : List Event) (e : Event) (from t : ℕ) → t < tick_of e
+    → nat_le (first_rested (line (trace ++ e ∷ [])).edges from) t ≡ nat_le (first_rested (line trace).edges from) t
+rest_before trace (event.Edge at level) from t lt =
+    rw (line-push trace (event.Edge at level)) (changed (differ (line trace).level level) (line trace).edges (record { t = at; level = level }) from t lt)
   where
-    changed : (v : Bool) (edges : List Edge) (x : Edge) (from t : ℕ) → t < x.t.0 → nat_le (first_rested (if v then edges ++ x ∷ [] else edges) from) t ≡ nat_le (first_rested edges from) t
+    changed : (v : Bool) (edges : List Edge) (x : Edge) (from t : ℕ) → t < x.t.0
+        → nat_le (first_rested (if v then edges ++ x ∷ [] else edges) from) t ≡ nat_le (first_rested edges from) t
     changed true edges x from t lt = first_before edges x from t lt
     changed false edges x from t lt = refl
 rest_before trace (event.Comp at level) from t lt = rw (line-push trace (event.Comp at level)) refl
@@ -170,6 +192,7 @@ cap_before trace e (Judged f opens) t lt = refl
 cap_before trace e (Rests f r) t lt = rest_before trace e (max (f + most_pause) r) t lt
 
 -- a later event changes nothing of what was seen due before it
-pub sees_before : (trace : List Event) (e : Event) (notes : List Note) (t : ℕ) (k : Kind) → t < tick_of e → sees (trace ++ e ∷ []) notes t k ≡ sees trace notes t k
+pub sees_before : (trace : List Event) (e : Event) (notes : List Note) (t : ℕ) (k : Kind) → t < tick_of e
+    → sees (trace ++ e ∷ []) notes t k ≡ sees trace notes t k
 sees_before trace e notes t kind.Cap lt = cap_before trace e (place notes).signal t lt
 sees_before trace e notes t k lt = refl

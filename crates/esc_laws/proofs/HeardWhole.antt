@@ -27,18 +27,21 @@ use Rattle.esc_laws.proofs.Growth.{last_at-push}
 -- ---- each edge is heard
 
 -- over numbers: n heard, the last at l, the most, and the idle limit
-hears_next : (n l most limit w t : ℕ) (early : Bool) → 1 ≤ n → n < most → w < t → t < l + limit → early ≡ false → (nat_lt w t && not (not (n == 0) && nat_le (l + (if nat_le most n then 0 else limit)) t) && not early) ≡ true
+hears_next : (n l most limit w t : ℕ) (early : Bool) → 1 ≤ n → n < most → w < t → t < l + limit → early ≡ false
+    → (nat_lt w t && not (not (n == 0) && nat_le (l + (if nat_le most n then 0 else limit)) t) && not early) ≡ true
 hears_next n l most limit w t false some few on soon e = grind (arith, nat_tests)
 hears_next n l most limit w t true some few on soon e = cc
 
 not_early : (n : ℕ) (rest : Bool) → 1 ≤ n → ((n == 0) && rest) ≡ false
 not_early n rest some = grind (arith, nat_tests)
 
-hears_on : (m : Mode) (w : ℕ) (heard : List Edge) (e : Edge) → 1 ≤ length heard → length heard < most m → w < e.t.0 → e.t.0 < last_at heard + limit m heard → hears m w heard e ≡ true
+hears_on : (m : Mode) (w : ℕ) (heard : List Edge) (e : Edge) → 1 ≤ length heard → length heard < most m → w < e.t.0 → e.t.0 < last_at heard + limit m heard
+    → hears m w heard e ≡ true
 hears_on m w heard e some few on soon =
     hears_next (length heard) (last_at heard) (most m) (limit m heard) w e.t.0 (comes_early m heard e) some few on soon (not_early (length heard) _ some)
 
-heard_on : (m : Mode) (w : ℕ) (heard edges : List Edge) → 1 ≤ length heard → w < last_at heard → length heard + length edges ≤ most m → KeepsOn m heard edges → fold (hear m w) heard edges ≡ heard ++ edges
+heard_on : (m : Mode) (w : ℕ) (heard edges : List Edge) → 1 ≤ length heard → w < last_at heard → length heard + length edges ≤ most m → KeepsOn m heard edges
+    → fold (hear m w) heard edges ≡ heard ++ edges
 heard_on m w heard [] some on few keeps = sym (append-nil heard)
 heard_on m w heard (e ∷ edges) some on few keeps =
     let order : last_at heard ≤ e.t.0 = keeps.0 in
@@ -51,14 +54,16 @@ heard_on m w heard (e ∷ edges) some on few keeps =
 hears_first : (m : Mode) (w : ℕ) (e : Edge) → w < e.t.0 → ((numbers m).falling_first ≡ false → e.level ≡ true) → hears m w [] e ≡ true
 hears_first m w e on rises = first_by (numbers m).falling_first e.level w e.t.0 on rises
   where
-    first_by : (falling level : Bool) (w t : ℕ) → w < t → (falling ≡ false → level ≡ true) → (nat_lt w t && not (not (0 == 0) && nat_le (last_at [] + wait m []) t) && not ((0 == 0) && (not falling && not level))) ≡ true
+    first_by : (falling level : Bool) (w t : ℕ) → w < t → (falling ≡ false → level ≡ true)
+        → (nat_lt w t && not (not (0 == 0) && nat_le (last_at [] + wait m []) t) && not ((0 == 0) && (not falling && not level))) ≡ true
     first_by true level w t on rises = grind (arith, nat_tests)
     first_by false true w t on rises = grind (arith, nat_tests)
     first_by false false w t on rises = absurd (let z = rises refl in cc)
 
 -- ---- over the whole line
 
-deaf_all : (m : Mode) (w : ℕ) (heard edges : List Edge) → 1 ≤ length heard → All (λ e. last_at heard + wait m heard ≤ e.t.0) edges → fold (hear m w) heard edges ≡ heard
+deaf_all : (m : Mode) (w : ℕ) (heard edges : List Edge) → 1 ≤ length heard → All (λ e. last_at heard + wait m heard ≤ e.t.0) edges
+    → fold (hear m w) heard edges ≡ heard
 deaf_all m w heard [] some a = refl
 deaf_all m w heard (e ∷ edges) some a =
     let shut : is_closed m heard e.t.0 ≡ true = closed_from (length heard) (last_at heard + wait m heard) e.t.0 some (All-head (λ x. last_at heard + wait m heard ≤ x.t.0) e edges a) in
@@ -90,18 +95,24 @@ alone_heard edges w m first rest a =
 
 -- ---- the F that answers
 
-answer_of : (loaded : Loaded) (trace : List Event) (s : Signal) (w m entered t : ℕ) (said : Note) (signal : List Edge) → s ≡ Listens w m → burst (line trace).edges w (mode_of m) ≡ signal
+answer_of : (loaded : Loaded) (trace : List Event) (s : Signal) (w m entered t : ℕ) (said : Note) (signal : List Edge) → s ≡ Listens w m
+    → burst (line trace).edges w (mode_of m) ≡ signal
     → AnswersAt loaded trace s entered t said → said ≡ verdict_note t (judged (mode_of m) signal loaded.settings.input (servo_of loaded.settings))
 answer_of loaded trace s w m entered t said signal e heard a =
     let is : Answers loaded trace w m entered t said = subst (λ (x : Signal). AnswersAt loaded trace x entered t said) e a in
     is.verdict_is ∙ ap (λ (es : List Edge). verdict_note t (judged (mode_of m) es loaded.settings.input (servo_of loaded.settings))) heard
 
-said_of : (loaded : Loaded) (trace : List Event) (before : List Note) (said : Note) (w m : ℕ) (signal : List Edge) → IsVerdict said → (place before).signal ≡ Listens w m → burst (line trace).edges w (mode_of m) ≡ signal
+said_of : (loaded : Loaded) (trace : List Event) (before : List Note) (said : Note) (w m : ℕ) (signal : List Edge) → IsVerdict said
+    → (place before).signal ≡ Listens w m → burst (line trace).edges w (mode_of m) ≡ signal
     → WindowRule loaded trace before said → said ≡ verdict_note (time_of said) (judged (mode_of m) signal loaded.settings.input (servo_of loaded.settings))
-said_of loaded trace before (note.Good t v q) w m signal f e heard r = answer_of loaded trace (place before).signal w m (place before).cap_entered t.0 (note.Good t v q) signal e heard r
-said_of loaded trace before (note.Detected t d) w m signal f e heard r = answer_of loaded trace (place before).signal w m (place before).cap_entered t.0 (note.Detected t d) signal e heard r
-said_of loaded trace before (note.Nothing t) w m signal f e heard r = answer_of loaded trace (place before).signal w m (place before).cap_entered t.0 (note.Nothing t) signal e heard r
-said_of loaded trace before (note.Bad t why) w m signal f e heard r = answer_of loaded trace (place before).signal w m (place before).cap_entered t.0 (note.Bad t why) signal e heard r
+said_of loaded trace before (note.Good t v q) w m signal f e heard r =
+    answer_of loaded trace (place before).signal w m (place before).cap_entered t.0 (note.Good t v q) signal e heard r
+said_of loaded trace before (note.Detected t d) w m signal f e heard r =
+    answer_of loaded trace (place before).signal w m (place before).cap_entered t.0 (note.Detected t d) signal e heard r
+said_of loaded trace before (note.Nothing t) w m signal f e heard r =
+    answer_of loaded trace (place before).signal w m (place before).cap_entered t.0 (note.Nothing t) signal e heard r
+said_of loaded trace before (note.Bad t why) w m signal f e heard r =
+    answer_of loaded trace (place before).signal w m (place before).cap_entered t.0 (note.Bad t why) signal e heard r
 said_of loaded trace before n w m signal f e heard r = absurd f
 
 pub whole_signal_is_heard : WholeSignalIsHeard

@@ -28,7 +28,8 @@ use Rattle.esc_laws.proofs.Growth.{close_grows, first_grows, heard_open}
 
 -- ---- an event that isn't of the line
 
-pub plain_follows : (trace : List Event) (e : Event) (c : Brain) (b : Bank) (p : Place) → line (trace ++ e ∷ []) ≡ line trace → b.time ≤ tick_of e → Follows (cap_view trace c b p) (cap_view (trace ++ e ∷ []) c b p)
+pub plain_follows : (trace : List Event) (e : Event) (c : Brain) (b : Bank) (p : Place) → line (trace ++ e ∷ []) ≡ line trace → b.time ≤ tick_of e
+    → Follows (cap_view trace c b p) (cap_view (trace ++ e ∷ []) c b p)
 plain_follows trace e c b p same le = record {
   later = omega arith;
   taken = refl;
@@ -61,7 +62,8 @@ same_level false false e = refl
 heard_edges : (v : Bool) (w : Window) (x : Edge) → window_hears w x ≡ v → (after_edge w x).edges ≡ (if v then w.edges ++ x ∷ [] else w.edges)
 heard_edges v w x e = by_test (window_hears w x) v w x e
   where
-    by_test : (a v : Bool) (w : Window) (x : Edge) → a ≡ v → (if a then record w { edges = w.edges ++ x ∷ [] } else w).edges ≡ (if v then w.edges ++ x ∷ [] else w.edges)
+    by_test : (a v : Bool) (w : Window) (x : Edge) → a ≡ v
+        → (if a then record w { edges = w.edges ++ x ∷ [] } else w).edges ≡ (if v then w.edges ++ x ∷ [] else w.edges)
     by_test true v w x e = rw (sym e) refl
     by_test false v w x e = rw (sym e) refl
 
@@ -82,7 +84,8 @@ edge_hears v w m x h =
     ∙ ap (λ (es : List Edge). if hears (mode_of m) w (burst (line v.trace).edges w (mode_of m)) x then es ++ x ∷ [] else es) h.edges
 
 closed_deaf : (w : Window) (x : Edge) → window_closed w x.t.0 ≡ true → window_hears w x ≡ false
-closed_deaf w x c = and_right w.armed (hears w.mode w.opened w.edges x) (deaf w.mode w.opened w.edges x (and_parts w.armed (is_closed w.mode w.edges x.t.0) c).1)
+closed_deaf w x c =
+    and_right w.armed (hears w.mode w.opened w.edges x) (deaf w.mode w.opened w.edges x (and_parts w.armed (is_closed w.mode w.edges x.t.0) c).1)
 
 abbrev pub edge_bank : Bank → Bool → Bank
 edge_bank b level = record b { level = level; window = after_edge b.window (edge_now b level); timer = put_off b.timer b.time; changed = Some b.time }
@@ -91,7 +94,8 @@ off_stays : (timer : Option ℕ) (t : ℕ) → timer ≡ None → put_off timer 
 off_stays None t e = refl
 off_stays (Some at) t e = absurd (let z = e in cc)
 
-pub edge_follows : (trace : List Event) (c : Brain) (b : Bank) (p : Place) (level : Bool) → (line (trace ++ event.Edge (as_tick b.time) level ∷ [])).edges ≡ (line trace).edges ++ edge_now b level ∷ []
+pub edge_follows : (trace : List Event) (c : Brain) (b : Bank) (p : Place) (level : Bool)
+    → (line (trace ++ event.Edge (as_tick b.time) level ∷ [])).edges ≡ (line trace).edges ++ edge_now b level ∷ []
     → Follows (cap_view trace c b p) (cap_view (trace ++ event.Edge (as_tick b.time) level ∷ []) c (edge_bank b level) p)
 edge_follows trace c b p level more =
     let same = edge_same (window_hears b.window (edge_now b level)) b.window (edge_now b level) in
@@ -172,7 +176,8 @@ pub line_changes : (trace : List Event) (b : Bank) (level : Bool) → differ (li
     → line (trace ++ event.Edge (as_tick b.time) level ∷ []) ≡ record { level = level; edges = (line trace).edges ++ edge_now b level ∷ [] }
 line_changes trace b level d = line-push trace (event.Edge (as_tick b.time) level) ∙ rw d refl
 
-pub line_same : (trace : List Event) (b : Bank) (level : Bool) → differ (line trace).level level ≡ false → line (trace ++ event.Edge (as_tick b.time) level ∷ []) ≡ line trace
+pub line_same : (trace : List Event) (b : Bank) (level : Bool) → differ (line trace).level level ≡ false
+    → line (trace ++ event.Edge (as_tick b.time) level ∷ []) ≡ line trace
 line_same trace b level d =
     let new : line (trace ++ event.Edge (as_tick b.time) level ∷ []) ≡ record { level = level; edges = (line trace).edges } = line-push trace (event.Edge (as_tick b.time) level) ∙ rw d refl in
     new ∙ ap (λ (l : Bool). record { level = l; edges = (line trace).edges }) (sym (same_level (line trace).level level d))

@@ -58,12 +58,14 @@ since-push k log e = fold_push (since_next k) 0 log e
 
 called_from-push : (loaded : Loaded) (nest : Nest) (trace : List Event) (k : Kind) (before : List Turned) (n : ℕ) (log : List Turned) (e : Turned)
     → called_from loaded nest trace k before n (log ++ e ∷ []) ≡ called_next loaded nest trace k (before ++ log) (called_from loaded nest trace k before n log) e
-called_from-push loaded nest trace k before n [] e = subst (λ (l : List Turned). called_next loaded nest trace k before n e ≡ called_next loaded nest trace k l n e) (sym (append-nil before)) refl
+called_from-push loaded nest trace k before n [] e =
+    subst (λ (l : List Turned). called_next loaded nest trace k before n e ≡ called_next loaded nest trace k l n e) (sym (append-nil before)) refl
 called_from-push loaded nest trace k before n (x ∷ log) e =
     subst (λ (l : List Turned). called_from loaded nest trace k before n ((x ∷ log) ++ e ∷ []) ≡ called_next loaded nest trace k l (called_from loaded nest trace k before n (x ∷ log)) e) (append_assoc before (x ∷ []) log)
     (called_from-push loaded nest trace k (before ++ x ∷ []) (called_next loaded nest trace k before n x) log e)
 
-pub called-push : (loaded : Loaded) (nest : Nest) (trace : List Event) (log : List Turned) (e : Turned) (k : Kind) → called loaded nest trace (log ++ e ∷ []) k ≡ called_next loaded nest trace k log (called loaded nest trace log k) e
+pub called-push : (loaded : Loaded) (nest : Nest) (trace : List Event) (log : List Turned) (e : Turned) (k : Kind)
+    → called loaded nest trace (log ++ e ∷ []) k ≡ called_next loaded nest trace k log (called loaded nest trace log k) e
 unfolding called
 called-push loaded nest trace log e k = called_from-push loaded nest trace k [] 0 log e
 
@@ -71,9 +73,11 @@ pub called-none : (loaded : Loaded) (nest : Nest) (trace : List Event) (k : Kind
 unfolding called
 called-none loaded nest trace k = refl
 
-pub step-push : (P : List Turned → Turned → Type 0) (before log : List Turned) (e : Turned) → EachStep P before log → P (before ++ log) e → EachStep P before (log ++ e ∷ [])
+pub step-push : (P : List Turned → Turned → Type 0) (before log : List Turned) (e : Turned) → EachStep P before log → P (before ++ log) e
+    → EachStep P before (log ++ e ∷ [])
 step-push P before [] e w h = (subst (λ (l : List Turned). P l e) (append-nil before) h, tt)
-step-push P before (x ∷ log) e w h = (w.0, step-push P (before ++ x ∷ []) log e w.1 (subst (λ (l : List Turned). P l e) (sym (append_assoc before (x ∷ []) log)) h))
+step-push P before (x ∷ log) e w h =
+    (w.0, step-push P (before ++ x ∷ []) log e w.1 (subst (λ (l : List Turned). P l e) (sym (append_assoc before (x ∷ []) log)) h))
 
 -- a use of `next_step` more
 pub uses-more : (cost : ℕ) (trace : List Event) (m t : ℕ) → uses cost trace (m + 1) t ≡ next_step cost trace (uses cost trace m t)

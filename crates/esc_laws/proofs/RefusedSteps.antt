@@ -72,14 +72,16 @@ waited : (loaded : Loaded) → called loaded Full two_edges cap_waits kind.Cap �
 unfolding called place line burst
 waited loaded = refl
 
-before_cost : (cost : ℕ) (trace : List Event) (before : List Turned) (e later : Turned) → later.tick < e.tick + cost → after cost trace (before ++ e ∷ []) ≤ later.tick → ⊥
+before_cost : (cost : ℕ) (trace : List Event) (before : List Turned) (e later : Turned) → later.tick < e.tick + cost
+    → after cost trace (before ++ e ∷ []) ≤ later.tick → ⊥
 before_cost cost trace before e later lt le =
     let next = after-push cost trace before e in
     let past = free_later trace (e.tick + cost) in
     omega arith
 
 -- with no event and no step, control tick 1 is due at 2400
-no_log : (loaded : Loaded) (nest : Nest) (cost : ℕ) (log : List Turned) → [] ≡ notes_in log → EachStep (StepFits loaded nest cost []) [] log → Awaits loaded cost [] 2401 log → ⊥
+no_log : (loaded : Loaded) (nest : Nest) (cost : ℕ) (log : List Turned) → [] ≡ notes_in log → EachStep (StepFits loaded nest cost []) [] log
+    → Awaits loaded cost [] 2401 log → ⊥
 no_log loaded nest cost [] none fits made =
     let from = from_0 cost in
     let z : true ≡ false = made.idle (none_open loaded) 2400 (omega arith) (omega arith) (free-none 2400) kind.Tick in
@@ -96,7 +98,8 @@ pub steps_refuse : StepsRefuse
 steps_refuse = record {
   entry_without_its_note = λ trace before loaded nest cost f. (let e = f.entry refl in absurd (cc));
   entry_that_returns_at_once = λ trace before loaded nest cost f. (let e = f.entry refl in absurd (cc));
-  entry_within_a_step = λ trace before loaded nest cost f. (let e : true ≡ false = All-head (λ n. is_entry n ≡ false) (enters 2402 3) [] (f.no_entry refl) in absurd (cc));
+  entry_within_a_step =
+      λ trace before loaded nest cost f. (let e : true ≡ false = All-head (λ n. is_entry n ≡ false) (enters 2402 3) [] (f.no_entry refl) in absurd (cc));
   save_within_a_step_of_tick = λ trace before loaded nest cost f. (let e = (f.returns refl).1 in absurd (cc));
   return_of_another_kind = λ trace before loaded nest cost f. (let e = (f.returns refl).0 in absurd (omega arith));
   note_at_another_tick = λ trace before loaded nest cost f. (let e = All-head (λ n. time_of n ≡ 2404) (ticks 2406 1 0 0) [] f.at_tick in absurd (omega arith));

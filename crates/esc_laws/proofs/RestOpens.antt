@@ -30,7 +30,8 @@ steps_rest P before [] rest each = rw (append-nil before) each
 steps_rest P before (e ∷ log) rest each = rw (← append_assoc before (e ∷ []) log) (steps_rest P (before ++ e ∷ []) log rest each.1)
 
 -- CAP is called all the time
-is_seen : (loaded : Loaded) (trace : List Event) (f r : ℕ) (log : List Turned) (t : ℕ) → HasNoWindow loaded f r log → first_rested (line trace).edges (max (f + most_pause) r) ≤ t → is_called loaded trace log t kind.Cap ≡ true
+is_seen : (loaded : Loaded) (trace : List Event) (f r : ℕ) (log : List Turned) (t : ℕ) → HasNoWindow loaded f r log
+    → first_rested (line trace).edges (max (f + most_pause) r) ≤ t → is_called loaded trace log t kind.Cap ≡ true
 is_seen loaded trace f r log t h le = rw (h.0, h.1, le-leb (first_rested (line trace).edges (max (f + most_pause) r)) t le) refl
 
 stays_head : (loaded : Loaded) (f r u : ℕ) (before steps : List Turned) → StaysWithout loaded f r u before steps → HasNoWindow loaded f r before
@@ -42,7 +43,8 @@ counted_on : (nest : Nest) (k : Kind) (v : Bool) (n : ℕ) → (if v then n + 1 
 counted_on nest k true n = refl
 counted_on nest k false n = omega arith
 
-called_on : (loaded : Loaded) (nest : Nest) (trace : List Event) (before : List Turned) (e : Turned) → is_called loaded trace before e.tick kind.Cap ≡ true → is_called loaded trace (before ++ e ∷ []) e.tick kind.Cap ≡ true
+called_on : (loaded : Loaded) (nest : Nest) (trace : List Event) (before : List Turned) (e : Turned) → is_called loaded trace before e.tick kind.Cap ≡ true
+    → is_called loaded trace (before ++ e ∷ []) e.tick kind.Cap ≡ true
     → called loaded nest trace (before ++ e ∷ []) kind.Cap ≡ called loaded nest trace before kind.Cap + (if counts nest kind.Cap (Some e.kind) then 1 else 0)
 called_on loaded nest trace before e x y =
     called-push loaded nest trace before e kind.Cap
@@ -50,8 +52,10 @@ called_on loaded nest trace before e x y =
     ∙ ap (λ (v : Bool). wait_next nest kind.Cap true v (Some e.kind) (called loaded nest trace before kind.Cap)) y
     ∙ counted_on nest kind.Cap (counts nest kind.Cap (Some e.kind)) (called loaded nest trace before kind.Cap)
 
-few_steps : (loaded : Loaded) (nest : Nest) (cost : ℕ) (trace : List Event) (before through after : List Turned) (f r : ℕ) → called loaded nest trace before kind.Cap ≤ 8
-    → EachStep (StepFits loaded nest cost trace) before (through ++ after) → StaysWithout loaded f r (first_rested (line trace).edges (max (f + most_pause) r)) before through
+few_steps : (loaded : Loaded) (nest : Nest) (cost : ℕ) (trace : List Event) (before through after : List Turned) (f r : ℕ)
+    → called loaded nest trace before kind.Cap ≤ 8
+    → EachStep (StepFits loaded nest cost trace) before (through ++ after)
+    → StaysWithout loaded f r (first_rested (line trace).edges (max (f + most_pause) r)) before through
     → called loaded nest trace before kind.Cap + waiting_steps nest through ≤ 8
 few_steps loaded nest cost trace before [] after f r few each stays = omega arith
 few_steps loaded nest cost trace before (e ∷ through) after f r few each stays =
@@ -75,7 +79,8 @@ record NothingYet (f r : ℕ) (p : Place) : Type 0 where
   windows : p.windows ≡ 0
   verdicts : p.verdicts ≡ 0
 
-answers_none : (loaded : Loaded) (trace : List Event) (s : Signal) (f r entered t : ℕ) (said : Note) → s ≡ Rests f r → AnswersAt loaded trace s entered t said → ⊥
+answers_none : (loaded : Loaded) (trace : List Event) (s : Signal) (f r entered t : ℕ) (said : Note) → s ≡ Rests f r → AnswersAt loaded trace s entered t said
+    → ⊥
 answers_none loaded trace s f r entered t said e a = subst (λ (x : Signal). AnswersAt loaded trace x entered t said) e a
 
 entered_other : (f r : ℕ) (p : Place) (t k : ℕ) → k ≢ 3 → NothingYet f r p → NothingYet f r (place_entered p t k)
@@ -91,7 +96,8 @@ entered_other f r p t k ne h = by_tests (k == 3) (k == 2) (k == 0) (kind_of k �
 left_other : (f r : ℕ) (p : Place) (t k : ℕ) → k ≢ 3 → NothingYet f r p → NothingYet f r (place_left p t k)
 left_other f r p t k ne h = record { signal = rw (ne_eqb k 3 ne) h.signal; windows = h.windows; verdicts = h.verdicts }
 
-nothing_on : (loaded : Loaded) (trace : List Event) (f r : ℕ) (p : Place) (back : List Note) (n : Note) → OpensNone n → WindowRuleAt loaded trace p back n → NothingYet f r p → NothingYet f r (next p n)
+nothing_on : (loaded : Loaded) (trace : List Event) (f r : ℕ) (p : Place) (back : List Note) (n : Note) → OpensNone n → WindowRuleAt loaded trace p back n
+    → NothingYet f r p → NothingYet f r (next p n)
 nothing_on loaded trace f r p back (note.Window t m) o w h = absurd o
 nothing_on loaded trace f r p back (note.Enter t k) o w h = entered_other f r p t.0 k o h
 nothing_on loaded trace f r p back (note.Leave t k) o w h = left_other f r p t.0 k o h
@@ -105,7 +111,8 @@ not_done : (f r : ℕ) (p : Place) → NothingYet f r p → HasDone kind.Cap p �
 not_done f r p h (inl v) = let z = h.verdicts in omega arith
 not_done f r p h (inr w) = let z = h.windows in let y = w.1 in omega arith
 
-returns_not : (loaded : Loaded) (nest : Nest) (trace : List Event) (f r : ℕ) (before through after : List Note) (u : Tick) → NothingYet f r (place before) → All OpensNone through
+returns_not : (loaded : Loaded) (nest : Nest) (trace : List Event) (f r : ℕ) (before through after : List Note) (u : Tick) → NothingYet f r (place before)
+    → All OpensNone through
     → Each (WindowRule loaded trace) before (through ++ note.Leave u 3 ∷ after) → Each (NestRule nest) before (through ++ note.Leave u 3 ∷ after) → ⊥
 returns_not loaded nest trace f r before [] after u h a w n = not_done f r (place before) h n.0.1
 returns_not loaded nest trace f r before (x ∷ through) after u h a w n =

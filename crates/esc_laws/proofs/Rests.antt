@@ -111,7 +111,8 @@ first_rested_tick edges t r = (first_more edges t, first_is edges t r, λ u rest
 -- ---- the timer
 
 -- it is set for the end of the pause, or of the line's rest
-pub set_now : (edges : List Edge) (f w rests : ℕ) → All (λ e. e.t.0 ≤ w) edges → IsRestFrom edges rests → IsSet edges f (w + 1) (Some (max (f + least_pause) rests))
+pub set_now : (edges : List Edge) (f w rests : ℕ) → All (λ e. e.t.0 ≤ w) edges → IsRestFrom edges rests
+    → IsSet edges f (w + 1) (Some (max (f + least_pause) rests))
 set_now edges f w rests until r = record {
   at = max (f + least_pause) rests;
   armed = refl;
@@ -129,7 +130,8 @@ pub set_later : (edges : List Edge) (f since r : ℕ) (timer : Option ℕ) → s
 set_later edges f since r timer le i = record { at = i.at; armed = i.armed; late = i.late; rested = i.rested; soon = λ t a b. i.soon t a (omega arith) }
 
 -- a change at now puts it off, or comes too late
-pub set_grows : (edges : List Edge) (x : Edge) (f since : ℕ) (timer : Option ℕ) → All (λ e. e.t.0 ≤ x.t.0) edges → IsSet edges f since timer → IsSet (edges ++ x ∷ []) f since (put_off timer x.t.0)
+pub set_grows : (edges : List Edge) (x : Edge) (f since : ℕ) (timer : Option ℕ) → All (λ e. e.t.0 ≤ x.t.0) edges → IsSet edges f since timer
+    → IsSet (edges ++ x ∷ []) f since (put_off timer x.t.0)
 set_grows edges x f since timer until i = rw i.armed (by_reached (nat_le i.at x.t.0) refl)
   where
     by_reached : (v : Bool) → nat_le i.at x.t.0 ≡ v → IsSet (edges ++ x ∷ []) f since (if v then Some i.at else Some (max i.at (x.t.0 + rest)))
@@ -147,18 +149,21 @@ set_grows edges x f since timer until i = rw i.armed (by_reached (nat_le i.at x.
           at = at;
           armed = refl;
           late = (let l = i.late in omega arith);
-          rested = All-push (λ e. (at ≤ e.t.0) ⊎ (e.t.0 + rest ≤ at)) edges x (λ j d l. later (slice_index_or edges j d) (until j d l) (i.rested j d l)) (inr (omega arith));
+          rested =
+              All-push (λ e. (at ≤ e.t.0) ⊎ (e.t.0 + rest ≤ at)) edges x (λ j d l. later (slice_index_or edges j d) (until j d l) (i.rested j d l)) (inr (omega arith));
           soon = λ t a b. rw (rested-push edges x t) (past_max x.t.0 (first_rested edges t) i.at early (i.soon t a b));
         }
       where
-        later : (e : Edge) → e.t.0 ≤ x.t.0 → (i.at ≤ e.t.0) ⊎ (e.t.0 + rest ≤ i.at) → (max i.at (x.t.0 + rest) ≤ e.t.0) ⊎ (e.t.0 + rest ≤ max i.at (x.t.0 + rest))
+        later : (e : Edge) → e.t.0 ≤ x.t.0 → (i.at ≤ e.t.0) ⊎ (e.t.0 + rest ≤ i.at)
+            → (max i.at (x.t.0 + rest) ≤ e.t.0) ⊎ (e.t.0 + rest ≤ max i.at (x.t.0 + rest))
         later e le (inl h) = absurd (let k = leb-false i.at x.t.0 v in omega arith)
         later e le (inr h) = inr (omega arith)
 
 -- the line's rest after a change at now
 pub rest_now : (edges : List Edge) (x : Edge) → All (λ e. e.t.0 ≤ x.t.0) edges → IsRestFrom (edges ++ x ∷ []) (x.t.0 + rest)
 rest_now edges x until = record {
-  over = All-push (λ e. e.t.0 + rest ≤ x.t.0 + rest) edges x (λ i d l. (let u : (slice_index_or edges i d).t.0 ≤ x.t.0 = until i d l in omega arith)) (omega arith);
+  over =
+      All-push (λ e. e.t.0 + rest ≤ x.t.0 + rest) edges x (λ i d l. (let u : (slice_index_or edges i d).t.0 ≤ x.t.0 = until i d l in omega arith)) (omega arith);
   first = λ t a. last_over edges x t a;
 }
   where

@@ -44,13 +44,15 @@ none_left : (v : Bool) (k : Kind) (t : Tick) (outer : List Kind) (notes : List N
 none_left true k t outer notes e = let parts = leaves-append notes (note.Leave t (kind_number k) ∷ []) in omega arith
 none_left false k t outer notes e = let parts = leaves-append notes [] in omega arith
 
-returns_at : (v : Bool) (k : Kind) (t : Tick) (notes : List Note) → leaves notes ≡ 0 → ReturnsLast k (notes ++ (if v then note.Leave t (kind_number k) ∷ [] else []))
+returns_at : (v : Bool) (k : Kind) (t : Tick) (notes : List Note) → leaves notes ≡ 0
+    → ReturnsLast k (notes ++ (if v then note.Leave t (kind_number k) ∷ [] else []))
 returns_at true k t [] z = (refl, refl)
 returns_at false k t [] z = tt
 returns_at v k t (note.Leave u j ∷ notes) z = absurd (omega arith)
 returns_at v k t (n ∷ notes) z = returns_at v k t notes z
 
-pub returns_last : (k : Kind) (outer : List Kind) (w : World) (s : Stepped) → (so_far w).stack ≡ k ∷ outer → StepKeeps k outer w s → ReturnsLast k (step_notes w.bank.time k s)
+pub returns_last : (k : Kind) (outer : List Kind) (w : World) (s : Stepped) → (so_far w).stack ≡ k ∷ outer → StepKeeps k outer w s
+    → ReturnsLast k (step_notes w.bank.time k s)
 returns_last k outer w s on keeps =
     let all = all_left k w (step_notes w.bank.time k s) keeps.fits in
     let after : depth (placed (onto (step_notes w.bank.time k s) w.back)).stack ≡ depth (open_left k outer s) = ap depth keeps.stack_is in

@@ -115,17 +115,20 @@ obeyed_tied loaded o act t back e tied = record {
 }
 
 -- every other note leaves the settings, and whether a save is asked for
-pub orders_other : (loaded : Loaded) (o : Orders) (n : Note) (back : List Note) → changes_orders n ≡ false → OrdersTied loaded o back → OrdersTied loaded o (n ∷ back)
+pub orders_other : (loaded : Loaded) (o : Orders) (n : Note) (back : List Note) → changes_orders n ≡ false → OrdersTied loaded o back
+    → OrdersTied loaded o (n ∷ back)
 orders_other loaded o (note.Command t c) back h tied = absurd (let g = h in cc)
 orders_other loaded o (note.Saved t r) back h tied = absurd (let g = h in cc)
 orders_other loaded o n back h tied = record { settings_are = tied.settings_are; save_is = tied.save_is }
 
-pub saved_tied : (loaded : Loaded) (o : Orders) (t : Tick) (r : ℕ) (back : List Note) → OrdersTied loaded o back → OrdersTied loaded (record o { save_asked = false }) (note.Saved t r ∷ back)
+pub saved_tied : (loaded : Loaded) (o : Orders) (t : Tick) (r : ℕ) (back : List Note) → OrdersTied loaded o back
+    → OrdersTied loaded (record o { save_asked = false }) (note.Saved t r ∷ back)
 saved_tied loaded o t r back tied = record { settings_are = tied.settings_are; save_is = refl }
 
 -- ---- notes other than saves leave what the flash holds, and how many saves it has refused
 
-flash_other : (first : Settings) (cells : List ℕ) (n : Note) (back : List Note) → is_save n ≡ false → flash_at first cells (n ∷ back) ≡ flash_at first cells back
+flash_other : (first : Settings) (cells : List ℕ) (n : Note) (back : List Note) → is_save n ≡ false
+    → flash_at first cells (n ∷ back) ≡ flash_at first cells back
 flash_other first cells (note.Saved t r) back h = absurd (let g = h in cc)
 flash_other first cells n back h = refl
 
@@ -150,7 +153,8 @@ refused_pushes : (notes more : List Note) → All (λ n. is_save n ≡ false) mo
 refused_pushes notes more a = same_pushes refused_at refused_other notes more a
 
 -- where two lists of notes give the same places, the flash holds what either says
-holds_same : (first : Settings) (cells : Option (List ℕ)) (back back' : List Note) (now : Option (List ℕ)) → ((c : List ℕ) → flash_at first c back ≡ flash_at first c back')
+holds_same : (first : Settings) (cells : Option (List ℕ)) (back back' : List Note) (now : Option (List ℕ))
+    → ((c : List ℕ) → flash_at first c back ≡ flash_at first c back')
     → HoldsSaves first cells back now → HoldsSaves first cells back' now
 holds_same first None back back' None e h = tt
 holds_same first None back back' (Some now) e h = absurd h
@@ -160,7 +164,8 @@ holds_same first (Some cells) back back' (Some now) e h = subst (λ (places : Li
 pub fits_pushes : (loaded : Loaded) (first now : Told) (notes more : List Note) → All (λ n. is_save n ≡ false) more → FlashFits loaded first now notes
     → FlashFits loaded first now (notes ++ more)
 fits_pushes loaded first now notes more a f = record {
-  holds = holds_same loaded.settings first.bytes (reverse notes) (reverse (notes ++ more)) now.bytes (λ c. sym (flash_pushes loaded.settings c notes more a)) f.holds;
+  holds =
+      holds_same loaded.settings first.bytes (reverse notes) (reverse (notes ++ more)) now.bytes (λ c. sym (flash_pushes loaded.settings c notes more a)) f.holds;
   counted = rw (refused_pushes notes more a) f.counted;
 }
 
@@ -242,15 +247,18 @@ holds_and (p ∷ places) [] (b ∷ bytes) h = absurd h
 holds_and (None ∷ places) (c ∷ cells) (b ∷ bytes) h = holds_and places cells bytes h
 holds_and (Some byte ∷ places) (c ∷ cells) (b ∷ bytes) h = (ap (λ (x : ℕ). bit_and x b) h.0, holds_and places cells bytes h.1)
 
-holds_programmed : (at : ℕ) (places : List (Option ℕ)) (cells bytes : List ℕ) → Holds places cells → Holds (take at places ++ and_places (drop at places) bytes) (programmed cells at bytes)
+holds_programmed : (at : ℕ) (places : List (Option ℕ)) (cells bytes : List ℕ) → Holds places cells
+    → Holds (take at places ++ and_places (drop at places) bytes) (programmed cells at bytes)
 holds_programmed at places cells bytes h =
     holds_append (take at places) (and_places (drop at places) bytes) (take at cells) (and_front (drop at cells) bytes) (holds_take at places cells h) (holds_and (drop at places) (drop at cells) bytes (holds_drop at places cells h))
 
-holds_done : (places : List (Option ℕ)) (cells block : List ℕ) → Holds places cells → Holds (after_save 0 block places) (programmed (erased cells 31) 31744 block)
+holds_done : (places : List (Option ℕ)) (cells block : List ℕ) → Holds places cells
+    → Holds (after_save 0 block places) (programmed (erased cells 31) 31744 block)
 holds_done places cells block h =
     holds_programmed 31744 (take 31744 places ++ erased_places 1024 ++ drop 32768 places) (erased cells 31) block (holds_part 31744 1024 places (erased_places 1024) cells (blank 1024) h (holds_erased 1024))
 
-done_holds : (first : Settings) (cells : Option (List ℕ)) (back : List Note) (now now' : Option (List ℕ)) (t : Tick) (block : List ℕ) → block ≡ block_of (settings_at first back)
+done_holds : (first : Settings) (cells : Option (List ℕ)) (back : List Note) (now now' : Option (List ℕ)) (t : Tick) (block : List ℕ)
+    → block ≡ block_of (settings_at first back)
     → now' ≡ option_map (λ c. programmed (erased c 31) 31744 block) now → HoldsSaves first cells back now → HoldsSaves first cells (note.Saved t 0 ∷ back) now'
 done_holds first None back None None t block b e h = tt
 done_holds first None back None (Some now') t block b e h = absurd (let g = e in cc)
@@ -262,11 +270,13 @@ done_holds first (Some cells) back (Some now) (Some now') t block b e h =
     subst (λ (x : List ℕ). Holds (after_save 0 x (flash_at first cells back)) now') b (rw is (holds_done (flash_at first cells back) now block h))
 
 -- the count, with no refusal more and with one more
-same_counted : (first refused now now' : ℕ) → now ≤ now' → (first + refused ≤ now) ⊎ (18446744073709551615 ≤ now) → (first + refused ≤ now') ⊎ (18446744073709551615 ≤ now')
+same_counted : (first refused now now' : ℕ) → now ≤ now' → (first + refused ≤ now) ⊎ (18446744073709551615 ≤ now)
+    → (first + refused ≤ now') ⊎ (18446744073709551615 ≤ now')
 same_counted first refused now now' le (inl l) = inl (omega arith)
 same_counted first refused now now' le (inr m) = inr (omega arith)
 
-pub fits_saved : (loaded : Loaded) (first now now' : Told) (notes : List Note) (t : Tick) (block : List ℕ) → block ≡ block_of (settings_at loaded.settings (reverse notes)) → IsSaved block now now'
+pub fits_saved : (loaded : Loaded) (first now now' : Told) (notes : List Note) (t : Tick) (block : List ℕ)
+    → block ≡ block_of (settings_at loaded.settings (reverse notes)) → IsSaved block now now'
     → FlashFits loaded first now notes → FlashFits loaded first now' (notes ++ note.Saved t 0 ∷ [])
 fits_saved loaded first now now' notes t block b s f = record {
   holds = rw (reverse-push notes (note.Saved t 0)) (done_holds loaded.settings first.bytes (reverse notes) now.bytes now'.bytes t block b s.bytes_are f.holds);
@@ -286,7 +296,8 @@ unfolding any_places
 holds_any n cells e = holds_none n cells e
 
 -- the bytes below the last part are as before, and nothing is behind that part
-holds_open : (at n : ℕ) (places : List (Option ℕ)) (cells cells' : List ℕ) → take at cells' ≡ take at cells → length cells ≡ at + n → length cells' ≡ at + n → Holds places cells
+holds_open : (at n : ℕ) (places : List (Option ℕ)) (cells cells' : List ℕ) → take at cells' ≡ take at cells → length cells ≡ at + n → length cells' ≡ at + n
+    → Holds places cells
     → Holds (take at places ++ any_places n ++ drop (at + n) places) cells'
 holds_open at n places cells cells' same len len' h =
     let front : Holds (take at places) (take at cells') = subst (Holds (take at places)) (sym same) (holds_take at places cells h) in
@@ -295,7 +306,8 @@ holds_open at n places cells cells' same len len' h =
     let both : Holds (take at places ++ any_places n) (take at cells' ++ drop at cells') = holds_append (take at places) (any_places n) (take at cells') (drop at cells') front (holds_any n (drop at cells') few) in
     rw (none, append-nil (take at places ++ any_places n)) (subst (Holds (take at places ++ any_places n)) (take-append-drop at cells') both)
 
-spoilt_holds : (first : Settings) (cells : Option (List ℕ)) (back : List Note) (now now' : Option (List ℕ)) (t : Tick) → KeepsBelow 31744 now now' → IsWhole now → IsWhole now'
+spoilt_holds : (first : Settings) (cells : Option (List ℕ)) (back : List Note) (now now' : Option (List ℕ)) (t : Tick) → KeepsBelow 31744 now now'
+    → IsWhole now → IsWhole now'
     → HoldsSaves first cells back now → HoldsSaves first cells (note.Saved t 1 ∷ back) now'
 spoilt_holds first None back None None t k w w' h = tt
 spoilt_holds first None back None (Some now') t k w w' h = absurd k
@@ -304,12 +316,14 @@ spoilt_holds first (Some cells) back None now' t k w w' h = absurd h
 spoilt_holds first (Some cells) back (Some now) None t k w w' h = absurd k
 spoilt_holds first (Some cells) back (Some now) (Some now') t k w w' h = holds_open 31744 1024 (flash_at first cells back) now now' k w w' h
 
-more_counted : (first refused now now' : ℕ) → Rose now now' → (first + refused ≤ now) ⊎ (18446744073709551615 ≤ now) → (first + (refused + 1) ≤ now') ⊎ (18446744073709551615 ≤ now')
+more_counted : (first refused now now' : ℕ) → Rose now now' → (first + refused ≤ now) ⊎ (18446744073709551615 ≤ now)
+    → (first + (refused + 1) ≤ now') ⊎ (18446744073709551615 ≤ now')
 more_counted first refused now now' (inl l) (inl c) = inl (omega arith)
 more_counted first refused now now' (inl l) (inr m) = inr (omega arith)
 more_counted first refused now now' (inr r) c = inr (let m = r.0 in let s = r.1 in omega arith)
 
-pub fits_spoilt : (loaded : Loaded) (first now now' : Told) (notes : List Note) (t : Tick) → IsSpoilt now now' → IsWhole now.bytes → IsWhole now'.bytes → FlashFits loaded first now notes
+pub fits_spoilt : (loaded : Loaded) (first now now' : Told) (notes : List Note) (t : Tick) → IsSpoilt now now' → IsWhole now.bytes → IsWhole now'.bytes
+    → FlashFits loaded first now notes
     → FlashFits loaded first now' (notes ++ note.Saved t 1 ∷ [])
 fits_spoilt loaded first now now' notes t s w w' f = record {
   holds = rw (reverse-push notes (note.Saved t 1)) (spoilt_holds loaded.settings first.bytes (reverse notes) now.bytes now'.bytes t s.below w w' f.holds);

@@ -45,7 +45,8 @@ close_keeps m g heard (e ∷ edges) wide c =
     (c.0, omega arith, close_keeps m g (heard ++ e ∷ []) edges wide (rw (last_at-push heard e) c.2))
 
 -- the edges of bits that are moved by at most a sixteenth of a bit, d: the active part before them ended at p
-moved_close : (d e s p : ℕ) (inverted : Bool) (bits : List Bool) (moved : List Edge) → 0 < d → e ≤ d → p + 4 * d ≤ s + e → s ≤ p + 10 * d + e → IsMoved e (edges_from (16 * d) inverted s bits) moved → Close (32 * d) p moved
+moved_close : (d e s p : ℕ) (inverted : Bool) (bits : List Bool) (moved : List Edge) → 0 < d → e ≤ d → p + 4 * d ≤ s + e → s ≤ p + 10 * d + e
+    → IsMoved e (edges_from (16 * d) inverted s bits) moved → Close (32 * d) p moved
 moved_close d e s p inverted [] [] pos le near far m = tt
 moved_close d e s p inverted [] (f ∷ rest) pos le near far m = absurd m
 moved_close d e s p inverted (one ∷ bits) [] pos le near far m = absurd m
@@ -64,7 +65,8 @@ moved_close d e s p inverted (false ∷ bits) (f ∷ g ∷ rest) pos le near far
     (omega arith, omega arith, (omega arith, omega arith, moved_close d e (s + 16 * d) g.t.0 inverted bits rest pos le (omega arith) (omega arith) m.1.1))
 
 -- the first edge, and those behind it
-whole_close : (d e s : ℕ) (inverted : Bool) (bits : List Bool) (first : Edge) (rest : List Edge) → 0 < d → e ≤ d → IsMoved e (edges_from (16 * d) inverted s bits) (first ∷ rest) → Close (32 * d) first.t.0 rest
+whole_close : (d e s : ℕ) (inverted : Bool) (bits : List Bool) (first : Edge) (rest : List Edge) → 0 < d → e ≤ d
+    → IsMoved e (edges_from (16 * d) inverted s bits) (first ∷ rest) → Close (32 * d) first.t.0 rest
 whole_close d e s inverted [] first rest pos le m = absurd m
 whole_close d e s inverted (one ∷ bits) first [] pos le m = tt
 whole_close d e s inverted (true ∷ bits) first (g ∷ rest) pos le m =
@@ -98,7 +100,8 @@ both_same : (v : Bool) (n : ℕ) → n ≤ (if v then n else n)
 both_same true n = omega arith
 both_same false n = omega arith
 
-keeps_on : (m : Mode) (s word : ℕ) (first : Edge) (rest : List Edge) → HasFrames m → IsMoved ((numbers m).bit / 16) (sent m s word) (first ∷ rest) → KeepsOn m (first ∷ []) rest
+keeps_on : (m : Mode) (s word : ℕ) (first : Edge) (rest : List Edge) → HasFrames m → IsMoved ((numbers m).bit / 16) (sent m s word) (first ∷ rest)
+    → KeepsOn m (first ∷ []) rest
 keeps_on mode.D300 s word first rest frames moved =
     close_keeps mode.D300 320 (first ∷ []) rest (λ h. both_same (may_be_high h) 320) (whole_close 10 10 s false (low_bits 16 word) first rest (omega arith) (omega arith) moved)
 keeps_on mode.D600 s word first rest frames moved =
@@ -126,7 +129,8 @@ most_frame mode.D600 f = refl
 most_frame mode.D300Inv f = refl
 most_frame mode.D600Inv f = refl
 
-judged_frame : (m : Mode) (edges : List Edge) (allowed : InputKind) (servo : Servo) → HasFrames m → judged m edges allowed servo ≡ by_verdict (verdict_of m edges)
+judged_frame : (m : Mode) (edges : List Edge) (allowed : InputKind) (servo : Servo) → HasFrames m
+    → judged m edges allowed servo ≡ by_verdict (verdict_of m edges)
 judged_frame mode.Unknown edges allowed servo f = absurd (omega arith)
 judged_frame mode.Servo edges allowed servo f = absurd (omega arith)
 judged_frame mode.D300 edges allowed servo f = refl

@@ -12,7 +12,8 @@ use Rattle.esc_laws.proofs.Pushes.{free-push, uses-more}
 
 -- ---- one event
 
-past_tells : (t : ℕ) (e : Event) → (past_stall t e ≡ t) × ((t < tick_of e) ⊎ (stall_end e ≤ t)) ⊎ (past_stall t e ≡ stall_end e) × (tick_of e ≤ t) × (t < stall_end e)
+past_tells : (t : ℕ) (e : Event)
+    → (past_stall t e ≡ t) × ((t < tick_of e) ⊎ (stall_end e ≤ t)) ⊎ (past_stall t e ≡ stall_end e) × (tick_of e ≤ t) × (t < stall_end e)
 past_tells t (event.Stall at n) = grind (arith, nat_tests)
 past_tells t (event.Edge at level) = inl (refl, inr (omega arith))
 past_tells t (event.Comp at level) = inl (refl, inr (omega arith))
@@ -74,7 +75,8 @@ after_grows cost trace e log =
 pub free_before : (trace : List Event) (e : Event) (t : ℕ) → free trace t < tick_of e → free (trace ++ e ∷ []) t ≡ free trace t
 free_before trace e t l = free-push trace e t ∙ past_before e (free trace t) l
 
-pub after_before : (cost : ℕ) (trace : List Event) (e : Event) (log : List Turned) → after cost trace log < tick_of e → after cost (trace ++ e ∷ []) log ≡ after cost trace log
+pub after_before : (cost : ℕ) (trace : List Event) (e : Event) (log : List Turned) → after cost trace log < tick_of e
+    → after cost (trace ++ e ∷ []) log ≡ after cost trace log
 after_before cost trace e log l = after_grows cost trace e log ∙ past_before e (after cost trace log) l
 
 pub uses_before : (cost : ℕ) (trace : List Event) (e : Event) (m t : ℕ) → uses cost trace m t < tick_of e → uses cost (trace ++ e ∷ []) m t ≡ uses cost trace m t
@@ -83,7 +85,8 @@ uses_before cost trace e (suc m) t l =
     let later = free_later trace (uses cost trace m t + cost) in
     ap (λ (x : ℕ). next_step cost (trace ++ e ∷ []) x) (uses_before cost trace e m t (omega arith)) ∙ free_before trace e (uses cost trace m t + cost) l
 
-pub reached_grows : (cost : ℕ) (trace : List Event) (e : Event) (log : List Turned) (m t : ℕ) → after cost trace log ≡ uses cost trace (m + 1) t → uses cost trace m t < tick_of e
+pub reached_grows : (cost : ℕ) (trace : List Event) (e : Event) (log : List Turned) (m t : ℕ) → after cost trace log ≡ uses cost trace (m + 1) t
+    → uses cost trace m t < tick_of e
     → after cost (trace ++ e ∷ []) log ≡ uses cost (trace ++ e ∷ []) (m + 1) t
 reached_grows cost trace e log m t h below =
     after_grows cost trace e log

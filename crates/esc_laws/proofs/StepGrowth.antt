@@ -14,10 +14,12 @@ use Rattle.esc_laws.proofs.Growth.{sees_before}
 
 -- ---- counts
 
-called_before : (loaded : Loaded) (trace : List Event) (e : Event) (log : List Turned) (t : ℕ) (k : Kind) → t < tick_of e → is_called loaded (trace ++ e ∷ []) log t k ≡ is_called loaded trace log t k
+called_before : (loaded : Loaded) (trace : List Event) (e : Event) (log : List Turned) (t : ℕ) (k : Kind) → t < tick_of e
+    → is_called loaded (trace ++ e ∷ []) log t k ≡ is_called loaded trace log t k
 called_before loaded trace e log t k l = ap (λ (v : Bool). v && not (is_open (open_in loaded log) k)) (sees_before trace e (journal loaded log) t k l)
 
-count_from : (loaded : Loaded) (nest : Nest) (trace : List Event) (e : Event) (k : Kind) (before : List Turned) (n : ℕ) (log : List Turned) → Below (tick_of e) log
+count_from : (loaded : Loaded) (nest : Nest) (trace : List Event) (e : Event) (k : Kind) (before : List Turned) (n : ℕ) (log : List Turned)
+    → Below (tick_of e) log
     → called_from loaded nest (trace ++ e ∷ []) k before n log ≡ called_from loaded nest trace k before n log
 count_from loaded nest trace e k before n [] b = refl
 count_from loaded nest trace e k before n (x ∷ log) b =
@@ -28,13 +30,15 @@ count_from loaded nest trace e k before n (x ∷ log) b =
     ap (λ (y : ℕ). called_from loaded nest (trace ++ e ∷ []) k (before ++ x ∷ []) y log) same
     ∙ count_from loaded nest trace e k (before ++ x ∷ []) (called_next loaded nest trace k before n x) log (All-tail (λ (y : Turned). y.tick < tick_of e) x log b)
 
-pub count_before : (loaded : Loaded) (nest : Nest) (trace : List Event) (e : Event) (log : List Turned) (k : Kind) → Below (tick_of e) log → called loaded nest (trace ++ e ∷ []) log k ≡ called loaded nest trace log k
+pub count_before : (loaded : Loaded) (nest : Nest) (trace : List Event) (e : Event) (log : List Turned) (k : Kind) → Below (tick_of e) log
+    → called loaded nest (trace ++ e ∷ []) log k ≡ called loaded nest trace log k
 unfolding called
 count_before loaded nest trace e log k b = count_from loaded nest trace e k [] 0 log b
 
 -- ---- steps
 
-step_grows : (loaded : Loaded) (nest : Nest) (cost : ℕ) (trace : List Event) (e : Event) (before : List Turned) (x : Turned) → Below (tick_of e) before → x.tick < tick_of e → StepFits loaded nest cost trace before x → StepFits loaded nest cost (trace ++ e ∷ []) before x
+step_grows : (loaded : Loaded) (nest : Nest) (cost : ℕ) (trace : List Event) (e : Event) (before : List Turned) (x : Turned) → Below (tick_of e) before
+    → x.tick < tick_of e → StepFits loaded nest cost trace before x → StepFits loaded nest cost (trace ++ e ∷ []) before x
 step_grows loaded nest cost trace e before x past l f =
     let le : after cost trace before < tick_of e = (let a = f.later in omega arith) in
     let same = after_before cost trace e before le in
@@ -57,7 +61,8 @@ step_grows loaded nest cost trace e before x past l f =
       patient = λ k. rw (count_before loaded nest trace e (before ++ x ∷ []) k (All-push (λ (y : Turned). y.tick < tick_of e) before x past l)) (f.patient k);
     }
 
-steps_from : (loaded : Loaded) (nest : Nest) (cost : ℕ) (trace : List Event) (e : Event) (before log : List Turned) → Below (tick_of e) before → Below (tick_of e) log
+steps_from : (loaded : Loaded) (nest : Nest) (cost : ℕ) (trace : List Event) (e : Event) (before log : List Turned) → Below (tick_of e) before
+    → Below (tick_of e) log
     → EachStep (StepFits loaded nest cost trace) before log → EachStep (StepFits loaded nest cost (trace ++ e ∷ [])) before log
 steps_from loaded nest cost trace e before [] past b f = tt
 steps_from loaded nest cost trace e before (x ∷ log) past b f =

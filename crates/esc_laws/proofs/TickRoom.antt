@@ -108,7 +108,8 @@ reads w outer g t unmarked below none on = subst (λ (v : Bool). StepKeeps kind.
     (asks answer.lost answer.armed_now w outer answer.demand (after_tick w.core.control n (decide (view_of w.core.control) n 0)) g none on st
     (st.ties.number_is ∙ outcome_number answer.lost answer.armed_now w.bank.time n 0 answer.demand w.back)))
 
-steps : (at : TickAt) (w : World) (outer : List Kind) → Ground w → TickTie w → w.bank.stuck ≡ false → TickTied at w.bank.number_read w.bank.time (so_far w).ticks
+steps : (at : TickAt) (w : World) (outer : List Kind) → Ground w → TickTie w → w.bank.stuck ≡ false
+    → TickTied at w.bank.number_read w.bank.time (so_far w).ticks
     → (so_far w).stack ≡ kind.Tick ∷ outer → 0 < tick_left at
     → StepKeeps kind.Tick outer w (tick_step at w.core w.bank)
 steps tick.Shut w outer g t unmarked i on left = absurd (omega arith)

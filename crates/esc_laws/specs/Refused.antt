@@ -220,11 +220,14 @@ cap_rests =
 
 pub record StepsRefuse : Type 0 where
   -- an entry is its I and no more, and an own step has none
-  pub entry_without_its_note : (trace : List Event) (before : List Turned) → Unmade trace before (record { tick = 2400; kind = kind.Tick; enters = true; notes = [] })
-  pub entry_that_returns_at_once : (trace : List Event) (before : List Turned) → Unmade trace before (record { tick = 2400; kind = kind.Tick; enters = true; notes = enters 2400 2 ∷ leaves 2400 2 ∷ [] })
+  pub entry_without_its_note : (trace : List Event) (before : List Turned)
+      → Unmade trace before (record { tick = 2400; kind = kind.Tick; enters = true; notes = [] })
+  pub entry_that_returns_at_once : (trace : List Event) (before : List Turned)
+      → Unmade trace before (record { tick = 2400; kind = kind.Tick; enters = true; notes = enters 2400 2 ∷ leaves 2400 2 ∷ [] })
   pub entry_within_a_step : (trace : List Event) (before : List Turned) → Unmade trace before (own 2402 kind.Tick (enters 2402 3 ∷ []))
   -- only the last note of an own step may be an O, and it is its own kind's: no MAIN saves and returns in a step of TICK
-  pub save_within_a_step_of_tick : (trace : List Event) (before : List Turned) → Unmade trace before (own 2404 kind.Tick (leaves 2404 2 ∷ saves 2404 0 ∷ leaves 2404 0 ∷ []))
+  pub save_within_a_step_of_tick : (trace : List Event) (before : List Turned)
+      → Unmade trace before (own 2404 kind.Tick (leaves 2404 2 ∷ saves 2404 0 ∷ leaves 2404 0 ∷ []))
   pub return_of_another_kind : (trace : List Event) (before : List Turned) → Unmade trace before (own 2404 kind.Tick (leaves 2404 0 ∷ []))
   -- its notes stand at its tick
   pub note_at_another_tick : (trace : List Event) (before : List Turned) → Unmade trace before (own 2404 kind.Tick (ticks 2406 1 0 0 ∷ []))
@@ -232,14 +235,17 @@ pub record StepsRefuse : Type 0 where
   pub own_step_where_none_is_open : (trace : List Event) → Unmade trace [] (own 2404 kind.Tick [])
   pub main_enters_before_tick : Unmade [] [] (entry 2400 kind.Main)
   pub tick_enters_a_tick_late : Unmade [] [] (entry 2401 kind.Tick)
-  pub cap_enters_late_after_nothing : (loaded : Loaded) (nest : Nest) (cost : ℕ) → cost ≤ 1200 → StepFits loaded nest cost two_later_edges cap_rests (entry 6203 kind.Cap) → ⊥
+  pub cap_enters_late_after_nothing : (loaded : Loaded) (nest : Nest) (cost : ℕ) → cost ≤ 1200
+      → StepFits loaded nest cost two_later_edges cap_rests (entry 6203 kind.Cap) → ⊥
   -- while one is open, the next step stands at the next tick
   pub own_step_late : (loaded : Loaded) (nest : Nest) → StepFits loaded nest 2 [] (entry 2400 kind.Tick ∷ []) (own 2404 kind.Tick []) → ⊥
   -- steps are as far apart as the cost, and none stands in a stall
-  pub step_before_the_cost : (loaded : Loaded) (nest : Nest) (cost : ℕ) (trace : List Event) (before : List Turned) (e later : Turned) → later.tick < e.tick + cost → StepFits loaded nest cost trace (before ++ e ∷ []) later → ⊥
+  pub step_before_the_cost : (loaded : Loaded) (nest : Nest) (cost : ℕ) (trace : List Event) (before : List Turned) (e later : Turned)
+      → later.tick < e.tick + cost → StepFits loaded nest cost trace (before ++ e ∷ []) later → ⊥
   pub step_in_a_stall : (before : List Turned) → Unmade (event.Stall (as_tick 100) 50 ∷ []) before (entry 120 kind.Tick)
   -- an activation of TICK has at most 48 own steps, and fewer while it is open
-  pub step_49_of_tick : (trace : List Event) (before : List Turned) (t : ℕ) (notes : List Note) → own_steps kind.Tick before ≡ 48 → Unmade trace before (own t kind.Tick notes)
+  pub step_49_of_tick : (trace : List Event) (before : List Turned) (t : ℕ) (notes : List Note) → own_steps kind.Tick before ≡ 48
+      → Unmade trace before (own t kind.Tick notes)
   pub open_after_48_steps : (loaded : Loaded) (log : List Turned) → open_in loaded log ≡ kind.Tick ∷ [] → own_steps kind.Tick log ≡ 48 → OpenFew loaded log → ⊥
   -- a kind that is due, and above the open ones, waits for no more than 8 steps of those
   pub cap_waits_for_nine_steps : (loaded : Loaded) (cost : ℕ) → EachStep (StepFits loaded Full cost two_edges) [] cap_waits → ⊥

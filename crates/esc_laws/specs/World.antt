@@ -32,7 +32,8 @@ pub record World : Type 0 where
   pub cap_since : ℕ
 
 abbrev pub world : Loaded → Nest → List Event → Brain → Bank → List Turned → World
-world loaded nest trace c b log = record { loaded = loaded; nest = nest; trace = trace; core = c; bank = b; back = reverse (journal loaded log); cap_since = past_own kind.Cap log }
+world loaded nest trace c b log =
+    record { loaded = loaded; nest = nest; trace = trace; core = c; bank = b; back = reverse (journal loaded log); cap_since = past_own kind.Cap log }
 
 -- the place after these notes, the newest first
 abbrev pub placed : List Note → Place
