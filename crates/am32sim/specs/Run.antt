@@ -9,8 +9,7 @@ use Rattle.esc_base.specs.Outside.{AppendsFront}
 use Rattle.esc_base.specs.Trace.{tick_of}
 use Rattle.trace_text.specs.declared.item.Refusal.{Refusal}
 use Rattle.trace_text.specs.declared.item.Refusal.TheVariants as refusal
-use Rattle.trace_text.specs.Read.{Reading, Trace, Refused, Read}
-use Rattle.trace_text.specs.Ahead.{BeginsWith}
+use Rattle.trace_text.specs.Read.{Reading, Trace, Refused, Read, TakenEvents}
 use Rattle.trace_text.specs.Text.{note_bytes, Text}
 use Rattle.interrupt_machine.specs.declared.nest.Nest.{Nest}
 use Rattle.interrupt_machine.specs.declared.nest.Nest.TheVariants.{One}
@@ -36,11 +35,6 @@ last_tick events = last_tick_from 0 events
 abbrev pub Reads : Option (List ℕ) → Reading → Type 0
 Reads None r = Unit {0}
 Reads (Some bytes) r = Read bytes ≡ r
-
--- where the source told what was left, that text begins with these events
-abbrev pub ReadsFront : Option (List ℕ) → List Event → Type 0
-ReadsFront None events = Unit {0}
-ReadsFront (Some bytes) events = BeginsWith (Read bytes) events
 
 -- the step cost of a run, and its nesting: no handler but MAIN is interrupted
 abbrev pub run_cost : ℕ
@@ -98,37 +92,40 @@ pub record IsRefused (o : Outset) (now : Told) (line : ℕ) (kind : Refusal) (le
   pub reads : Reads left (Refused trace line kind)
   pub wrote : Wrote o now trace (last_tick trace) before after
 
--- The source failed. The journal is that of events at the front of what was left to read.
-pub record IsReadFault (o : Outset) (now : Told) (left before after : Option (List ℕ)) : Type 0 where
+-- The source failed. The events read are exactly those of the whole lines among the bytes taken, up to the first faulty
+-- one, and the journal is theirs.
+pub record IsReadFault (o : Outset) (now : Told) (left_before left_after before after : Option (List ℕ)) : Type 0 where
   pub trace : List Event
-  pub reads : ReadsFront left trace
+  pub reads : TakenEvents left_before left_after trace
   pub wrote : Wrote o now trace (last_tick trace) before after
 
--- The sink failed. The journal breaks off at a note. It is that of events at the front of what was left to read, and some
--- behind them were not applied.
-pub record IsWriteFault (o : Outset) (now : Told) (left before after : Option (List ℕ)) : Type 0 where
+-- The sink failed. The events of the whole lines among the bytes taken, up to the first faulty one, are exactly those of the
+-- trace and later ones that weren't applied. The journal is the trace's, and breaks off at a note.
+pub record IsWriteFault (o : Outset) (now : Told) (left_before left_after before after : Option (List ℕ)) : Type 0 where
   pub trace : List Event
   pub later : List Event
-  pub reads : ReadsFront left (trace ++ later)
+  pub reads : TakenEvents left_before left_after (trace ++ later)
   pub wrote : WroteFront o now trace later before after
 
--- what a run from an outset has read and written, and what the flash tells afterwards
-abbrev pub RanFrom : Outset → Told → Status → Option (List ℕ) → Option (List ℕ) → Option (List ℕ) → Type 0
-RanFrom o now status.Done left before after = IsDone o now left before after
-RanFrom o now (status.Refused line kind) left before after = IsRefused o now line kind left before after
-RanFrom o now status.ReadFault left before after = IsReadFault o now left before after
-RanFrom o now status.WriteFault left before after = IsWriteFault o now left before after
-RanFrom o now s left before after = ⊥
+-- What a run from an outset has read and written, and what the flash tells afterwards. What the source had left before and has
+-- left after says which bytes were taken.
+abbrev pub RanFrom : Outset → Told → Status → Option (List ℕ) → Option (List ℕ) → Option (List ℕ) → Option (List ℕ) → Type 0
+RanFrom o now status.Done left_before left_after before after = IsDone o now left_before before after
+RanFrom o now (status.Refused line kind) left_before left_after before after = IsRefused o now line kind left_before before after
+RanFrom o now status.ReadFault left_before left_after before after = IsReadFault o now left_before left_after before after
+RanFrom o now status.WriteFault left_before left_after before after = IsWriteFault o now left_before left_after before after
+RanFrom o now s left_before left_after before after = ⊥
 
-pub record HasRun (flash now : Told) (s : Status) (left before after : Option (List ℕ)) : Type 0 where
+pub record HasRun (flash now : Told) (s : Status) (left_before left_after before after : Option (List ℕ)) : Type 0 where
   pub outset : Outset
   pub begins : IsOutset flash outset
-  pub ran : RanFrom outset now s left before after
+  pub ran : RanFrom outset now s left_before left_after before after
 
--- what `run` has done, from what the flash told before, what was left to read, and what was given before and after
-abbrev pub Ran : Status → Told → Told → Option (List ℕ) → Option (List ℕ) → Option (List ℕ) → Type 0
-Ran status.AttachFault flash now left before after = (after ≡ before) × (now.bytes ≡ flash.bytes)
-Ran s flash now left before after = HasRun flash now s left before after
+-- what `run` has done, from what the flash told before, what the source had left before and after, and what the sink was
+-- given before and after
+abbrev pub Ran : Status → Told → Told → Option (List ℕ) → Option (List ℕ) → Option (List ℕ) → Option (List ℕ) → Type 0
+Ran status.AttachFault flash now left_before left_after before after = (after ≡ before) × (now.bytes ≡ flash.bytes)
+Ran s flash now left_before left_after before after = HasRun flash now s left_before left_after before after
 
 -- a fact where the flash failed at the start
 abbrev pub OnAttachFault : Status → Type 0 → Type 0

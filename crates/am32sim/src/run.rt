@@ -26,11 +26,11 @@ fn run<S: Source, K: Sink, F: FlashDev>(
     out: &mut K,
     flash: &mut F,
 ) -> Result<Status, WriteFault>
-    ensures ok { IfOk result (λ s. RanFrom (record { loaded = loaded; flash = told F.bytes F.faults flash.old }) (told F.bytes F.faults flash.new) s (S.left src.old) (K.given out.old) (K.given out.new)) }
+    ensures ok { IfOk result (λ s. RanFrom (record { loaded = loaded; flash = told F.bytes F.faults flash.old }) (told F.bytes F.faults flash.new) s (S.left src.old) (S.left src.new) (K.given out.old) (K.given out.new)) }
     ensures read_fault { IfOk result (λ s. OnReadFault s (Rose (S.faults src.old) (S.faults src.new))) }
     ensures no_end { IfOk result (λ s. OnNoEnd s (IsAtEnd (S.left src.new))) }
     ensures taken { IfOk result (λ s. OnWriteFault s (Rose (K.faults out.old) (K.faults out.new))) }
-    ensures err { OnErr result (IsWriteFault (record { loaded = loaded; flash = told F.bytes F.faults flash.old }) (told F.bytes F.faults flash.new) (S.left src.old) (K.given out.old) (K.given out.new)) }
+    ensures err { OnErr result (IsWriteFault (record { loaded = loaded; flash = told F.bytes F.faults flash.old }) (told F.bytes F.faults flash.new) (S.left src.old) (S.left src.new) (K.given out.old) (K.given out.new)) }
     ensures write_fault { OnErr result (Rose (K.faults out.old) (K.faults out.new)) }
 {
     let cfg = RunConfig {
@@ -69,8 +69,8 @@ pub fn sim_main<S: Source, K: Sink, F: FlashDev>(
     ensures untouched { words.now ≢ codes "run" ∷ [] → (src.new ≡ src.old) × (out.new ≡ out.old) × (flash.new ≡ flash.old) }
 
     // What was read and written, by the status, and what the flash holds then, where source, sink and flash tell their
-    // bytes.
-    ensures ran { words.now ≡ codes "run" ∷ [] → Ran result (told F.bytes F.faults flash.old) (told F.bytes F.faults flash.new) (S.left src.old) (K.given out.old) (K.given out.new) }
+    // bytes. At a read and a write fault the events read are those of the whole lines among the bytes that were taken.
+    ensures ran { words.now ≡ codes "run" ∷ [] → Ran result (told F.bytes F.faults flash.old) (told F.bytes F.faults flash.new) (S.left src.old) (S.left src.new) (K.given out.old) (K.given out.new) }
 
     // Each fault is the source's, the sink's or the flash's own, and without one the trace alone decides.
     ensures read_fault { OnReadFault result (Rose (S.faults src.old) (S.faults src.new)) }

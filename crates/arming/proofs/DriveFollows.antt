@@ -75,7 +75,7 @@ some_target w d lt = let h : 0 < w = grind (arith, nat_tests) in let e : target 
 pub drive_follows_back : (back : List Note) (t : Tick) (n s d : ℕ) → ControlledBack (note.Control t n s d ∷ back) → 0 < d → IsAskedFor d back
 drive_follows_back back t n s d legal lt =
     let w = control_at back in
-    let is : d ≡ demand_of (decide w n s) = legal.0.tick.1.1 in
+    let is : d ≡ demand_of (decide w n s) = legal.0.tick.demand_is in
     let p = drives_at (is_timed_out w n) (is_stuck s) (has_fuse s && w.armed) (not w.armed && may_arm w n s) w.armed (min (target w.wanted) (w.demand + 20)) (rw (← is) lt) in
     let e : d ≡ min (target w.wanted) (w.demand + 20) = is ∙ p.1 in
     let q = some_target w.wanted (w.demand + 20) (rw (← e) lt) in

@@ -1,5 +1,6 @@
 -- A good frame, a detection, and notes of others keep the ties.
 use Rattle.std.proofs.Common.{◌≡◌, ◌<◌, ℕ, ◌+◌, Bool, true, false, ◌&&◌, ◌==◌, min, if◌then◌else◌, List, [], ◌∷◌, Option, Some, None, refl, sym, arith}
+use Rattle.std.proofs.lemmas.Bool.{and_parts}
 use Rattle.std.proofs.lemmas.Bool.Decides.{nat_tests}
 use Rattle.esc_base.specs.declared.tick.Tick.{Tick}
 use Rattle.esc_base.specs.declared.signal.Mode.{Mode}
@@ -9,15 +10,11 @@ use Rattle.esc_base.specs.Numbers.{mode_number}
 use Rattle.dshot_commands.specs.declared.act.Act.{Act}
 use Rattle.dshot_commands.specs.Act.{acting, number_of}
 use Rattle.dshot_commands.specs.Repeats.{is_command, run_after, run_of, Run}
-use Rattle.dshot_commands.proofs.Runs.{acting_seven, run_more}
+use Rattle.dshot_commands.proofs.Runs.{acting_seven, either, run_more, run_same}
 use Rattle.arming.specs.Kept.{after_found, after_frame, is_still, start, Kept}
 use Rattle.arming.specs.ControlAt.{armed_at, command_run_at, demand_at, repeated_at, still_at, zeros_at}
 use Rattle.arming.specs.Controlled.{says, IsSave}
-use Rattle.arming.specs.Stands.{changes_control, with_frame, Stands, Ties}
-
-either : (b : Bool) (n : ℕ) → (if b then n else n) ≡ n
-either true n = refl
-either false n = refl
+use Rattle.arming.specs.Stands.{changes_control, with_frame, Stands, IsKept}
 
 pub start_stands : Stands start []
 start_stands = record {
@@ -50,10 +47,10 @@ not_special false run = refl
 quiet_frame : (s : Bool) (run : Run) (v z : ℕ) → 0 < (if v == 0 then z + 1 else 0) → (run_after run v s).frames ≡ 0
 quiet_frame s run v z lt = let e : v ≡ 0 = grind (arith, nat_tests) in rw e (not_special s run)
 
-still_is : (c : Kept) (back : List Note) → Ties c back → is_still c ≡ still_at back
+still_is : (c : Kept) (back : List Note) → IsKept c back → is_still c ≡ still_at back
 still_is c back t = rw (t.armed_is, t.demand_is) refl
 
-frame_ties : (c : Kept) (back : List Note) (t : Tick) (v q : ℕ) → Ties c back → Ties (after_frame c v) (note.Good t v q ∷ back)
+frame_ties : (c : Kept) (back : List Note) (t : Tick) (v q : ℕ) → IsKept c back → IsKept (after_frame c v) (note.Good t v q ∷ back)
 frame_ties c back t v q ties = record {
   mode_is = ties.mode_is;
   armed_is = ties.armed_is;
@@ -70,7 +67,7 @@ frame_ties c back t v q ties = record {
 }
 
 -- the last clause is checked for each of the other notes
-pub other_ties : (n : Note) (c : Kept) (back : List Note) → changes_control n ≡ false → Ties c back → Ties c (n ∷ back)
+pub other_ties : (n : Note) (c : Kept) (back : List Note) → changes_control n ≡ false → IsKept c back → IsKept c (n ∷ back)
 other_ties (note.Good t v q) c back h ties = absurd (let g = h in cc)
 other_ties (note.Detected t m) c back h ties = absurd (let g = h in cc)
 other_ties (note.Control t n s d) c back h ties = absurd (let g = h in cc)
@@ -125,23 +122,14 @@ found_stands c back t mode s = record {
   none_owed = refl;
 }
 
--- the run of the command that came
-run_same : (b : Bool) (run : Run) (v k : ℕ) → (run.command == v) ≡ b → run_of run v ≡ min 7 k → (if b then min 7 (run.frames + 1) else 1) ≡ min 7 (k + 1)
-run_same true run v k t e = grind (arith, nat_tests)
-run_same false run v k t e = grind (arith, nat_tests)
-
 run_is_at : (s b : Bool) (run : Run) (v k : ℕ) → is_command v ≡ b → (s ≡ true → b ≡ true → run_of run v ≡ min 7 k) → (run_after run v s).frames ≡ min 7 (if s && b then k + 1 else 0)
 run_is_at true true run v k c e = rw c (run_same (run.command == v) run v k refl (e refl refl))
 run_is_at true false run v k c e = rw c refl
 run_is_at false b run v k c e = refl
 
-left : (a b : Bool) → (a && b) ≡ true → a ≡ true
-left true b e = refl
-left false b e = e
-
-run_is : (c : Kept) (back : List Note) (v : ℕ) → Ties c back → (after_frame c v).run.frames ≡ min 7 (command_run_at v back)
+run_is : (c : Kept) (back : List Note) (v : ℕ) → IsKept c back → (after_frame c v).run.frames ≡ min 7 (command_run_at v back)
 run_is c back v ties =
-    rw (still_is c back ties) (run_is_at (still_at back) (is_command v) c.run v (repeated_at v back) refl (λ s h. ties.runs (left (armed_at back) (demand_at back == 0) s) v h))
+    rw (still_is c back ties) (run_is_at (still_at back) (is_command v) c.run v (repeated_at v back) refl (λ s h. ties.runs (and_parts (armed_at back) (demand_at back == 0) s).0 v h))
 
 framed_stands : (o : Option Act) (c : Kept) (back : List Note) (t : Tick) (v q : ℕ) → acting (command_run_at v back) v ≡ o → Stands c back → Stands (after_frame c v) (with_frame t v q o back)
 framed_stands None c back t v q e s = record {

@@ -1,5 +1,5 @@
 -- The first control tick past the timeout ends the drive.
-use Rattle.std.proofs.Common.{◌≡◌, ◌≤◌, ◌<◌, ℕ, ◌+◌, ◌-◌, Bool, true, false, not, ◌&&◌, ◌==◌, nat_le, min, max, if◌then◌else◌, List, [], ◌∷◌, ◌++◌, reverse, Option, Some, None, refl, sym, ◌∙◌, arith, subst, append-nil, append_assoc}
+use Rattle.std.proofs.Common.{◌≡◌, ◌≢◌, ◌≤◌, ◌<◌, ℕ, ◌+◌, ◌-◌, Bool, true, false, not, ◌&&◌, ◌==◌, nat_le, min, max, if◌then◌else◌, List, [], ◌∷◌, ◌++◌, reverse, Option, Some, None, refl, sym, ◌∙◌, arith, subst, append-nil, append_assoc}
 use Rattle.std.proofs.lemmas.Bool.Decides.{nat_tests}
 use Rattle.esc_base.specs.declared.tick.Tick.{Tick}
 use Rattle.esc_base.specs.declared.note.Cause.TheVariants as cause
@@ -17,7 +17,7 @@ use Rattle.arming.proofs.InOrder.{back_to, each_front, each_rest, reverse-push, 
 -- the rules before the timeout count on from this number, and none is owed
 record Counts (limit : ℕ) (back : List Note) : Type 0 where
   limit_is : newest_at back + 10000 ≡ limit
-  none_owed : owed back ≡ Some (Lost 0) → ⊥
+  none_owed : owed back ≢ Some (Lost 0)
 
 none_lost : {A : Type 0} → ◌≡◌ {A = Option Outcome} None (Some (Lost 0)) → A
 none_lost e = absurd (let g = e in cc)
@@ -103,9 +103,9 @@ silence_ends before silence after t n s d free silent late whole =
     let k = note.Control t n s d in
     let each : Each Fit [] (before ++ silence) = each_front Fit [] (before ++ silence) (k ∷ after) whole in
     let counts : Counts limit (reverse (before ++ silence)) =
-    silence_keeps before silence limit (record { limit_is = refl; none_owed = λ h. none_lost (sym free ∙ h) }) silent (each_rest Fit [] before silence each) in
+    silence_keeps before silence limit (record { limit_is = refl; none_owed = free }) silent (each_rest Fit [] before silence each) in
     let out = times_out (reverse (before ++ silence)) n s limit counts late in
     let legal = back_to (before ++ silence) after k whole in (
-      legal.0.tick.1.1 ∙ rw out refl,
+      legal.0.tick.demand_is ∙ rw out refl,
       followed (before ++ silence) after t n s d out (each_rest Fit [] ((before ++ silence) ++ k ∷ []) after (rw (append_assoc (before ++ silence) (k ∷ []) after) whole)),
     )

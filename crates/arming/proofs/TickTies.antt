@@ -6,21 +6,19 @@ use Rattle.esc_base.specs.declared.note.Cause.{Cause}
 use Rattle.esc_base.specs.declared.note.Cause.TheVariants as cause
 use Rattle.esc_base.specs.declared.note.Note.{Note}
 use Rattle.esc_base.specs.declared.note.Note.TheVariants as note
+use Rattle.esc_base.specs.Times.{control_period}
 use Rattle.dshot_commands.specs.Repeats.{is_command}
+use Rattle.dshot_commands.proofs.Runs.{either}
 use Rattle.arming.specs.declared.decision.Decision.{Decision}
 use Rattle.arming.specs.declared.decision.Decision.TheVariants.{Loses, Arms, Drives}
 use Rattle.arming.specs.Throttle.{target}
 use Rattle.arming.specs.Decide.{answer_of, decide, has_fuse, has_session, is_stuck, is_timed_out, may_arm, View}
 use Rattle.arming.specs.Kept.{after_tick, view_of, Kept}
-use Rattle.arming.specs.ControlAt.{control_at, number_at, repeated_at, still_at, zeros_at}
-use Rattle.arming.specs.Stands.{with_tick, Stands, Ties}
-
-either : (b : Bool) (n : ℕ) → (if b then n else n) ≡ n
-either true n = refl
-either false n = refl
+use Rattle.arming.specs.ControlAt.{control_at, marks_at, number_at, repeated_at, still_at, zeros_at}
+use Rattle.arming.specs.Stands.{with_tick, Stands, IsKept}
 
 module _ (c : Kept) (back : List Note) (t : Tick) (n s : ℕ) where
-  lost_ties : (why : Cause) → number_at back < n → Ties c back → Ties (after_tick c n (Loses why)) (with_tick t n s (answer_of (Loses why) c.demand) back)
+  lost_ties : (why : Cause) → number_at back < n → IsKept c back → IsKept (after_tick c n (Loses why)) (with_tick t n s (answer_of (Loses why) c.demand) back)
   lost_ties cause.Timeout lt ties = record {
     mode_is = refl;
     armed_is = refl;
@@ -50,7 +48,7 @@ module _ (c : Kept) (back : List Note) (t : Tick) (n s : ℕ) where
     runs = λ a. absurd (let b = a in cc);
   }
 
-  drives_ties : (d : ℕ) → number_at back < n → Ties c back → Ties (after_tick c n (Drives d)) (with_tick t n s (answer_of (Drives d) c.demand) back)
+  drives_ties : (d : ℕ) → number_at back < n → IsKept c back → IsKept (after_tick c n (Drives d)) (with_tick t n s (answer_of (Drives d) c.demand) back)
   drives_ties d lt ties = record {
     mode_is = ties.mode_is;
     armed_is = ties.armed_is;
@@ -96,7 +94,7 @@ decides_arms w n s e =
     arms_zero w.armed (nat_le 5000 (n - w.base)) (not (has_fuse s)) (not (has_session s)) w.zero_run
     (first_of_six (is_timed_out w n) (is_stuck s) (has_fuse s && w.armed) (not w.armed && may_arm w n s) w.armed (min (target w.wanted) (w.demand + 20)) e)
 
-arms_ties : (c : Kept) (back : List Note) (t : Tick) (n s : ℕ) → decide (view_of c) n s ≡ Arms → number_at back < n → Ties c back → Ties (after_tick c n Arms) (with_tick t n s (answer_of Arms c.demand) back)
+arms_ties : (c : Kept) (back : List Note) (t : Tick) (n s : ℕ) → decide (view_of c) n s ≡ Arms → number_at back < n → IsKept c back → IsKept (after_tick c n Arms) (with_tick t n s (answer_of Arms c.demand) back)
 arms_ties c back t n s e lt ties =
     let z : 0 < zeros_at back = let a = decides_arms (view_of c) n s e in let b = ties.zero_is in omega arith in
     record {
@@ -114,32 +112,32 @@ arms_ties c back t n s e lt ties =
       runs = λ a v h. rw (ties.quiet z, zeros_run v back h z) (either (c.run.command == v) 0);
     }
 
-view_is : (c : Kept) (back : List Note) → Ties c back → view_of c ≡ control_at back
+view_is : (c : Kept) (back : List Note) → IsKept c back → view_of c ≡ control_at back
 view_is c back ties = rw (ties.armed_is, ties.wanted_is, ties.demand_is, ties.zero_is, ties.newest_is, ties.base_is) refl
 
-bound : (c : Kept) (back : List Note) (n : ℕ) → c.number < n → Ties c back → number_at back < n
+bound : (c : Kept) (back : List Note) (n : ℕ) → c.number < n → IsKept c back → number_at back < n
 bound c back n lt ties = let e = ties.number_is in omega arith
 
-tick_at : (d : Decision) (c : Kept) (back : List Note) (t : Tick) (n s : ℕ) → decide (view_of c) n s ≡ d → decide (control_at back) n s ≡ d → n ≡ t.0 / 2400 → number_at back < n → Stands c back
+decided_stands : (d : Decision) (c : Kept) (back : List Note) (t : Tick) (n s : ℕ) → decide (view_of c) n s ≡ d → decide (control_at back) n s ≡ d → n ≡ t.0 / control_period → number_at back < n → s ≡ marks_at back → Stands c back
     → Stands (after_tick c n d) (with_tick t n s (answer_of d c.demand) back)
-tick_at (Loses why) c back t n s e f at lt stands = record {
+decided_stands (Loses why) c back t n s e f at lt marks stands = record {
   ties = lost_ties c back t n s why lt stands.ties;
-  controlled = (record { paid = rw f refl; tick = tt; save = tt }, (record { paid = sym stands.none_owed; tick = (at, (lt, rw f refl)); save = tt }, stands.controlled));
+  controlled = (record { paid = rw f refl; tick = tt; save = tt }, (record { paid = sym stands.none_owed; tick = record { number_is = at; rises = lt; marks_are = marks; demand_is = rw f refl }; save = tt }, stands.controlled));
   none_owed = refl;
 }
-tick_at Arms c back t n s e f at lt stands = record {
+decided_stands Arms c back t n s e f at lt marks stands = record {
   ties = arms_ties c back t n s e lt stands.ties;
-  controlled = (record { paid = rw f refl; tick = tt; save = tt }, (record { paid = sym stands.none_owed; tick = (at, (lt, rw f refl)); save = tt }, stands.controlled));
+  controlled = (record { paid = rw f refl; tick = tt; save = tt }, (record { paid = sym stands.none_owed; tick = record { number_is = at; rises = lt; marks_are = marks; demand_is = rw f refl }; save = tt }, stands.controlled));
   none_owed = refl;
 }
-tick_at (Drives d) c back t n s e f at lt stands = record {
+decided_stands (Drives d) c back t n s e f at lt marks stands = record {
   ties = drives_ties c back t n s d lt stands.ties;
-  controlled = (record { paid = sym stands.none_owed; tick = (at, (lt, rw f refl)); save = tt }, stands.controlled);
+  controlled = (record { paid = sym stands.none_owed; tick = record { number_is = at; rises = lt; marks_are = marks; demand_is = rw f refl }; save = tt }, stands.controlled);
   none_owed = rw f refl;
 }
 
 -- a control tick stands for its notes
-pub tick_stands : (c : Kept) (back : List Note) (t : Tick) (n s : ℕ) → n ≡ t.0 / 2400 → c.number < n → Stands c back
+pub tick_stands : (c : Kept) (back : List Note) (t : Tick) (n s : ℕ) → n ≡ t.0 / control_period → c.number < n → s ≡ marks_at back → Stands c back
     → Stands (after_tick c n (decide (view_of c) n s)) (with_tick t n s (answer_of (decide (view_of c) n s) c.demand) back)
-tick_stands c back t n s at lt stands =
-    tick_at (decide (view_of c) n s) c back t n s refl (ap (λ (w : View). decide w n s) (sym (view_is c back stands.ties))) at (bound c back n lt stands.ties) stands
+tick_stands c back t n s at lt marks stands =
+    decided_stands (decide (view_of c) n s) c back t n s refl (ap (λ (w : View). decide w n s) (sym (view_is c back stands.ties))) at (bound c back n lt stands.ties) marks stands

@@ -2,6 +2,7 @@
 use Rattle.std.specs.Prelude.{ℕ, ◌+◌, Bool, true, false, ◌==◌, ◌&&◌, ◌||◌, nat_le, min, max, if◌then◌else◌, List, [], ◌∷◌}
 use Rattle.esc_base.specs.declared.note.Note.{Note}
 use Rattle.esc_base.specs.declared.note.Note.TheVariants as note
+use Rattle.esc_base.specs.Times.{arming_frames}
 use Rattle.dshot_commands.specs.Repeats.{is_command}
 use Rattle.arming.specs.Decide.{View}
 
@@ -88,12 +89,31 @@ asked_at (note.Saved t r ∷ back) = false
 asked_at (note.Command t c ∷ back) = (c == 12) || asked_at back
 asked_at (n ∷ back) = asked_at back
 
+-- ---- the marks of a K at this place, a row for each: what the notes before it say
+
+-- 1, stuck: so far no sector change stands in a journal
+abbrev pub stuck_at : List Note → Bool
+stuck_at back = false
+
+-- 2, fuse: so far no watcher looks at a run
+abbrev pub fuse_at : List Note → Bool
+fuse_at back = false
+
+-- 4, session: so far no packet stands in a journal
+abbrev pub session_at : List Note → Bool
+session_at back = false
+
+abbrev pub marks_at : List Note → ℕ
+marks_at back = (if stuck_at back then 1 else 0) + (if fuse_at back then 2 else 0) + (if session_at back then 4 else 0)
+
+-- ---- all of it
+
 abbrev pub control_at : List Note → View
 control_at back = record {
   armed = armed_at back;
   wanted = wanted_at back;
   demand = demand_at back;
-  zero_run = min 30 (zeros_at back);
+  zero_run = min arming_frames (zeros_at back);
   newest = newest_at back;
   base = base_at back;
 }

@@ -4,12 +4,13 @@ use Rattle.esc_base.specs.declared.note.Note.{Note}
 use Rattle.esc_base.specs.declared.note.Note.TheVariants as note
 use Rattle.esc_base.specs.Journal.{Each}
 use Rattle.esc_base.specs.Numbers.{cause_number}
+use Rattle.esc_base.specs.Times.{control_period}
 use Rattle.dshot_commands.specs.declared.act.Act.{Act}
 use Rattle.dshot_commands.specs.Act.{acting, number_of}
 use Rattle.arming.specs.declared.decision.Decision.{Decision}
 use Rattle.arming.specs.declared.decision.Decision.TheVariants.{Loses, Arms, Drives}
 use Rattle.arming.specs.Decide.{decide, demand_of}
-use Rattle.arming.specs.ControlAt.{asked_at, command_run_at, control_at, number_at}
+use Rattle.arming.specs.ControlAt.{asked_at, command_run_at, control_at, marks_at, number_at}
 
 -- what A, X and M say
 pub data Outcome : Type 0 where
@@ -39,9 +40,15 @@ says (note.Lost t c) = Some (Lost c)
 says (note.Command t c) = Some (Acted c)
 says n = None
 
--- a K has the number of its control tick, numbers rise, and its demand is the decided one
+-- a K has the number of its control tick, numbers rise, its marks are those of its place, and its demand is the decided one
+pub record FitsTick (back : List Note) (at n marks demand : ℕ) : Type 0 where
+  pub number_is : n ≡ at / control_period
+  pub rises : number_at back < n
+  pub marks_are : marks ≡ marks_at back
+  pub demand_is : demand ≡ demand_of (decide (control_at back) n marks)
+
 abbrev pub IsTick : List Note → Note → Type 0
-IsTick back (note.Control t n s d) = (n ≡ t.0 / 2400) × ((number_at back < n) × (d ≡ demand_of (decide (control_at back) n s)))
+IsTick back (note.Control t n s d) = FitsTick back t.0 n s d
 IsTick back n = Unit {0}
 
 -- a P stands where a save is asked for: so two P have a command 12 between them, and one stands before the first P

@@ -1,6 +1,7 @@
 -- What a control tick decides.
 use Rattle.std.specs.Prelude.{ℕ, ◌+◌, ◌-◌, Bool, true, false, not, ◌==◌, ◌&&◌, nat_le, nat_lt, min, if◌then◌else◌, bit_and, Some, None}
 use Rattle.esc_base.specs.declared.note.Cause.TheVariants.{Timeout, Stuck, Fuse}
+use Rattle.esc_base.specs.Times.{timeout, arming_time, arming_frames, ramp}
 use Rattle.arming.specs.declared.marks.Marks.{Marks}
 use Rattle.arming.specs.declared.decision.Decision.{Decision}
 use Rattle.arming.specs.declared.decision.Decision.TheVariants.{Loses, Arms, Drives}
@@ -29,13 +30,13 @@ has_fuse marks = bit_and marks 2 == 2
 abbrev pub has_session : ℕ → Bool
 has_session marks = bit_and marks 4 == 4
 
--- no good frame was accepted in the last 10000 control ticks
+-- no good frame was accepted in half a second
 abbrev pub is_timed_out : View → ℕ → Bool
-is_timed_out c n = nat_le 10000 (n - c.newest)
+is_timed_out c n = nat_le timeout (n - c.newest)
 
--- thirty frames with value 0 stand, 5000 control ticks have passed since the start or the newest loss, and no mark forbids it
+-- enough frames with value 0 stand, and control ticks since the start or the newest loss, and no mark forbids it
 abbrev pub may_arm : View → ℕ → ℕ → Bool
-may_arm c n marks = ((c.zero_run == 30) && nat_le 5000 (n - c.base)) && (not (has_fuse marks) && not (has_session marks))
+may_arm c n marks = ((c.zero_run == arming_frames) && nat_le arming_time (n - c.base)) && (not (has_fuse marks) && not (has_session marks))
 
 -- the first of the six cases
 abbrev pub decide : View → ℕ → ℕ → Decision
@@ -44,7 +45,7 @@ decide c n marks =
     else (if is_stuck marks then Loses Stuck
     else (if has_fuse marks && c.armed then Loses Fuse
     else (if not c.armed && may_arm c n marks then Arms
-    else (if c.armed then Drives (min (target c.wanted) (c.demand + 20))
+    else (if c.armed then Drives (min (target c.wanted) (c.demand + ramp))
     else Drives 0))))
 
 abbrev pub demand_of : Decision → ℕ

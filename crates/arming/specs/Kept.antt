@@ -4,6 +4,7 @@ use Rattle.esc_base.specs.declared.signal.Mode.{Mode}
 use Rattle.esc_base.specs.declared.signal.Mode.TheVariants.{Unknown}
 use Rattle.esc_base.specs.declared.note.Cause.{Cause}
 use Rattle.esc_base.specs.declared.note.Cause.TheVariants as cause
+use Rattle.esc_base.specs.Times.{arming_frames}
 use Rattle.dshot_commands.specs.Repeats.{no_run, run_after, Run}
 use Rattle.arming.specs.declared.decision.Decision.{Decision}
 use Rattle.arming.specs.declared.decision.Decision.TheVariants.{Loses, Arms, Drives}
@@ -14,7 +15,7 @@ pub record Kept : Type 0 where
   pub armed : Bool
   pub wanted : ℕ
   pub demand : ℕ
-  -- good frames with value 0 in a row, at most 30
+  -- good frames with value 0 in a row, up to what arming takes
   pub zero_run : ℕ
   -- of the newest tick
   pub number : ℕ
@@ -41,7 +42,7 @@ after_found c mode = record c { mode = mode }
 abbrev pub after_frame : Kept → ℕ → Kept
 after_frame c value = record c {
   wanted = if nat_le 48 value then value else 0;
-  zero_run = if value == 0 then min 30 (c.zero_run + 1) else 0;
+  zero_run = if value == 0 then min arming_frames (c.zero_run + 1) else 0;
   newest = c.number;
   run = run_after c.run value (is_still c);
 }

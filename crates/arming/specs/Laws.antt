@@ -1,11 +1,12 @@
 -- What follows from `Controlled` alone.
-use Rattle.std.specs.Prelude.{◌≡◌, ◌≤◌, ◌<◌, ℕ, ◌+◌, true, List, [], ◌∷◌, ◌++◌, reverse, None}
+use Rattle.std.specs.Prelude.{◌≡◌, ◌≢◌, ◌≤◌, ◌<◌, ℕ, ◌+◌, true, List, [], ◌∷◌, ◌++◌, reverse, Some}
 use Rattle.esc_base.specs.declared.tick.Tick.{Tick}
 use Rattle.esc_base.specs.declared.note.Note.{Note}
 use Rattle.esc_base.specs.declared.note.Note.TheVariants as note
+use Rattle.esc_base.specs.Times.{timeout}
 use Rattle.arming.specs.Throttle.{on_of}
 use Rattle.arming.specs.ControlAt.{armed_at, newest_at}
-use Rattle.arming.specs.Controlled.{owed, Controlled}
+use Rattle.arming.specs.Controlled.{owed, Lost, Controlled}
 
 -- the newest good frame is throttle, stands after an A with no X since, and asks for at least this demand
 abbrev pub IsAskedFor : ℕ → List Note → Type 0
@@ -35,13 +36,13 @@ abbrev pub IsFollowedByTimeout : List Note → Type 0
 IsFollowedByTimeout [] = Unit {0}
 IsFollowedByTimeout (n ∷ notes) = IsTimeout n
 
--- from any place on where no outcome is owed: while no good frame stands, the first K whose number is at least 10000 above the
--- newest has demand 0, and what stands behind it is a timeout
+-- From any place on but one between a K and the timeout that it owes: while no good frame stands, the first K whose number is
+-- at least `timeout` above the newest has demand 0, and what stands behind it is a timeout.
 abbrev pub SilenceEndsDrive : Type 0
 SilenceEndsDrive =
     (before silence after : List Note) (t : Tick) (n s d : ℕ)
-    → owed (reverse before) ≡ None
-    → IsSilentBelow (newest_at (reverse before) + 10000) silence
-    → newest_at (reverse before) + 10000 ≤ n
+    → owed (reverse before) ≢ Some (Lost 0)
+    → IsSilentBelow (newest_at (reverse before) + timeout) silence
+    → newest_at (reverse before) + timeout ≤ n
     → Controlled (before ++ silence ++ note.Control t n s d ∷ after)
     → (d ≡ 0) × IsFollowedByTimeout after

@@ -5,6 +5,7 @@ use Rattle.esc_base.specs.declared.note.Cause.{Cause}
 use Rattle.esc_base.specs.declared.note.Note.{Note}
 use Rattle.esc_base.specs.declared.note.Note.TheVariants as note
 use Rattle.esc_base.specs.Numbers.{cause_number, mode_number}
+use Rattle.esc_base.specs.Times.{arming_frames}
 use Rattle.dshot_commands.specs.declared.act.Act.{Act}
 use Rattle.dshot_commands.specs.Act.{number_of}
 use Rattle.dshot_commands.specs.Repeats.{is_command, run_of}
@@ -13,12 +14,12 @@ use Rattle.arming.specs.Kept.{Kept}
 use Rattle.arming.specs.ControlAt.{armed_at, base_at, demand_at, mode_at, newest_at, number_at, number_at_frame, number_at_timeout, repeated_at, wanted_at, zeros_at}
 use Rattle.arming.specs.Controlled.{owed, ControlledBack}
 
-pub record Ties (c : Kept) (back : List Note) : Type 0 where
+pub record IsKept (c : Kept) (back : List Note) : Type 0 where
   pub mode_is : mode_number c.mode ≡ mode_at back
   pub armed_is : c.armed ≡ armed_at back
   pub wanted_is : c.wanted ≡ wanted_at back
   pub demand_is : c.demand ≡ demand_at back
-  pub zero_is : c.zero_run ≡ min 30 (zeros_at back)
+  pub zero_is : c.zero_run ≡ min arming_frames (zeros_at back)
   pub number_is : c.number ≡ number_at back
   pub newest_is : c.newest ≡ newest_at back
   pub base_is : c.base ≡ base_at back
@@ -39,7 +40,7 @@ changes_control n = false
 
 -- control stands for these notes, the newest first
 pub record Stands (c : Kept) (back : List Note) : Type 0 where
-  pub ties : Ties c back
+  pub ties : IsKept c back
   pub controlled : ControlledBack back
   pub none_owed : owed back ≡ None
 

@@ -6,6 +6,7 @@ ghost use Rattle.esc_base.specs.declared.note.Note.TheVariants as note;
 ghost use Rattle.esc_base.specs.Numbers.{mode_number};
 ghost use Rattle.dshot_commands.specs.Act.{acting, number_of, IsInRange};
 ghost use Rattle.arming.specs.Throttle.{target};
+ghost use Rattle.arming.specs.ControlAt.{marks_at};
 ghost use Rattle.arming.specs.Decide.{answer_of, bits_of, decide, demand_of, is_timed_out, may_arm};
 ghost use Rattle.arming.specs.Kept.{after_found, after_frame, after_loss, after_tick, is_still, start, view_of};
 ghost use Rattle.arming.specs.Stands.{with_frame, with_tick, Stands};
@@ -104,15 +105,16 @@ impl Control {
         self.repeats.frame(value, still)
     }
 
-    /// Control tick `n`, with a number above that of the tick before.
+    /// Control tick `n`, with a number above that of the tick before. Control stands for the notes after it where the marks
+    /// are those that the notes before it give.
     pub fn tick(&mut self, n: u32, marks: Marks) -> Ticked
         requires { self.old.number < n }
         ensures answer { result ≡ answer_of (decide (view_of self.old) n (bits_of marks)) self.old.demand }
         ensures kept { self.new ≡ after_tick self.old n (decide (view_of self.old) n (bits_of marks)) }
         ensures number { self.new.number ≡ n }
         ensures most { result.demand ≤ 1900 }
-        ensures stands { (t : Tick) (back : List Note) → n ≡ t.0 / 2400 → Stands self.old back →
-            Stands self.new (with_tick t n (bits_of marks) result back) }
+        ensures stands { (t : Tick) (back : List Note) → n ≡ t.0 / 2400 → bits_of marks ≡ marks_at back →
+            Stands self.old back → Stands self.new (with_tick t n (bits_of marks) result back) }
     {
         let decision = self.decide(n, marks);
         let answer = decision.answer(self.demand);

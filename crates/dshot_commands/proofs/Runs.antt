@@ -6,7 +6,7 @@ use Rattle.dshot_commands.specs.declared.act.Act.TheVariants.{Beacon, Direction,
 use Rattle.dshot_commands.specs.Act.{act_of, acting, frames_needed}
 use Rattle.dshot_commands.specs.Repeats.{is_command, no_run, run_after, run_back, run_of, Counts, Heard, Run}
 
-either : (b : Bool) (n : ℕ) → (if b then n else n) ≡ n
+pub either : (b : Bool) (n : ℕ) → (if b then n else n) ≡ n
 either true n = refl
 either false n = refl
 
@@ -48,7 +48,7 @@ pub acting_seven : (k v : ℕ) → acting (min 7 k) v ≡ acting k v
 acting_seven k v = if_needed (act_of v) k
 
 -- the run of the command that came
-run_same : (b : Bool) (run : Run) (v k : ℕ) → (run.command == v) ≡ b → run_of run v ≡ min 7 k → (if b then min 7 (run.frames + 1) else 1) ≡ min 7 (k + 1)
+pub run_same : (b : Bool) (run : Run) (v k : ℕ) → (run.command == v) ≡ b → run_of run v ≡ min 7 k → (if b then min 7 (run.frames + 1) else 1) ≡ min 7 (k + 1)
 run_same true run v k t e = grind (arith, nat_tests)
 run_same false run v k t e = grind (arith, nat_tests)
 

@@ -1,2 +1,3 @@
 pub mod TraceLaws
 pub mod FlashLaws
+pub mod PeriodLaws

@@ -6,3 +6,5 @@ pub mod Journal
 pub mod Range
 pub mod Trace
 pub mod Flash
+pub mod Legs
+pub mod Periods

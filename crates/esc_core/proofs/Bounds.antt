@@ -1,9 +1,10 @@
 -- How far each step of the core takes its activation, and what it does to the mask.
-use Rattle.std.proofs.Common.{◌≡◌, ◌≢◌, ◌<◌, ◌≤◌, ◌+◌, ◌-◌, ℕ, Bool, true, false, ◌&&◌, ◌==◌, nat_lt, nat_le, min, if◌then◌else◌, [], ◌∷◌, ◌++◌, length, refl, sym, ◌∙◌, arith, lit<, lit≤, ◌⊎◌, inl, inr, None}
-use Rattle.std.proofs.lemmas.Bool.{true≢false}
+use Rattle.std.proofs.Common.{◌≡◌, ◌≢◌, ◌<◌, ◌≤◌, ◌+◌, ◌-◌, ℕ, Bool, true, false, ◌&&◌, ◌==◌, nat_lt, nat_le, min, if◌then◌else◌, List, [], ◌∷◌, ◌++◌, length, refl, sym, ◌∙◌, subst, arith, lit<, lit≤, inl, inr}
+use Rattle.std.proofs.lemmas.Bool.{true≢false, cases_Bool}
 use Rattle.std.proofs.lemmas.Bool.Decides.{nat_tests}
 use Rattle.esc_base.specs.declared.kind.Kind.{Kind}
 use Rattle.esc_base.specs.declared.kind.Kind.TheVariants as kind
+use Rattle.esc_base.specs.Flash.{Told}
 use Rattle.timer_regs.specs.Bank.{Bank}
 use Rattle.timer_regs.specs.Effects.{read_value}
 use Rattle.timer_regs.specs.declared.regs.Reg.TheVariants as reg
@@ -18,15 +19,17 @@ use Rattle.esc_core.specs.declared.state.TickAt.{TickAt}
 use Rattle.esc_core.specs.declared.state.TickAt.TheVariants as tick
 use Rattle.esc_core.specs.declared.state.MainAt.{MainAt}
 use Rattle.esc_core.specs.declared.state.MainAt.TheVariants as main
-use Rattle.esc_core.specs.declared.judge.Judgement.{Judgement}
-use Rattle.esc_core.specs.declared.judge.Judgement.TheVariants.{Good, Bad, Found, Nothing}
+use Rattle.input_detect.specs.declared.window.Judgement.{Judgement}
+use Rattle.input_detect.specs.declared.window.Judgement.TheVariants.{Good, Bad, Found, Nothing}
 use Rattle.esc_core.specs.Brain.{Brain}
-use Rattle.esc_core.specs.Judge.{inputs_of, judged}
+use Rattle.input_detect.specs.Judge.{judged}
+use Rattle.settings_block.specs.Settings.{servo_of}
 use Rattle.esc_core.specs.Stepped.{Stepped, IsStepped, is_return, goes_on, goes_back}
 use Rattle.esc_core.specs.Cap.{after_edges, after_copy, opens, takes, next_edge, judge_step, cap_step}
 use Rattle.esc_core.specs.Tick.{tick_notes, ticked, tick_step}
+use Rattle.esc_core.specs.Calls.{Call, Answer, took_first, CallDid, DeviceDid}
 use Rattle.esc_core.specs.Background.{saving_step, main_step}
-use Rattle.esc_core.specs.Firmware.{cap_left, tick_left, main_left, left_of, need_of, tick_need, shut, kind_step, kind_saves, counted_down, is_stray, stray_step, core_step, core_saves}
+use Rattle.esc_core.specs.Firmware.{cap_left, tick_left, main_left, left_of, need_of, tick_need, shut, kind_step, kind_asked, counted_down, is_stray, stray_step, core_step, core_asked}
 
 -- ---- CAP
 
@@ -44,13 +47,33 @@ pub record PlainMoves (k : Kind) (left : ℕ) (c : Brain) (b : Bank) (s : Steppe
   pub hold : s.core.hold ≡ c.hold
 
 opens_moves : (left : ℕ) (c : Brain) (b : Bank) → 1 < left → PlainMoves kind.Cap left c b (opens c b)
-opens_moves left c b l = record { moves = record { less = l; more = λ e. lit< tt; shut = λ e. cc; others = elim [ kind.Cap ↦ λ ne. absurd (ne refl) | j ↦ λ ne. (refl, refl) ] }; masked = refl; hold = refl }
+opens_moves left c b l = record {
+  moves = record { less = l; more = λ e. lit< tt; shut = λ e. cc; others = elim [ kind.Cap ↦ λ ne. absurd (ne refl) | j ↦ λ ne. (refl, refl) ] };
+  masked = refl;
+  hold = refl;
+}
 
 judge_moves : (j : Judgement) (c : Brain) (b : Bank) → PlainMoves kind.Cap 3 c b (judge_step j c b)
-judge_moves (Good frame) c b = record { moves = record { less = lit< tt; more = λ e. lit< tt; shut = λ e. cc; others = elim [ kind.Cap ↦ λ ne. absurd (ne refl) | j ↦ λ ne. (refl, refl) ] }; masked = refl; hold = refl }
-judge_moves (Bad why) c b = record { moves = record { less = lit< tt; more = λ e. lit< tt; shut = λ e. cc; others = elim [ kind.Cap ↦ λ ne. absurd (ne refl) | j ↦ λ ne. (refl, refl) ] }; masked = refl; hold = refl }
-judge_moves (Found mode) c b = record { moves = record { less = lit< tt; more = λ e. lit< tt; shut = λ e. cc; others = elim [ kind.Cap ↦ λ ne. absurd (ne refl) | j ↦ λ ne. (refl, refl) ] }; masked = refl; hold = refl }
-judge_moves Nothing c b = record { moves = record { less = lit< tt; more = λ e. lit< tt; shut = λ e. cc; others = elim [ kind.Cap ↦ λ ne. absurd (ne refl) | j ↦ λ ne. (refl, refl) ] }; masked = refl; hold = refl }
+judge_moves (Good frame) c b = record {
+  moves = record { less = lit< tt; more = λ e. lit< tt; shut = λ e. cc; others = elim [ kind.Cap ↦ λ ne. absurd (ne refl) | j ↦ λ ne. (refl, refl) ] };
+  masked = refl;
+  hold = refl;
+}
+judge_moves (Bad why) c b = record {
+  moves = record { less = lit< tt; more = λ e. lit< tt; shut = λ e. cc; others = elim [ kind.Cap ↦ λ ne. absurd (ne refl) | j ↦ λ ne. (refl, refl) ] };
+  masked = refl;
+  hold = refl;
+}
+judge_moves (Found mode) c b = record {
+  moves = record { less = lit< tt; more = λ e. lit< tt; shut = λ e. cc; others = elim [ kind.Cap ↦ λ ne. absurd (ne refl) | j ↦ λ ne. (refl, refl) ] };
+  masked = refl;
+  hold = refl;
+}
+judge_moves Nothing c b = record {
+  moves = record { less = lit< tt; more = λ e. lit< tt; shut = λ e. cc; others = elim [ kind.Cap ↦ λ ne. absurd (ne refl) | j ↦ λ ne. (refl, refl) ] };
+  masked = refl;
+  hold = refl;
+}
 
 edges_less : (v : Bool) (n : ℕ) → cap_left (if v then cap.Back else cap.Copy (min n 32)) < 40
 edges_less true n = lit< tt
@@ -78,10 +101,24 @@ copy_moves : (v : Bool) (rest : ℕ) (c : Brain) (b : Bank)
       notes = [];
       over = false;
     })
-copy_moves true rest c b = record { moves = record { less = copy_less rest; more = λ e. copy_more (nat_le rest 1) rest; shut = λ e. cc; others = elim [ kind.Cap ↦ λ ne. absurd (ne refl) | j ↦ λ ne. (refl, refl) ] }; masked = refl; hold = refl }
-copy_moves false rest c b = record { moves = record { less = omega arith; more = λ e. lit< tt; shut = λ e. cc; others = elim [ kind.Cap ↦ λ ne. absurd (ne refl) | j ↦ λ ne. (refl, refl) ] }; masked = refl; hold = refl }
+copy_moves true rest c b = record {
+  moves = record {
+    less = copy_less rest;
+    more = λ e. copy_more (nat_le rest 1) rest;
+    shut = λ e. cc;
+    others = elim [ kind.Cap ↦ λ ne. absurd (ne refl) | j ↦ λ ne. (refl, refl) ];
+  };
+  masked = refl;
+  hold = refl;
+}
+copy_moves false rest c b = record {
+  moves = record { less = omega arith; more = λ e. lit< tt; shut = λ e. cc; others = elim [ kind.Cap ↦ λ ne. absurd (ne refl) | j ↦ λ ne. (refl, refl) ] };
+  masked = refl;
+  hold = refl;
+}
 
-begin_moves : (c : Brain) (b : Bank) → PlainMoves kind.Cap 40 c b (goes_on (record c { burst = []; cap_at = after_edges (read_value b reg.CapState) }) (Reads reg.CapState))
+begin_moves : (c : Brain) (b : Bank)
+    → PlainMoves kind.Cap 40 c b (goes_on (record c { burst = []; cap_at = after_edges (read_value b reg.CapState) }) (Reads reg.CapState))
 begin_moves c b = record {
   moves = record {
     less = edges_less (read_value b reg.CapState == 0) (read_value b reg.CapState);
@@ -93,93 +130,147 @@ begin_moves c b = record {
   hold = refl;
 }
 
-either_moves : (v : Bool) (c : Brain) (b : Bank) → PlainMoves kind.Cap 40 c b (if v then opens c b else goes_on (record c { burst = []; cap_at = after_edges (read_value b reg.CapState) }) (Reads reg.CapState))
+either_moves : (v : Bool) (c : Brain) (b : Bank)
+    → PlainMoves kind.Cap 40 c b
+    (if v then opens c b else goes_on (record c { burst = []; cap_at = after_edges (read_value b reg.CapState) }) (Reads reg.CapState))
 either_moves true c b = opens_moves 40 c b (lit< tt)
 either_moves false c b = begin_moves c b
 
-pub cap_moves : (at : CapAt) (c : Brain) (b : Bank) → 0 < cap_left at → PlainMoves kind.Cap (cap_left at) c b (cap_step at c b)
+cap_moves : (at : CapAt) (c : Brain) (b : Bank) → 0 < cap_left at → PlainMoves kind.Cap (cap_left at) c b (cap_step at c b)
 cap_moves cap.Shut c b l = absurd (omega arith)
 cap_moves cap.Start c b l = either_moves c.paused c b
 cap_moves (cap.Copy rest) c b l = copy_moves (takes c.burst (next_edge c b)) rest c b
-cap_moves cap.Judge c b l = judge_moves (judged (inputs_of c.orders.settings) c.window c.burst) c b
+cap_moves cap.Judge c b l = judge_moves (judged c.window c.burst c.orders.settings.input (servo_of c.orders.settings)) c b
 cap_moves cap.Open c b l = opens_moves 2 c b (lit< tt)
-cap_moves (cap.Pause at) c b l = record { moves = record { less = lit< tt; more = λ e. lit< tt; shut = λ e. cc; others = elim [ kind.Cap ↦ λ ne. absurd (ne refl) | j ↦ λ ne. (refl, refl) ] }; masked = refl; hold = refl }
-cap_moves cap.Back c b l = record { moves = record { less = lit< tt; more = λ e. cc; shut = λ e. refl; others = elim [ kind.Cap ↦ λ ne. absurd (ne refl) | j ↦ λ ne. (refl, refl) ] }; masked = refl; hold = refl }
+cap_moves (cap.Pause at) c b l = record {
+  moves = record { less = lit< tt; more = λ e. lit< tt; shut = λ e. cc; others = elim [ kind.Cap ↦ λ ne. absurd (ne refl) | j ↦ λ ne. (refl, refl) ] };
+  masked = refl;
+  hold = refl;
+}
+cap_moves cap.Back c b l = record {
+  moves = record { less = lit< tt; more = λ e. cc; shut = λ e. refl; others = elim [ kind.Cap ↦ λ ne. absurd (ne refl) | j ↦ λ ne. (refl, refl) ] };
+  masked = refl;
+  hold = refl;
+}
 
 -- ---- TICK, which stands under the mask for at most two steps
 
-pub record TickMoves (left : ℕ) (c : Brain) (b : Bank) (s : Stepped) : Type 0 where
-  pub moves : Moves kind.Tick left c s
-  pub back : s.over ≡ true → (accessed b s.access).masked ≡ b.masked
-
--- what a step does to the mask and to the number of steps for which it can stand, where it stood for `before` more
-pub record MaskMoves (before : ℕ) (m m' : Bool) (hold : ℕ) : Type 0 where
-  pub some : m' ≡ true → 1 ≤ hold
-  pub most : m' ≡ true → hold ≤ 8
-  pub less : m ≡ true → m' ≡ true → hold < before
-
 number_moves : (v : Bool) (n : ℕ) (c : Brain) (b : Bank)
-    → TickMoves 3 c b (if v then record {
+    → Moves kind.Tick 3 c (if v then record {
       core = record c { tick_at = tick.Lower; control = after_tick c.control n (decide (view_of c.control) n 0) };
       access = Reads reg.TickState;
       notes = tick_notes b.time n 0 (ticked c n 0);
       over = false;
     } else goes_on (record c { tick_at = tick.Lower }) (Reads reg.TickState))
-number_moves true n c b = record { moves = record { less = lit< tt; more = λ e. lit< tt; shut = λ e. cc; others = elim [ kind.Tick ↦ λ ne. absurd (ne refl) | j ↦ λ ne. (refl, refl) ] }; back = λ e. cc }
-number_moves false n c b = record { moves = record { less = lit< tt; more = λ e. lit< tt; shut = λ e. cc; others = elim [ kind.Tick ↦ λ ne. absurd (ne refl) | j ↦ λ ne. (refl, refl) ] }; back = λ e. cc }
+number_moves true n c b = record {
+  less = lit< tt;
+  more = λ e. lit< tt;
+  shut = λ e. cc;
+  others = elim [ kind.Tick ↦ λ ne. absurd (ne refl) | j ↦ λ ne. (refl, refl) ];
+}
+number_moves false n c b = record {
+  less = lit< tt;
+  more = λ e. lit< tt;
+  shut = λ e. cc;
+  others = elim [ kind.Tick ↦ λ ne. absurd (ne refl) | j ↦ λ ne. (refl, refl) ];
+}
 
-pub tick_moves : (at : TickAt) (c : Brain) (b : Bank) → 0 < tick_left at → TickMoves (tick_left at) c b (tick_step at c b)
+tick_moves : (at : TickAt) (c : Brain) (b : Bank) → 0 < tick_left at → Moves kind.Tick (tick_left at) c (tick_step at c b)
 tick_moves tick.Shut c b l = absurd (omega arith)
-tick_moves tick.Raise c b l = record { moves = record { less = lit< tt; more = λ e. lit< tt; shut = λ e. cc; others = elim [ kind.Tick ↦ λ ne. absurd (ne refl) | j ↦ λ ne. (refl, refl) ] }; back = λ e. cc }
+tick_moves tick.Raise c b l = record {
+  less = lit< tt;
+  more = λ e. lit< tt;
+  shut = λ e. cc;
+  others = elim [ kind.Tick ↦ λ ne. absurd (ne refl) | j ↦ λ ne. (refl, refl) ];
+}
 tick_moves tick.Read c b l = number_moves (nat_lt c.control.number (read_value b reg.TickState)) (read_value b reg.TickState) c b
-tick_moves tick.Lower c b l = record { moves = record { less = lit< tt; more = λ e. lit< tt; shut = λ e. cc; others = elim [ kind.Tick ↦ λ ne. absurd (ne refl) | j ↦ λ ne. (refl, refl) ] }; back = λ e. cc }
-tick_moves tick.Back c b l = record { moves = record { less = lit< tt; more = λ e. cc; shut = λ e. refl; others = elim [ kind.Tick ↦ λ ne. absurd (ne refl) | j ↦ λ ne. (refl, refl) ] }; back = λ e. refl }
-
-unmasked_moves : (before : ℕ) (m m' : Bool) (hold : ℕ) → m ≡ false → m' ≡ m → MaskMoves before m m' hold
-unmasked_moves before true m' hold e f = cc
-unmasked_moves before false true hold e f = cc
-unmasked_moves before false false hold e f = record { some = λ m. cc; most = λ m. cc; less = λ m m'. cc }
+tick_moves tick.Lower c b l = record {
+  less = lit< tt;
+  more = λ e. lit< tt;
+  shut = λ e. cc;
+  others = elim [ kind.Tick ↦ λ ne. absurd (ne refl) | j ↦ λ ne. (refl, refl) ];
+}
+tick_moves tick.Back c b l = record {
+  less = lit< tt;
+  more = λ e. cc;
+  shut = λ e. refl;
+  others = elim [ kind.Tick ↦ λ ne. absurd (ne refl) | j ↦ λ ne. (refl, refl) ];
+}
 
 -- ---- MAIN
 
 work_moves : (v saved : Bool) (c : Brain) (b : Bank)
     → PlainMoves kind.Main 2 c b (if v then saving_step saved (record c { main_at = main.Back }) b else goes_on (record c { main_at = main.Back }) NoAccess)
-work_moves true saved c b = record { moves = record { less = lit< tt; more = λ e. lit< tt; shut = λ e. cc; others = elim [ kind.Main ↦ λ ne. absurd (ne refl) | j ↦ λ ne. (refl, refl) ] }; masked = refl; hold = refl }
-work_moves false saved c b = record { moves = record { less = lit< tt; more = λ e. lit< tt; shut = λ e. cc; others = elim [ kind.Main ↦ λ ne. absurd (ne refl) | j ↦ λ ne. (refl, refl) ] }; masked = refl; hold = refl }
+work_moves true saved c b = record {
+  moves = record { less = lit< tt; more = λ e. lit< tt; shut = λ e. cc; others = elim [ kind.Main ↦ λ ne. absurd (ne refl) | j ↦ λ ne. (refl, refl) ] };
+  masked = refl;
+  hold = refl;
+}
+work_moves false saved c b = record {
+  moves = record { less = lit< tt; more = λ e. lit< tt; shut = λ e. cc; others = elim [ kind.Main ↦ λ ne. absurd (ne refl) | j ↦ λ ne. (refl, refl) ] };
+  masked = refl;
+  hold = refl;
+}
 
-pub main_moves : (at : MainAt) (saved : Bool) (c : Brain) (b : Bank) → 0 < main_left at → PlainMoves kind.Main (main_left at) c b (main_step saved at c b)
-main_moves main.Shut saved c b l = absurd (omega arith)
-main_moves main.Work saved c b l = work_moves c.orders.save_asked saved c b
-main_moves main.Back saved c b l = record { moves = record { less = lit< tt; more = λ e. cc; shut = λ e. refl; others = elim [ kind.Main ↦ λ ne. absurd (ne refl) | j ↦ λ ne. (refl, refl) ] }; masked = refl; hold = refl }
+main_moves : (at : MainAt) (answers : List Answer) (c : Brain) (b : Bank) → 0 < main_left at
+    → PlainMoves kind.Main (main_left at) c b (main_step answers at c b)
+main_moves main.Shut answers c b l = absurd (omega arith)
+main_moves main.Work answers c b l = work_moves c.orders.save_asked (took_first answers) c b
+main_moves main.Back answers c b l = record {
+  moves = record { less = lit< tt; more = λ e. cc; shut = λ e. refl; others = elim [ kind.Main ↦ λ ne. absurd (ne refl) | j ↦ λ ne. (refl, refl) ] };
+  masked = refl;
+  hold = refl;
+}
 
 -- ---- any kind
 
+-- What a step does to the mask, where the place before needed it for so many steps and it could stand for so many. It stands
+-- for 8 steps at most, long enough for the handler to lower it, and is down after a return; each step under it takes one.
+-- A place that stands under the mask is reached under it alone.
+pub record Masks (k : Kind) (need hold : ℕ) (b : Bank) (s : Stepped) : Type 0 where
+  pub most : s.core.hold ≤ 8
+  pub enough : (accessed b s.access).masked ≡ true → (need_of s.core k ≤ s.core.hold) × (s.over ≡ false)
+  pub less : b.masked ≡ true → (accessed b s.access).masked ≡ true → s.core.hold < hold
+  pub stands : (need ≤ 8 → b.masked ≡ true) → need_of s.core k ≤ 8 → ((accessed b s.access).masked ≡ true) × (s.over ≡ false)
+
 pub record Bounds (k : Kind) (c : Brain) (b : Bank) (s : Stepped) : Type 0 where
   pub moves : Moves k (left_of c k) c s
-  pub back : s.over ≡ true → (accessed b s.access).masked ≡ false
-  pub mask : MaskMoves c.hold b.masked (accessed b s.access).masked s.core.hold
+  pub mask : Masks k (need_of c k) c.hold b s
 
-pub core_step-stray : (k : Kind) (saved : Bool) (c : Brain) (b : Bank) → is_stray k c b ≡ true → core_step k saved c b ≡ stray_step k c
+pub core_step-stray : (k : Kind) (answers : List Answer) (c : Brain) (b : Bank) → is_stray k c b ≡ true → core_step k answers c b ≡ stray_step k c
 unfolding core_step
-core_step-stray k saved c b e = rw e refl
+core_step-stray k answers c b e = rw e refl
 
-pub core_step-goes : (k : Kind) (saved : Bool) (c : Brain) (b : Bank) → is_stray k c b ≡ false → core_step k saved c b ≡ kind_step k saved (counted_down c b) b
+pub core_step-goes : (k : Kind) (answers : List Answer) (c : Brain) (b : Bank) → is_stray k c b ≡ false
+    → core_step k answers c b ≡ kind_step k answers (counted_down c b) b
 unfolding core_step
-core_step-goes k saved c b e = rw e refl
+core_step-goes k answers c b e = rw e refl
 
 -- a stray step leaves the flash
-pub core_saves-stray : (k : Kind) (c : Brain) (b : Bank) → is_stray k c b ≡ true → core_saves k c b ≡ None
-unfolding core_saves
-core_saves-stray k c b e = rw e refl
+pub core_asked-stray : (k : Kind) (c : Brain) (b : Bank) (answers : List Answer) → is_stray k c b ≡ true → core_asked k c b answers ≡ []
+unfolding core_asked
+core_asked-stray k c b answers e = rw e refl
 
-pub core_saves-goes : (k : Kind) (c : Brain) (b : Bank) → is_stray k c b ≡ false → core_saves k c b ≡ kind_saves k c
-unfolding core_saves
-core_saves-goes k c b e = rw e refl
+pub core_asked-goes : (k : Kind) (c : Brain) (b : Bank) (answers : List Answer) → is_stray k c b ≡ false → core_asked k c b answers ≡ kind_asked k c answers
+unfolding core_asked
+core_asked-goes k c b answers e = rw e refl
 
--- counting a masked step leaves what is to be saved
-pub counted_saves : (k : Kind) (c : Brain) (b : Bank) → kind_saves k (counted_down c b) ≡ kind_saves k c
-counted_saves kind.Main c b = refl
-counted_saves k c b = refl
+-- counting a masked step leaves what is asked of the flash
+pub counted_asked : (k : Kind) (c : Brain) (b : Bank) (answers : List Answer) → kind_asked k (counted_down c b) answers ≡ kind_asked k c answers
+counted_asked kind.Main c b answers = refl
+counted_asked k c b answers = refl
+
+-- a step that asked for nothing left the flash
+pub none_asked : (answers : List Answer) (before after : Told) → DeviceDid [] answers before after → after ≡ before
+none_asked [] before after d = d
+none_asked (a ∷ answers) before after d = absurd d
+
+-- and one that asked for one call got one answer
+pub one_asked : (call : Call) (answers : List Answer) (before after : Told) → DeviceDid (call ∷ []) answers before after
+    → (a : Answer) × (answers ≡ a ∷ []) × CallDid call a before after
+one_asked call [] before after d = absurd d
+one_asked call (a ∷ []) before after d = (a, refl, subst (λ (x : Told). CallDid call a before x) (sym d.2) d.1)
+one_asked call (a ∷ x ∷ answers) before after d = absurd d.2
 
 shut_left : (k : Kind) (c : Brain) → left_of (shut c k) k ≡ 0
 shut_left kind.Main c = refl
@@ -208,11 +299,28 @@ shut_moves k c s e over l = record {
   others = λ j ne. rw e (shut_others k c j ne);
 }
 
-stray_bounds : (k : Kind) (c : Brain) (b : Bank) → 0 < left_of c k → Bounds k c b (stray_step k c)
-stray_bounds k c b l = record {
+-- each place needs the mask for a step at least
+pub need_some : (k : Kind) (c : Brain) → 1 ≤ need_of c k
+need_some kind.Tick c = tick_some c.tick_at
+  where
+    tick_some : (at : TickAt) → 1 ≤ tick_need at
+    tick_some tick.Shut = lit≤ tt
+    tick_some at = lit≤ tt
+need_some k c = lit≤ tt
+
+shut_need : (k : Kind) (c : Brain) → need_of (shut c k) k ≡ 9
+shut_need kind.Tick c = refl
+shut_need k c = refl
+
+stray_bounds : (k : Kind) (c : Brain) (b : Bank) → 0 < left_of c k → c.hold ≤ 8 → Bounds k c b (stray_step k c)
+stray_bounds k c b l le = record {
   moves = shut_moves k c (stray_step k c) refl refl l;
-  back = λ e. refl;
-  mask = record { some = λ m. cc; most = λ m. cc; less = λ m m'. cc };
+  mask = record {
+    most = rw (shut_hold k c) le;
+    enough = λ m. cc;
+    less = λ m m'. cc;
+    stands = λ f n. absurd (let nine = shut_need k c in omega arith);
+  };
 }
 
 -- where the mask is up and the step isn't a stray one, the place stands under the mask
@@ -220,9 +328,10 @@ may_stand : (m : Bool) (hold need : ℕ) → (m && nat_lt hold need) ≡ false �
 may_stand true hold need e f = grind (arith, nat_tests)
 may_stand false hold need e f = cc
 
-no_mask : (m : Bool) (hold : ℕ) → hold ≤ 8 → (m && nat_lt hold 9) ≡ false → m ≡ false
-no_mask true hold le e = let l : 9 ≤ hold = may_stand true hold 9 e refl in absurd (omega arith)
-no_mask false hold le e = refl
+-- a place that doesn't finds it down
+no_mask : (m : Bool) (hold need : ℕ) → need ≡ 9 → hold ≤ 8 → (m && nat_lt hold need) ≡ false → m ≡ false
+no_mask true hold need nine le e = absurd (let l : need ≤ hold = may_stand true hold need e refl in omega arith)
+no_mask false hold need nine le e = refl
 
 -- counting a masked step leaves the places
 counted_left : (j : Kind) (c : Brain) (b : Bank) → left_of (counted_down c b) j ≡ left_of c j
@@ -241,14 +350,6 @@ counted_moves k left c b s m = record {
   others = λ j ne. ((m.others j ne).0 ∙ counted_left j c b, (m.others j ne).1 ∙ counted_need j c b);
 }
 
--- a handler that leaves the mask
-plain_bounds : (k : Kind) (c : Brain) (b : Bank) (s : Stepped) → PlainMoves k (left_of c k) (counted_down c b) b s → b.masked ≡ false → Bounds k c b s
-plain_bounds k c b s p m = record {
-  moves = counted_moves k (left_of c k) c b s p.moves;
-  back = λ e. p.masked ∙ m;
-  mask = unmasked_moves c.hold b.masked (accessed b s.access).masked s.core.hold m p.masked;
-}
-
 -- the count after a masked step
 counted_less : (m : Bool) (h : ℕ) → m ≡ true → 0 < h → (if m then h - 1 else h) < h
 counted_less true h e l = omega arith
@@ -258,80 +359,99 @@ counted_some : (m : Bool) (h : ℕ) → (m ≡ true → 2 ≤ h) → m ≡ true 
 counted_some true h f e = let l = f refl in omega arith
 counted_some false h f e = cc
 
-pub counted_most : (m : Bool) (h : ℕ) → h ≤ 8 → (if m then h - 1 else h) ≤ 8
+counted_most : (m : Bool) (h : ℕ) → h ≤ 8 → (if m then h - 1 else h) ≤ 8
 counted_most true h l = omega arith
 counted_most false h l = l
 
-number_mask : (v : Bool) (n before : ℕ) (c : Brain) (b : Bank) → (b.masked ≡ true → 1 ≤ c.hold) → c.hold ≤ 8 → (b.masked ≡ true → c.hold < before)
-    → (s : Stepped) → s ≡ (if v then record {
-      core = record c { tick_at = tick.Lower; control = after_tick c.control n (decide (view_of c.control) n 0) };
-      access = Reads reg.TickState;
-      notes = tick_notes b.time n 0 (ticked c n 0);
-      over = false;
-    } else goes_on (record c { tick_at = tick.Lower }) (Reads reg.TickState))
-    → MaskMoves before b.masked (accessed b s.access).masked s.core.hold
-number_mask true n before c b some most less s e = rw e (record { some = some; most = λ m. most; less = λ m m'. less m })
-number_mask false n before c b some most less s e = rw e (record { some = some; most = λ m. most; less = λ m m'. less m })
-
-tick_mask : (at : TickAt) (c : Brain) (b : Bank) → 0 < tick_left at → c.hold ≤ 8 → (b.masked ≡ true → 0 < c.hold) → (b.masked && nat_lt c.hold (tick_need at)) ≡ false
-    → MaskMoves c.hold b.masked (accessed b (tick_step at (counted_down c b) b).access).masked (tick_step at (counted_down c b) b).core.hold
-tick_mask tick.Shut c b l le h e = absurd (omega arith)
-tick_mask tick.Raise c b l le h e = let down = no_mask b.masked c.hold le e in record { some = λ m. lit≤ tt; most = λ m. lit≤ tt; less = λ m m'. (let z = sym m ∙ down in cc) }
-tick_mask tick.Read c b l le h e =
-    number_mask (nat_lt c.control.number (read_value b reg.TickState)) (read_value b reg.TickState) c.hold (counted_down c b) b
-    (counted_some b.masked c.hold (may_stand b.masked c.hold 2 e)) (counted_most b.masked c.hold le) (λ m. counted_less b.masked c.hold m (h m)) _ refl
-tick_mask tick.Lower c b l le h e = record { some = λ m. cc; most = λ m. cc; less = λ m m'. cc }
-tick_mask tick.Back c b l le h e = unmasked_moves c.hold b.masked b.masked _ (no_mask b.masked c.hold le e) refl
-
-tick_down : (at : TickAt) (c : Brain) (b : Bank) → 0 < tick_left at → c.hold ≤ 8 → (b.masked && nat_lt c.hold (tick_need at)) ≡ false
-    → (tick_step at (counted_down c b) b).over ≡ true → b.masked ≡ false
-tick_down tick.Shut c b l le e o = absurd (omega arith)
-tick_down tick.Raise c b l le e o = cc
-tick_down tick.Read c b l le e o = no_return (nat_lt c.control.number (read_value b reg.TickState)) (read_value b reg.TickState) (counted_down c b) b o
-  where
-    no_return : (v : Bool) (n : ℕ) (c : Brain) (b : Bank) → (if v then record {
-      core = record c { tick_at = tick.Lower; control = after_tick c.control n (decide (view_of c.control) n 0) };
-      access = Reads reg.TickState;
-      notes = tick_notes b.time n 0 (ticked c n 0);
-      over = false;
-    } else goes_on (record c { tick_at = tick.Lower }) (Reads reg.TickState)).over ≡ true → b.masked ≡ false
-    no_return true n c b o = cc
-    no_return false n c b o = cc
-tick_down tick.Lower c b l le e o = cc
-tick_down tick.Back c b l le e o = no_mask b.masked c.hold le e
-
-tick_bounds : (c : Brain) (b : Bank) → 0 < tick_left c.tick_at → c.hold ≤ 8 → (b.masked ≡ true → 0 < c.hold) → (b.masked && nat_lt c.hold (tick_need c.tick_at)) ≡ false
-    → Bounds kind.Tick c b (tick_step c.tick_at (counted_down c b) b)
-tick_bounds c b l le h e =
-    let s : TickMoves (tick_left c.tick_at) (counted_down c b) b (tick_step c.tick_at (counted_down c b) b) = tick_moves c.tick_at (counted_down c b) b l in
+-- a handler that never stands under the mask, and leaves it
+plain_bounds : (k : Kind) (c : Brain) (b : Bank) (s : Stepped) → need_of c k ≡ 9 → need_of s.core k ≡ 9 → c.hold ≤ 8 → is_stray k c b ≡ false
+    → PlainMoves k (left_of c k) (counted_down c b) b s → Bounds k c b s
+plain_bounds k c b s nine still le e p =
+    let down = no_mask b.masked c.hold (need_of c k) nine le e in
     record {
-      moves = counted_moves kind.Tick (tick_left c.tick_at) c b (tick_step c.tick_at (counted_down c b) b) s.moves;
-      back = λ o. s.back o ∙ tick_down c.tick_at c b l le e o;
-      mask = tick_mask c.tick_at c b l le h e;
+      moves = counted_moves k (left_of c k) c b s p.moves;
+      mask = record {
+        most = rw p.hold (counted_most b.masked c.hold le);
+        enough = λ m. (let z : false ≡ true = sym down ∙ sym p.masked ∙ m in cc);
+        less = λ m m'. absurd (let z : false ≡ true = sym down ∙ m in cc);
+        stands = λ f n. absurd (let nine' = still in omega arith);
+      };
+    }
+
+number_masks : (v : Bool) (n : ℕ) (c : Brain) (b : Bank) → (b.masked ≡ true → 2 ≤ c.hold) → c.hold ≤ 8
+    → Masks kind.Tick 2 c.hold b (if v then record {
+      core = record (counted_down c b) { tick_at = tick.Lower; control = after_tick c.control n (decide (view_of c.control) n 0) };
+      access = Reads reg.TickState;
+      notes = tick_notes b.time n 0 (ticked (counted_down c b) n 0);
+      over = false;
+    } else goes_on (record (counted_down c b) { tick_at = tick.Lower }) (Reads reg.TickState))
+number_masks true n c b some le = record {
+  most = counted_most b.masked c.hold le;
+  enough = λ m. (counted_some b.masked c.hold some m, refl);
+  less = λ m m'. counted_less b.masked c.hold m (let two = some m in omega arith);
+  stands = λ f l. (f (lit≤ tt), refl);
+}
+number_masks false n c b some le = record {
+  most = counted_most b.masked c.hold le;
+  enough = λ m. (counted_some b.masked c.hold some m, refl);
+  less = λ m m'. counted_less b.masked c.hold m (let two = some m in omega arith);
+  stands = λ f l. (f (lit≤ tt), refl);
+}
+
+tick_masks : (at : TickAt) (c : Brain) (b : Bank) → 0 < tick_left at → c.hold ≤ 8 → (b.masked && nat_lt c.hold (tick_need at)) ≡ false
+    → Masks kind.Tick (tick_need at) c.hold b (tick_step at (counted_down c b) b)
+tick_masks tick.Shut c b l le e = absurd (omega arith)
+tick_masks tick.Raise c b l le e =
+    let down = no_mask b.masked c.hold 9 refl le e in
+    record { most = lit≤ tt; enough = λ m. (lit≤ tt, refl); less = λ m m'. absurd (let z : false ≡ true = sym down ∙ m in cc); stands = λ f n. (refl, refl) }
+tick_masks tick.Read c b l le e =
+    number_masks (nat_lt c.control.number (read_value b reg.TickState)) (read_value b reg.TickState) c b (may_stand b.masked c.hold 2 e) le
+tick_masks tick.Lower c b l le e =
+    record { most = counted_most b.masked c.hold le; enough = λ m. cc; less = λ m m'. cc; stands = λ f n. absurd (omega arith) }
+tick_masks tick.Back c b l le e =
+    let down = no_mask b.masked c.hold 9 refl le e in
+    record {
+      most = counted_most b.masked c.hold le;
+      enough = λ m. (let z : false ≡ true = sym down ∙ m in cc);
+      less = λ m m'. absurd (let z : false ≡ true = sym down ∙ m in cc);
+      stands = λ f n. absurd (omega arith);
     }
 
 -- a handler that isn't built
-pub bare_moves : (k : Kind) (c : Brain) (b : Bank) → 0 < left_of c k → PlainMoves k (left_of c k) (counted_down c b) b (goes_back (shut (counted_down c b) k))
+bare_moves : (k : Kind) (c : Brain) (b : Bank) → 0 < left_of c k → PlainMoves k (left_of c k) (counted_down c b) b (goes_back (shut (counted_down c b) k))
 bare_moves k c b l =
     let m = shut_moves k (counted_down c b) (goes_back (shut (counted_down c b) k)) refl refl (rw (counted_left k c b) l) in
-    record { moves = record { less = rw (← counted_left k c b) m.less; more = m.more; shut = m.shut; others = m.others }; masked = refl; hold = shut_hold k (counted_down c b) }
+    record {
+      moves = record { less = rw (← counted_left k c b) m.less; more = m.more; shut = m.shut; others = m.others };
+      masked = refl;
+      hold = shut_hold k (counted_down c b);
+    }
 
-goes_bounds : (k : Kind) (saved : Bool) (c : Brain) (b : Bank) → 0 < left_of c k → c.hold ≤ 8 → (b.masked ≡ true → 0 < c.hold) → is_stray k c b ≡ false → Bounds k c b (kind_step k saved (counted_down c b) b)
-goes_bounds kind.Tick saved c b l le h e = tick_bounds c b l le h e
-goes_bounds kind.Cap saved c b l le h e = plain_bounds kind.Cap c b _ (cap_moves c.cap_at (counted_down c b) b l) (no_mask b.masked c.hold le e)
-goes_bounds kind.Main saved c b l le h e = plain_bounds kind.Main c b _ (main_moves c.main_at saved (counted_down c b) b l) (no_mask b.masked c.hold le e)
-goes_bounds k saved c b l le h e = plain_bounds k c b _ (bare_moves k c b l) (no_mask b.masked c.hold le e)
+pub goes_bounds : (k : Kind) (answers : List Answer) (c : Brain) (b : Bank) → 0 < left_of c k → c.hold ≤ 8 → is_stray k c b ≡ false
+    → Bounds k c b (kind_step k answers (counted_down c b) b)
+goes_bounds kind.Tick answers c b l le e = record {
+  moves = counted_moves kind.Tick (tick_left c.tick_at) c b (tick_step c.tick_at (counted_down c b) b) (tick_moves c.tick_at (counted_down c b) b l);
+  mask = tick_masks c.tick_at c b l le e;
+}
+goes_bounds kind.Cap answers c b l le e =
+    plain_bounds kind.Cap c b (cap_step c.cap_at (counted_down c b) b) refl refl le e (cap_moves c.cap_at (counted_down c b) b l)
+goes_bounds kind.Main answers c b l le e =
+    plain_bounds kind.Main c b (main_step answers c.main_at (counted_down c b) b) refl refl le e (main_moves c.main_at answers (counted_down c b) b l)
+goes_bounds k answers c b l le e = plain_bounds k c b (goes_back (shut (counted_down c b) k)) refl refl le e (bare_moves k c b l)
 
 -- each step of the core, in every state
-pub bounds : (k : Kind) (saved : Bool) (c : Brain) (b : Bank) → 0 < left_of c k → c.hold ≤ 8 → (b.masked ≡ true → 0 < c.hold) → Bounds k c b (core_step k saved c b)
-bounds k saved c b l le h = elim (by_bool (is_stray k c b)) [
-  | inl s ↦ rw (core_step-stray k saved c b s) (stray_bounds k c b l)
-  | inr g ↦ rw (core_step-goes k saved c b g) (goes_bounds k saved c b l le h g)
+bounds : (k : Kind) (answers : List Answer) (c : Brain) (b : Bank) → 0 < left_of c k → c.hold ≤ 8 → Bounds k c b (core_step k answers c b)
+bounds k answers c b l le = elim (cases_Bool (is_stray k c b)) [
+  | inl s ↦ rw (core_step-stray k answers c b s) (stray_bounds k c b l le)
+  | inr g ↦ rw (core_step-goes k answers c b g) (goes_bounds k answers c b l le g)
 ]
-  where
-    by_bool : (v : Bool) → (v ≡ true) ⊎ (v ≡ false)
-    by_bool true = inl refl
-    by_bool false = inr refl
+
+-- the mask is down after a return
+pub mask_down : (k : Kind) (need hold : ℕ) (b : Bank) (s : Stepped) → Masks k need hold b s → s.over ≡ true → (accessed b s.access).masked ≡ false
+mask_down k need hold b s m o = elim (cases_Bool (accessed b s.access).masked) [
+  | inl up ↦ absurd (true≢false (sym o ∙ (m.enough up).1))
+  | inr down ↦ down
+]
 
 -- ---- the step as the firmware's trait asks for it
 
@@ -353,17 +473,18 @@ is_over : (did : Did) → IsReturn did → is_return did ≡ true
 is_over (More own) r = absurd r
 is_over (Return own) r = refl
 
-pub keeps : (k : Kind) (saved : Bool) (c : Brain) (b : Bank) (did : Did) (c' : Brain) (b' : Bank) → 0 < left_of c k → c.hold ≤ 8 → (b.masked ≡ true → 0 < c.hold)
-    → IsStepped b (core_step k saved c b) did c' b' → Keeps k c b did c' b'
-keeps k saved c b did c' b' l le h i =
-    let n = bounds k saved c b l le h in
+pub keeps : (k : Kind) (answers : List Answer) (c : Brain) (b : Bank) (did : Did) (c' : Brain) (b' : Bank) → 0 < left_of c k → c.hold ≤ 8
+    → IsStepped b (core_step k answers c b) did c' b' → Keeps k c b did c' b'
+keeps k answers c b did c' b' l le i =
+    let s : Stepped = core_step k answers c b in
+    let n : Bounds k c b s = bounds k answers c b l le in
     record {
       less = rw i.core_is n.moves.less;
       others = λ j ne. rw i.core_is (n.moves.others j ne).0;
       more = λ m. rw i.core_is (n.moves.more (sym i.over_is ∙ not_over did m));
-      back = λ r. rw i.bank_is (n.back (sym i.over_is ∙ is_over did r));
-      mask_some = rw (i.core_is, i.bank_is) n.mask.some;
-      mask_most = rw (i.core_is, i.bank_is) n.mask.most;
+      back = λ r. rw i.bank_is (mask_down k (need_of c k) c.hold b s n.mask (sym i.over_is ∙ is_over did r));
+      mask_some = rw (i.core_is, i.bank_is) (λ m. let e = (n.mask.enough m).0 in let some = need_some k s.core in omega arith);
+      mask_most = rw i.core_is (λ m. n.mask.most);
       mask_less = rw (i.core_is, i.bank_is) n.mask.less;
-      access = record { access = (core_step k saved c b).access; after_is = i.bank_is };
+      access = record { access = s.access; after_is = i.bank_is };
     }

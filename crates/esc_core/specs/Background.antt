@@ -1,5 +1,5 @@
 -- The steps of MAIN: where a save is asked for it saves, and then it returns.
-use Rattle.std.specs.Prelude.{ℕ, Bool, true, false, if◌then◌else◌, List, [], ◌∷◌, Option, Some, None}
+use Rattle.std.specs.Prelude.{ℕ, Bool, true, false, if◌then◌else◌, List, [], ◌∷◌}
 use Rattle.esc_base.specs.declared.note.Note.TheVariants as note
 use Rattle.esc_base.specs.Numbers.{as_tick}
 use Rattle.timer_regs.specs.Bank.{Bank}
@@ -10,6 +10,7 @@ use Rattle.esc_core.specs.declared.state.MainAt.TheVariants as main
 use Rattle.esc_core.specs.declared.orders.Orders.{Orders}
 use Rattle.esc_core.specs.Brain.{Brain}
 use Rattle.esc_core.specs.Stepped.{Stepped, goes_on, goes_back}
+use Rattle.esc_core.specs.Calls.{Call, Saves, Answer, took_first}
 
 -- the result of a save in a P
 abbrev pub result_of : Bool → ℕ
@@ -31,13 +32,12 @@ work_step saved c b =
     if c.orders.save_asked then saving_step saved (record c { main_at = main.Back }) b
     else goes_on (record c { main_at = main.Back }) NoAccess
 
-abbrev pub main_step : Bool → MainAt → Brain → Bank → Stepped
-main_step saved main.Work c b = work_step saved c b
-main_step saved main.Back c b = goes_back (record c { main_at = main.Shut })
-main_step saved main.Shut c b = goes_back (record c { main_at = main.Shut })
+abbrev pub main_step : List Answer → MainAt → Brain → Bank → Stepped
+main_step answers main.Work c b = work_step (took_first answers) c b
+main_step answers main.Back c b = goes_back (record c { main_at = main.Shut })
+main_step answers main.Shut c b = goes_back (record c { main_at = main.Shut })
 
--- the block that a step of MAIN hands to the flash: that of the settings as they stand then
-abbrev pub main_saves : MainAt → Orders → Option (List ℕ)
-main_saves main.Work o = if o.save_asked then Some (block_of o.settings) else None
-main_saves main.Back o = None
-main_saves main.Shut o = None
+-- the calls of a step of MAIN: it saves the settings as they stand then
+abbrev pub main_asked : MainAt → Orders → List Answer → List Call
+main_asked main.Work o answers = if o.save_asked then Saves (block_of o.settings) ∷ [] else []
+main_asked at o answers = []

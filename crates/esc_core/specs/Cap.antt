@@ -6,7 +6,7 @@ use Rattle.esc_base.specs.declared.signal.Edge.{Edge}
 use Rattle.esc_base.specs.declared.signal.Frame.{Frame}
 use Rattle.esc_base.specs.declared.note.Note.{Note}
 use Rattle.esc_base.specs.declared.note.Note.TheVariants as note
-use Rattle.esc_base.specs.Numbers.{mode_number, why_number}
+use Rattle.esc_base.specs.Numbers.{as_tick, bit_of, mode_number, why_number}
 use Rattle.edge_capture.specs.Edges.{last_at}
 use Rattle.timer_regs.specs.Bank.{Bank}
 use Rattle.timer_regs.specs.Effects.{read_value}
@@ -17,13 +17,13 @@ use Rattle.dshot_commands.specs.Act.{acting, number_of}
 use Rattle.arming.specs.Kept.{after_found, after_frame}
 use Rattle.esc_core.specs.declared.state.CapAt.{CapAt}
 use Rattle.esc_core.specs.declared.state.CapAt.TheVariants as cap
-use Rattle.esc_core.specs.declared.judge.Judgement.{Judgement}
-use Rattle.esc_core.specs.declared.judge.Judgement.TheVariants.{Good, Bad, Found, Nothing}
+use Rattle.input_detect.specs.declared.window.Judgement.{Judgement}
+use Rattle.input_detect.specs.declared.window.Judgement.TheVariants.{Good, Bad, Found, Nothing}
 use Rattle.esc_core.specs.Brain.{Brain}
-use Rattle.esc_core.specs.Judge.{inputs_of, judged}
+use Rattle.input_detect.specs.Judge.{judged}
+use Rattle.settings_block.specs.Settings.{servo_of}
 use Rattle.esc_core.specs.Orders.{obeyed_if}
 use Rattle.esc_core.specs.Stepped.{Stepped, goes_on, goes_back}
-
 
 -- the edge that a register shows
 abbrev pub edge_of : ℕ → Edge
@@ -49,7 +49,6 @@ opens c b = record {
 abbrev pub command_note : ℕ → Option Act → List Note
 command_note t None = []
 command_note t (Some act) = note.Command (as_tick t) (number_of act) ∷ []
-
 
 -- a pause of 600 ticks after a bad window, from the tick of its verdict
 abbrev pub pause_from : ℕ → ℕ
@@ -102,7 +101,7 @@ cap_step (cap.Copy rest) c b =
     then record c { burst = c.burst ++ next_edge c b ∷ []; cap_at = after_copy rest }
     else record c { cap_at = cap.Back })
     (Reads (reg.CapEdge (length c.burst)))
-cap_step cap.Judge c b = judge_step (judged (inputs_of c.orders.settings) c.window c.burst) c b
+cap_step cap.Judge c b = judge_step (judged c.window c.burst c.orders.settings.input (servo_of c.orders.settings)) c b
 cap_step cap.Open c b = opens c b
 cap_step (cap.Pause at) c b = goes_on (record c { cap_at = cap.Back; paused = true }) (Writes reg.CapAt at)
 cap_step cap.Back c b = goes_back (record c { cap_at = cap.Shut })

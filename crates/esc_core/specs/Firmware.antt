@@ -1,5 +1,5 @@
 -- An entry and a step of the core, whatever the kind.
-use Rattle.std.specs.Prelude.{ℕ, ◌+◌, ◌-◌, Bool, true, false, ◌&&◌, if◌then◌else◌, nat_lt, List, [], Option, None}
+use Rattle.std.specs.Prelude.{ℕ, ◌+◌, ◌-◌, Bool, true, false, ◌&&◌, if◌then◌else◌, nat_lt, List, []}
 use Rattle.esc_base.specs.declared.kind.Kind.{Kind}
 use Rattle.esc_base.specs.declared.kind.Kind.TheVariants as kind
 use Rattle.esc_base.specs.declared.signal.Mode.TheVariants.{Unknown}
@@ -21,7 +21,8 @@ use Rattle.esc_core.specs.Brain.{Brain}
 use Rattle.esc_core.specs.Stepped.{Stepped, goes_back}
 use Rattle.esc_core.specs.Cap.{cap_step}
 use Rattle.esc_core.specs.Tick.{tick_step}
-use Rattle.esc_core.specs.Background.{main_step, main_saves}
+use Rattle.esc_core.specs.Calls.{Call, Answer}
+use Rattle.esc_core.specs.Background.{main_step, main_asked}
 
 -- how many own steps are left from a place
 abbrev pub cap_left : CapAt → ℕ
@@ -60,20 +61,13 @@ left_of c kind.Comm = bare_left c.comm_at
 
 -- for how many steps the mask stands from a place on, with the one that lowers it; 9 where it never stands
 abbrev pub tick_need : TickAt → ℕ
-tick_need tick.Shut = 9
-tick_need tick.Raise = 9
 tick_need tick.Read = 2
 tick_need tick.Lower = 1
-tick_need tick.Back = 9
+tick_need at = 9
 
 abbrev pub need_of : Brain → Kind → ℕ
-need_of c kind.Main = 9
-need_of c kind.Uart = 9
 need_of c kind.Tick = tick_need c.tick_at
-need_of c kind.Cap = 9
-need_of c kind.Cmp = 9
-need_of c kind.Pwm = 9
-need_of c kind.Comm = 9
+need_of c k = 9
 
 abbrev pub shut : Brain → Kind → Brain
 shut c kind.Main = record c { main_at = main.Shut }
@@ -94,24 +88,16 @@ entered_core c kind.Pwm = record c { pwm_at = bare.Back }
 entered_core c kind.Comm = record c { comm_at = bare.Back }
 
 -- a handler that isn't built returns at once
-abbrev pub kind_step : Kind → Bool → Brain → Bank → Stepped
-kind_step kind.Tick saved c b = tick_step c.tick_at c b
-kind_step kind.Cap saved c b = cap_step c.cap_at c b
-kind_step kind.Main saved c b = main_step saved c.main_at c b
-kind_step kind.Uart saved c b = goes_back (shut c kind.Uart)
-kind_step kind.Cmp saved c b = goes_back (shut c kind.Cmp)
-kind_step kind.Pwm saved c b = goes_back (shut c kind.Pwm)
-kind_step kind.Comm saved c b = goes_back (shut c kind.Comm)
+abbrev pub kind_step : Kind → List Answer → Brain → Bank → Stepped
+kind_step kind.Tick answers c b = tick_step c.tick_at c b
+kind_step kind.Cap answers c b = cap_step c.cap_at c b
+kind_step kind.Main answers c b = main_step answers c.main_at c b
+kind_step k answers c b = goes_back (shut c k)
 
--- the block that a step hands to the flash, if it saves
-abbrev pub kind_saves : Kind → Brain → Option (List ℕ)
-kind_saves kind.Main c = main_saves c.main_at c.orders
-kind_saves kind.Uart c = None
-kind_saves kind.Tick c = None
-kind_saves kind.Cap c = None
-kind_saves kind.Cmp c = None
-kind_saves kind.Pwm c = None
-kind_saves kind.Comm c = None
+-- the calls of the flash that a step makes; those of most kinds make none
+abbrev pub kind_asked : Kind → Brain → List Answer → List Call
+kind_asked kind.Main c answers = main_asked c.main_at c.orders answers
+kind_asked k c answers = []
 
 -- the masked steps are counted
 abbrev pub counted_down : Brain → Bank → Brain
@@ -125,12 +111,12 @@ is_stray k c b = b.masked && nat_lt c.hold (need_of c k)
 abbrev pub stray_step : Kind → Brain → Stepped
 stray_step k c = record { core = shut c k; access = Writes reg.Mask 0; notes = []; over = true }
 
--- a step, where the flash took what it saves, or refused it
-unfoldable pub core_step : Kind → Bool → Brain → Bank → Stepped
-core_step k saved c b = if is_stray k c b then stray_step k c else kind_step k saved (counted_down c b) b
+-- a step, by what the flash answered to its calls
+unfoldable pub core_step : Kind → List Answer → Brain → Bank → Stepped
+core_step k answers c b = if is_stray k c b then stray_step k c else kind_step k answers (counted_down c b) b
 
-unfoldable pub core_saves : Kind → Brain → Bank → Option (List ℕ)
-core_saves k c b = if is_stray k c b then None else kind_saves k c
+unfoldable pub core_asked : Kind → Brain → Bank → List Answer → List Call
+core_asked k c b answers = if is_stray k c b then [] else kind_asked k c answers
 
 abbrev pub new_core : Settings → Brain
 new_core settings = record {

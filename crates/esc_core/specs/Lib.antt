@@ -1,9 +1,8 @@
 pub mod Orders
 pub mod Brain
-pub mod Judge
 pub mod Stepped
 pub mod Cap
 pub mod Tick
+pub mod Calls
 pub mod Background
-pub mod Saving
 pub mod Firmware

@@ -1,11 +1,11 @@
 //! MAIN: what waits while no interrupt is due.
-ghost use Rattle.std.specs.Prelude.{Some, All};
+ghost use Rattle.std.specs.Prelude.{[], ◌∷◌, All};
 ghost use Rattle.esc_base.specs.Flash.{told};
 ghost use Rattle.esc_base.specs.Range.{InRange};
 ghost use Rattle.interrupt_machine.specs.Did.{notes_of};
-ghost use Rattle.esc_core.specs.Background.{main_step, main_saves, saving_step};
+ghost use Rattle.esc_core.specs.Background.{main_step, main_asked, saving_step};
 ghost use Rattle.settings_block.specs.Block.{block_of};
-ghost use Rattle.esc_core.specs.Saving.{FlashDid, IsMade};
+ghost use Rattle.esc_core.specs.Calls.{Saves, answer_of, took_first, CallDid, IsMade};
 
 use crate::own::{no_note, one_note};
 use crate::{Core, MainAt};
@@ -17,7 +17,7 @@ use timer_regs::Regs;
 impl Core {
     /// MAIN decides in this step what it does, since commands may act between its entry and this step.
     pub(crate) fn main_step<D: FlashDev>(&mut self, regs: &Regs, dev: &mut D) -> Did
-        ensures made { IsMade (λ saved. main_step saved self.old.main_at self.old regs.now) (main_saves self.old.main_at self.old.orders) regs.now (told D.bytes D.faults dev.old) result self.new regs.now (told D.bytes D.faults dev.new) }
+        ensures made { IsMade (λ answers. main_step answers self.old.main_at self.old regs.now) (main_asked self.old.main_at self.old.orders) regs.now (told D.bytes D.faults dev.old) result self.new regs.now (told D.bytes D.faults dev.new) }
         ensures in_range { All InRange (notes_of result) }
     {
         match self.main_at {
@@ -38,7 +38,7 @@ impl Core {
 
     /// Saves the settings as they stand now. Where the flash fails, those in memory stay as they are.
     fn save_settings<D: FlashDev>(&mut self, regs: &Regs, dev: &mut D) -> Did
-        ensures made { IsMade (λ saved. saving_step saved self.old regs.now) (Some (block_of self.old.orders.settings)) regs.now (told D.bytes D.faults dev.old) result self.new regs.now (told D.bytes D.faults dev.new) }
+        ensures made { IsMade (λ answers. saving_step (took_first answers) self.old regs.now) (λ answers. Saves (block_of self.old.orders.settings) ∷ []) regs.now (told D.bytes D.faults dev.old) result self.new regs.now (told D.bytes D.faults dev.new) }
         ensures in_range { All InRange (notes_of result) }
     {
         self.orders.save_asked = false;
@@ -52,7 +52,7 @@ impl Core {
 
 /// Whether the flash takes the settings' block.
 fn takes_block<D: FlashDev>(dev: &mut D, settings: &Settings) -> bool
-    ensures { FlashDid (Some (block_of settings.now)) result (told D.bytes D.faults dev.old) (told D.bytes D.faults dev.new) }
+    ensures { CallDid (Saves (block_of settings.now)) (answer_of result) (told D.bytes D.faults dev.old) (told D.bytes D.faults dev.new) }
 {
     match save(settings, dev) {
         Ok(()) => true,

@@ -4,16 +4,17 @@ ghost use Rattle.esc_base.specs.Range.{InRange};
 ghost use Rattle.timer_regs.specs.Bank.{Bank};
 ghost use Rattle.interrupt_machine.specs.Did.{notes_of};
 ghost use Rattle.edge_capture.specs.Edges.{last_at};
+ghost use Rattle.input_detect.specs.Judge.{IsJudged};
 ghost use Rattle.esc_core.specs.Stepped.{IsStepped};
-ghost use Rattle.esc_core.specs.Judge.{IsJudged};
 ghost use Rattle.esc_core.specs.Cap.{cap_step, judge_step, opens, edge_of, takes, after_copy};
 
-use crate::judge::judge;
 use crate::own::{no_note, note_and, one_note};
-use crate::{CapAt, Core, Judgement};
+use crate::{CapAt, Core};
 use edge_capture::{Burst, Edge};
 use esc_base::{Frame, Note, Tick};
+use input_detect::{Judgement, judge};
 use interrupt_machine::Did;
+use settings_block::servo_of;
 use timer_regs::{Reg, Regs};
 
 /// Ticks from the verdict on a bad window to the opening of the next one.
@@ -101,7 +102,13 @@ impl Core {
         ensures in_range { All InRange (notes_of result) }
     {
         let t = regs.now();
-        match judge(&self.orders.settings, self.window, &self.burst) {
+        let settings = &self.orders.settings;
+        match judge(
+            self.window,
+            &self.burst,
+            settings.input,
+            &servo_of(settings),
+        ) {
             Judgement::Good(frame) => self.accept(frame, t),
             Judgement::Found(mode) => {
                 self.control.found(mode);

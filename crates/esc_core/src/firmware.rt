@@ -3,8 +3,8 @@ ghost use Rattle.std.specs.Prelude.{◌≡◌, ◌<◌, ◌≤◌, ◌^◌, ◌-
 ghost use Rattle.esc_base.specs.Flash.{Told, told};
 ghost use Rattle.esc_base.specs.Range.{InRange};
 ghost use Rattle.interrupt_machine.specs.Did.{notes_of};
-ghost use Rattle.esc_core.specs.Saving.{IsMade};
-ghost use Rattle.esc_core.specs.Firmware.{core_step, entered_core, left_of, need_of, is_stray, counted_down, shut, kind_step, kind_saves, core_saves, new_core};
+ghost use Rattle.esc_core.specs.Calls.{IsMade};
+ghost use Rattle.esc_core.specs.Firmware.{core_step, entered_core, left_of, need_of, is_stray, counted_down, shut, kind_step, kind_asked, core_asked, new_core};
 
 use crate::own::no_note;
 use crate::{BareAt, CapAt, Core, MainAt, Orders, TickAt};
@@ -66,7 +66,7 @@ impl Core {
 
     fn kind_step<D: FlashDev>(&mut self, kind: Kind, regs: &mut Regs, dev: &mut D) -> Did
         requires count { regs.old.accesses < 2 ^ 63 }
-        ensures made { IsMade (λ saved. kind_step kind saved self.old regs.old) (kind_saves kind self.old) regs.old (told D.bytes D.faults dev.old) result self.new regs.new (told D.bytes D.faults dev.new) }
+        ensures made { IsMade (λ answers. kind_step kind answers self.old regs.old) (kind_asked kind self.old) regs.old (told D.bytes D.faults dev.old) result self.new regs.new (told D.bytes D.faults dev.new) }
         ensures in_range { All InRange (notes_of result) }
     {
         match kind {
@@ -96,7 +96,7 @@ impl Core {
 
     fn core_step<D: FlashDev>(&mut self, kind: Kind, regs: &mut Regs, dev: &mut D) -> Did
         requires count { regs.old.accesses < 2 ^ 63 }
-        ensures made { IsMade (λ saved. core_step kind saved self.old regs.old) (core_saves kind self.old regs.old) regs.old (told D.bytes D.faults dev.old) result self.new regs.new (told D.bytes D.faults dev.new) }
+        ensures made { IsMade (λ answers. core_step kind answers self.old regs.old) (core_asked kind self.old regs.old) regs.old (told D.bytes D.faults dev.old) result self.new regs.new (told D.bytes D.faults dev.new) }
         ensures in_range { All InRange (notes_of result) }
     {
         if self.is_stray(kind, regs) {
@@ -112,7 +112,7 @@ impl Core {
 impl Firmware for Core {
     ghost came = { λ c k d. d ≡ entered_core c k };
 
-    ghost made = { λ c b flash k did d a flash'. IsMade (λ saved. core_step k saved c b) (core_saves k c b) b flash did d a flash' };
+    ghost made = { λ c b flash k did d a flash'. IsMade (λ answers. core_step k answers c b) (core_asked k c b) b flash did d a flash' };
 
     ghost left = { left_of };
 

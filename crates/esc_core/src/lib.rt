@@ -4,7 +4,6 @@
 mod background;
 mod cap;
 mod firmware;
-mod judge;
 mod orders;
 mod own;
 mod state;
@@ -12,6 +11,5 @@ mod state;
 mod tests;
 mod tick;
 
-pub use judge::Judgement;
 pub use orders::Orders;
 pub use state::{BareAt, CapAt, Core, MainAt, TickAt};

@@ -1,5 +1,5 @@
 -- CAP's room.
-use Rattle.std.proofs.Common.{◌≡◌, ◌≤◌, ◌<◌, ◌+◌, ℕ, Bool, true, false, if◌then◌else◌, List, [], ◌∷◌, ◌++◌, length, Option, Some, None, refl, sym, ◌∙◌, ap, subst, arith, lit≤, ◌⊎◌, inl, inr}
+use Rattle.std.proofs.Common.{◌≡◌, ◌≤◌, ◌<◌, ◌+◌, ℕ, Bool, true, false, if◌then◌else◌, List, [], ◌∷◌, ◌++◌, length, Option, Some, None, refl, sym, ◌∙◌, ap, subst, arith, ◌⊎◌, inl, inr}
 use Rattle.esc_base.specs.declared.kind.Kind.{Kind}
 use Rattle.esc_base.specs.declared.kind.Kind.TheVariants as kind
 use Rattle.esc_base.specs.declared.signal.Frame.{Frame}
@@ -27,27 +27,30 @@ use Rattle.esc_core.specs.declared.state.CapAt.{CapAt}
 use Rattle.esc_core.specs.declared.state.CapAt.TheVariants as cap
 use Rattle.esc_core.specs.declared.state.MainAt.{MainAt}
 use Rattle.esc_core.specs.declared.state.MainAt.TheVariants as main
-use Rattle.esc_core.specs.declared.judge.Judgement.{Judgement}
-use Rattle.esc_core.specs.declared.judge.Judgement.TheVariants.{Good, Bad, Found, Nothing}
+use Rattle.input_detect.specs.declared.window.Judgement.{Judgement}
+use Rattle.input_detect.specs.declared.window.Judgement.TheVariants.{Good, Bad, Found, Nothing}
 use Rattle.esc_core.specs.declared.orders.Orders.{Orders}
-use Rattle.esc_core.specs.Judge.{Inputs, inputs_of, judged}
+use Rattle.input_detect.specs.Judge.{judged}
+use Rattle.servo_input.specs.declared.servo.Servo.{Servo}
+use Rattle.servo_input.specs.declared.servo.InputKind.{InputKind}
+use Rattle.settings_block.specs.declared.settings.Settings.{Settings}
+use Rattle.settings_block.specs.Settings.{servo_of}
 use Rattle.esc_core.specs.Orders.{obeyed_if}
 use Rattle.esc_core.specs.Stepped.{goes_on}
 use Rattle.esc_core.specs.Cap.{act_in, after_edges, after_copy, command_note, judge_step, next_edge, opens, takes, cap_step}
-use Rattle.esc_core.specs.Firmware.{cap_left, counted_down}
-use Rattle.esc_core.proofs.Bounds.{cap_moves}
+use Rattle.esc_core.specs.Firmware.{cap_left}
 use Rattle.esc_laws.specs.Place.{Signal, Listens, Judged, Rests}
 use Rattle.esc_laws.specs.Windowed.{verdict_note, Answers, AnswersAt, OpensAt}
 use Rattle.esc_laws.specs.Tied.{cap_view, IsClosing, IsCopying, IsJudged, SignalTied, WindowSound, MainTied}
 use Rattle.esc_laws.specs.World.{World, so_far, at_time, after_outside}
-use Rattle.esc_laws.specs.Rooms.{Ground, CapTie, StepKeeps}
+use Rattle.esc_laws.specs.Rooms.{Ground, cap_seen, CapTie, StepKeeps}
 use Rattle.esc_laws.proofs.Pushes.{All-later}
 use Rattle.esc_laws.proofs.Facts.{cap_shut}
-use Rattle.esc_laws.proofs.Saves.{inputs_kept, acting_named, obeyed_tied, orders_other}
+use Rattle.esc_laws.proofs.Saves.{input_kept, servo_kept, acting_named, obeyed_tied, orders_other}
 use Rattle.esc_laws.proofs.CapTies.{start_tied, copy_goes, copy_tied, good_tied, opens_tied, pause_tied, back_tied, back_done, back_may}
 use Rattle.esc_laws.proofs.Lines.{plain_follows, edge_now, edge_bank, edge_follows, edge_sound, line_changes, line_same}
 use Rattle.esc_laws.proofs.Dues.{cap_called, cap_entered, signal_follows, time_follows}
-use Rattle.esc_laws.proofs.Law.{HandlerLaw, mask_free}
+use Rattle.esc_laws.proofs.Law.{HandlerLaw}
 use Rattle.esc_laws.proofs.RoomSteps.{ground_noted, inside, popped, if_true, if_false}
 
 most_few : (m : Mode) (n : ℕ) → n ≤ most m → n ≤ 32
@@ -59,9 +62,11 @@ few b w = most_few b.window.mode (length b.window.edges) w.few
 
 -- ---- it reads the edges
 
-begins : (x : World) (outer : List Kind) (w m : ℕ) → Ground x → WindowSound x.bank.window x.bank.time → (so_far x).signal ≡ Listens w m → IsClosing (cap_view x.trace x.core x.bank (so_far x)) w m → (so_far x).stack ≡ kind.Cap ∷ outer
+begins : (x : World) (outer : List Kind) (w m : ℕ) → Ground x → WindowSound x.bank.window x.bank.time → (so_far x).signal ≡ Listens w m
+    → IsClosing (cap_seen x) w m → (so_far x).stack ≡ kind.Cap ∷ outer
     → StepKeeps kind.Cap outer x (goes_on (record x.core { burst = []; cap_at = after_edges (read_value x.bank reg.CapState) }) (Reads reg.CapState))
 begins x outer w m g sound e k on = record {
+  gate = λ word moved. absurd (moved refl refl);
   fits = tt;
   ground = g;
   tie = (start_tied x.trace x.core x.bank (so_far x) w m e (few x.bank sound) k, sound);
@@ -69,9 +74,14 @@ begins x outer w m g sound e k on = record {
   stack_is = on;
 }
 
-copies : (v : Bool) (x : World) (outer : List Kind) (w m left : ℕ) → v ≡ true → Ground x → WindowSound x.bank.window x.bank.time → (so_far x).signal ≡ Listens w m → IsCopying (cap_view x.trace x.core x.bank (so_far x)) w m left → (so_far x).stack ≡ kind.Cap ∷ outer
-    → StepKeeps kind.Cap outer x (goes_on (if v then record x.core { burst = x.core.burst ++ next_edge x.core x.bank ∷ []; cap_at = after_copy left } else record x.core { cap_at = cap.Back }) (Reads (reg.CapEdge (length x.core.burst))))
+copies : (v : Bool) (x : World) (outer : List Kind) (w m left : ℕ) → v ≡ true → Ground x → WindowSound x.bank.window x.bank.time
+    → (so_far x).signal ≡ Listens w m → IsCopying (cap_seen x) w m left → (so_far x).stack ≡ kind.Cap ∷ outer
+    → StepKeeps kind.Cap outer x (goes_on (
+    if v
+    then record x.core { burst = x.core.burst ++ next_edge x.core x.bank ∷ []; cap_at = after_copy left }
+    else record x.core { cap_at = cap.Back }) (Reads (reg.CapEdge (length x.core.burst))))
 copies true x outer w m left v g sound e k on = record {
+  gate = λ word moved. absurd (moved refl refl);
   fits = tt;
   ground = g;
   tie = (copy_tied x.trace x.core x.bank (so_far x) w m left e sound g.small k, sound);
@@ -83,18 +93,25 @@ copies false x outer w m left v g sound e k on = cc
 -- ---- it opens a window, or sets the timer
 
 open_window : (x : World) (outer : List Kind) (s : Signal) → Ground x → (so_far x).signal ≡ s → OpensAt s x.bank.time → x.bank.timer ≡ None
-    → ((so_far x).verdicts ≡ 1) ⊎ (((so_far x).verdicts ≡ 0) × ((so_far x).windows ≡ 0)) → (so_far x).stack ≡ kind.Cap ∷ outer → StepKeeps kind.Cap outer x (opens x.core x.bank)
+    → ((so_far x).verdicts ≡ 1) ⊎ (((so_far x).verdicts ≡ 0) × ((so_far x).windows ≡ 0)) → (so_far x).stack ≡ kind.Cap ∷ outer
+    → StepKeeps kind.Cap outer x (opens x.core x.bank)
 open_window x outer s g e may none done on = record {
-  fits = (record { at = refl; no_entry = refl; save = λ e. cc; window = (rw e may, g.control.ties.mode_is); nest = inside (so_far x).stack kind.Cap outer on }, tt);
+  gate = λ word moved. absurd (moved refl refl);
+  fits = (record { at = refl; owned = refl; window = (rw e may, g.control.ties.mode_is); nest = inside (so_far x).stack kind.Cap outer on }, tt);
   ground = ground_noted x (note.Window (as_tick x.bank.time) (mode_number x.core.control.mode)) refl refl tt refl g;
-  tie = (opens_tied x.trace x.core x.bank (so_far x) g.edges none done, record { past = λ k d l. absurd (omega arith); order = λ a b le l. absurd (omega arith); few = omega arith });
+  tie = (
+    opens_tied x.trace x.core x.bank (so_far x) g.edges none done,
+    record { past = λ k d l. absurd (omega arith); order = λ a b le l. absurd (omega arith); few = omega arith },
+  );
   others = elim [ kind.Cap ↦ λ ne t. absurd (ne refl) | j ↦ λ ne t. t ];
   stack_is = on;
 }
 
-pauses : (x : World) (outer : List Kind) (f at : ℕ) (opens_next : Bool) → Ground x → WindowSound x.bank.window x.bank.time → (so_far x).signal ≡ Judged f opens_next → IsJudged (cap_view x.trace x.core x.bank (so_far x)) → opens_next ≡ false → at ≡ f + 600
+pauses : (x : World) (outer : List Kind) (f at : ℕ) (opens_next : Bool) → Ground x → WindowSound x.bank.window x.bank.time
+    → (so_far x).signal ≡ Judged f opens_next → IsJudged (cap_seen x) → opens_next ≡ false → at ≡ f + 600
     → (so_far x).stack ≡ kind.Cap ∷ outer → StepKeeps kind.Cap outer x (cap_step (cap.Pause at) x.core x.bank)
 pauses x outer f at opens_next g sound e k shut is on = record {
+  gate = λ word moved. absurd (moved refl refl);
   fits = tt;
   ground = g;
   tie = (pause_tied x.trace x.core x.bank (so_far x) f at opens_next e k shut is, sound);
@@ -104,16 +121,19 @@ pauses x outer f at opens_next g sound e k shut is on = record {
 
 -- ---- it judges
 
-answers_is : (x : World) (w m : ℕ) → Ground x → IsClosing (cap_view x.trace x.core x.bank (so_far x)) w m → x.core.burst ≡ x.bank.window.edges
-    → Answers x.loaded x.trace w m (so_far x).cap_entered x.bank.time (verdict_note x.bank.time (judged (inputs_of x.core.orders.settings) x.core.window x.core.burst))
+answers_is : (x : World) (w m : ℕ) → Ground x → IsClosing (cap_seen x) w m → x.core.burst ≡ x.bank.window.edges
+    → Answers x.loaded x.trace w m (so_far x).cap_entered x.bank.time (verdict_note x.bank.time (judged x.core.window x.core.burst x.core.orders.settings.input (servo_of x.core.orders.settings)))
 answers_is x w m g i e =
-    let inputs : inputs_of x.core.orders.settings ≡ inputs_of x.loaded.settings = ap inputs_of g.orders.settings_are ∙ inputs_kept x.loaded.settings x.back in
+    let allowed : x.core.orders.settings.input ≡ x.loaded.settings.input = ap (λ (s : Settings). s.input) g.orders.settings_are ∙ input_kept x.loaded.settings x.back in
+    let servo : servo_of x.core.orders.settings ≡ servo_of x.loaded.settings = ap servo_of g.orders.settings_are ∙ servo_kept x.loaded.settings x.back in
     record {
       closed_at = i.closed_at;
       closes = i.closes;
       waits = i.waits;
       entered_before = i.entered;
-      verdict_is = ap (λ (n : Inputs). verdict_note x.bank.time (judged n x.core.window x.core.burst)) inputs ∙ rw (i.hears.core_mode, e, i.hears.edges) refl;
+      verdict_is = ap (λ (a : InputKind). verdict_note x.bank.time (judged x.core.window x.core.burst a (servo_of x.core.orders.settings))) allowed
+          ∙ ap (λ (s : Servo). verdict_note x.bank.time (judged x.core.window x.core.burst x.loaded.settings.input s)) servo
+          ∙ rw (i.hears.core_mode, e, i.hears.edges) refl;
     }
 
 -- an act keeps a save asked for
@@ -131,14 +151,28 @@ still_asked main.Work o a saves m = (obeyed_save o a m.0, m.1)
     obeyed_save o (Some (Extended is_on)) e = e
     obeyed_save o (Some (Spin side)) e = e
 
-good : (o : Option Act) (x : World) (outer : List Kind) (frame : Frame) (w m : ℕ) → Ground x → WindowSound x.bank.window x.bank.time → IsClosing (cap_view x.trace x.core x.bank (so_far x)) w m
-    → AnswersAt x.loaded x.trace (so_far x).signal (so_far x).cap_entered x.bank.time (verdict_note x.bank.time (Good frame)) → (so_far x).stack ≡ kind.Cap ∷ outer
+good : (o : Option Act) (x : World) (outer : List Kind) (frame : Frame) (w m : ℕ) → Ground x → WindowSound x.bank.window x.bank.time
+    → IsClosing (cap_seen x) w m
+    → AnswersAt x.loaded x.trace (so_far x).signal (so_far x).cap_entered x.bank.time (verdict_note x.bank.time (Good frame))
+    → (so_far x).stack ≡ kind.Cap ∷ outer
     → ((act : Act) → o ≡ Some act → act_of (number_of act) ≡ Some act)
     → Stands (after_frame x.core.control frame.value) (with_frame (as_tick x.bank.time) frame.value (bit_of frame.telemetry) o x.back)
-    → StepKeeps kind.Cap outer x (record { core = record x.core { cap_at = cap.Open; control = after_frame x.core.control frame.value; orders = obeyed_if x.core.orders o }; access = NoAccess; notes = note.Good (as_tick x.bank.time) frame.value (bit_of frame.telemetry) ∷ command_note x.bank.time o; over = false })
+    → StepKeeps kind.Cap outer x (record {
+      core = record x.core { cap_at = cap.Open; control = after_frame x.core.control frame.value; orders = obeyed_if x.core.orders o };
+      access = NoAccess;
+      notes = note.Good (as_tick x.bank.time) frame.value (bit_of frame.telemetry) ∷ command_note x.bank.time o;
+      over = false;
+    })
 good None x outer frame w m g sound k answers on named st = record {
-  fits = (record { at = refl; no_entry = refl; save = λ e. cc; window = answers; nest = inside (so_far x).stack kind.Cap outer on }, tt);
-  ground = record { control = st; orders = orders_other x.loaded x.core.orders (note.Good (as_tick x.bank.time) frame.value (bit_of frame.telemetry)) x.back refl g.orders; level = g.level; edges = g.edges; small = g.small };
+  gate = λ word moved. absurd (moved refl refl);
+  fits = (record { at = refl; owned = refl; window = answers; nest = inside (so_far x).stack kind.Cap outer on }, tt);
+  ground = record {
+    control = st;
+    orders = orders_other x.loaded x.core.orders (note.Good (as_tick x.bank.time) frame.value (bit_of frame.telemetry)) x.back refl g.orders;
+    level = g.level;
+    edges = g.edges;
+    small = g.small;
+  };
   tie = (good_tied None frame x.trace x.core x.bank (so_far x) w m k, sound);
   others = elim [ kind.Cap ↦ λ ne t. absurd (ne refl) | j ↦ λ ne t. t ];
   stack_is = on;
@@ -147,50 +181,81 @@ good (Some act) x outer frame w m g sound k answers on named st =
     let n : Note = note.Good (as_tick x.bank.time) frame.value (bit_of frame.telemetry) in
     let here = inside (so_far x).stack kind.Cap outer on in
     record {
-      fits = (record { at = refl; no_entry = refl; save = λ e. cc; window = answers; nest = here }, (record { at = refl; no_entry = refl; save = λ e. cc; window = tt; nest = here }, tt));
-      ground = record { control = st; orders = obeyed_tied x.loaded x.core.orders act (as_tick x.bank.time) (n ∷ x.back) (named act refl) (orders_other x.loaded x.core.orders n x.back refl g.orders); level = g.level; edges = g.edges; small = g.small };
+      gate = λ word moved. absurd (moved refl refl);
+      fits = (record { at = refl; owned = refl; window = answers; nest = here }, (record { at = refl; owned = refl; window = tt; nest = here }, tt));
+      ground = record {
+        control = st;
+        orders = obeyed_tied x.loaded x.core.orders act (as_tick x.bank.time) (n ∷ x.back) (named act refl)
+            (orders_other x.loaded x.core.orders n x.back refl g.orders);
+        level = g.level;
+        edges = g.edges;
+        small = g.small;
+      };
       tie = (good_tied (Some act) frame x.trace x.core x.bank (so_far x) w m k, sound);
-      others = elim [ kind.Cap ↦ λ ne t. absurd (ne refl) | kind.Main ↦ λ ne t. still_asked x.core.main_at x.core.orders (Some act) (so_far x).saves t | j ↦ λ ne t. t ];
+      others = elim [
+        | kind.Cap ↦ λ ne t. absurd (ne refl)
+        | kind.Main ↦ λ ne t. still_asked x.core.main_at x.core.orders (Some act) (so_far x).saves t
+        | j ↦ λ ne t. t
+      ];
       stack_is = on;
     }
 
-judges : (j : Judgement) (x : World) (outer : List Kind) (w m : ℕ) → Ground x → WindowSound x.bank.window x.bank.time → IsClosing (cap_view x.trace x.core x.bank (so_far x)) w m
-    → AnswersAt x.loaded x.trace (so_far x).signal (so_far x).cap_entered x.bank.time (verdict_note x.bank.time j) → (so_far x).stack ≡ kind.Cap ∷ outer → StepKeeps kind.Cap outer x (judge_step j x.core x.bank)
+judges : (j : Judgement) (x : World) (outer : List Kind) (w m : ℕ) → Ground x → WindowSound x.bank.window x.bank.time
+    → IsClosing (cap_seen x) w m
+    → AnswersAt x.loaded x.trace (so_far x).signal (so_far x).cap_entered x.bank.time (verdict_note x.bank.time j) → (so_far x).stack ≡ kind.Cap ∷ outer
+    → StepKeeps kind.Cap outer x (judge_step j x.core x.bank)
 judges (Good frame) x outer w m g sound k answers on =
-    good (act_in x.core frame) x outer frame w m g sound k answers on (λ act e. acting_named (after_frame x.core.control frame.value).run.frames frame.value act e)
+    good (act_in x.core frame) x outer frame w m g sound k answers on
+    (λ act e. acting_named (after_frame x.core.control frame.value).run.frames frame.value act e)
     (frame_stands x.core.control x.back (as_tick x.bank.time) frame.value (bit_of frame.telemetry) g.control)
 judges (Bad why) x outer w m g sound k answers on = record {
-  fits = (record { at = refl; no_entry = refl; save = λ e. cc; window = answers; nest = inside (so_far x).stack kind.Cap outer on }, tt);
+  gate = λ word moved. absurd (moved refl refl);
+  fits = (record { at = refl; owned = refl; window = answers; nest = inside (so_far x).stack kind.Cap outer on }, tt);
   ground = ground_noted x (note.Bad (as_tick x.bank.time) (why_number why)) refl refl tt refl g;
-  tie = ((record { verdict = ap (λ (n : ℕ). n + 1) k.no_verdict; taken = k.taken; running = k.hears.running; no_timer = k.hears.no_timer }, (refl, refl)), sound);
+  tie = (
+    (record { verdict = ap (λ (n : ℕ). n + 1) k.no_verdict; taken = k.taken; running = k.hears.running; no_timer = k.hears.no_timer }, (refl, refl)),
+    sound,
+  );
   others = elim [ kind.Cap ↦ λ ne t. absurd (ne refl) | j ↦ λ ne t. t ];
   stack_is = on;
 }
 judges (Found mode) x outer w m g sound k answers on = record {
-  fits = (record { at = refl; no_entry = refl; save = λ e. cc; window = answers; nest = inside (so_far x).stack kind.Cap outer on }, tt);
-  ground = record { control = found_stands x.core.control x.back (as_tick x.bank.time) mode g.control; orders = orders_other x.loaded x.core.orders (note.Detected (as_tick x.bank.time) (mode_number mode)) x.back refl g.orders; level = g.level; edges = g.edges; small = g.small };
+  gate = λ word moved. absurd (moved refl refl);
+  fits = (record { at = refl; owned = refl; window = answers; nest = inside (so_far x).stack kind.Cap outer on }, tt);
+  ground = record {
+    control = found_stands x.core.control x.back (as_tick x.bank.time) mode g.control;
+    orders = orders_other x.loaded x.core.orders (note.Detected (as_tick x.bank.time) (mode_number mode)) x.back refl g.orders;
+    level = g.level;
+    edges = g.edges;
+    small = g.small;
+  };
   tie = ((record { verdict = ap (λ (n : ℕ). n + 1) k.no_verdict; taken = k.taken; running = k.hears.running; no_timer = k.hears.no_timer }, refl), sound);
   others = elim [ kind.Cap ↦ λ ne t. absurd (ne refl) | j ↦ λ ne t. t ];
   stack_is = on;
 }
 judges Nothing x outer w m g sound k answers on = record {
-  fits = (record { at = refl; no_entry = refl; save = λ e. cc; window = answers; nest = inside (so_far x).stack kind.Cap outer on }, tt);
+  gate = λ word moved. absurd (moved refl refl);
+  fits = (record { at = refl; owned = refl; window = answers; nest = inside (so_far x).stack kind.Cap outer on }, tt);
   ground = ground_noted x (note.Nothing (as_tick x.bank.time)) refl refl tt refl g;
-  tie = ((record { verdict = ap (λ (n : ℕ). n + 1) k.no_verdict; taken = k.taken; running = k.hears.running; no_timer = k.hears.no_timer }, (refl, refl)), sound);
+  tie = (
+    (record { verdict = ap (λ (n : ℕ). n + 1) k.no_verdict; taken = k.taken; running = k.hears.running; no_timer = k.hears.no_timer }, (refl, refl)),
+    sound,
+  );
   others = elim [ kind.Cap ↦ λ ne t. absurd (ne refl) | j ↦ λ ne t. t ];
   stack_is = on;
 }
 
 -- ---- it returns
 
-returns : (x : World) (outer : List Kind) → Ground x → SignalTied (so_far x).signal cap.Back (cap_view x.trace x.core x.bank (so_far x)) → WindowSound x.bank.window x.bank.time → (so_far x).stack ≡ kind.Cap ∷ outer
+returns : (x : World) (outer : List Kind) → Ground x → SignalTied (so_far x).signal cap.Back (cap_seen x)
+    → WindowSound x.bank.window x.bank.time → (so_far x).stack ≡ kind.Cap ∷ outer
     → StepKeeps kind.Cap outer x (cap_step cap.Back x.core x.bank)
 returns x outer g tied sound on = record {
+  gate = λ word moved. absurd (moved refl refl);
   fits = (
     record {
       at = refl;
-      no_entry = refl;
-      save = λ e. cc;
+      owned = refl;
       window = λ e. back_may x.trace x.core x.bank (so_far x) (so_far x).signal tied;
       nest = (inside (so_far x).stack kind.Cap outer on, back_done x.trace x.core x.bank (so_far x) (so_far x).signal tied);
     },
@@ -204,55 +269,67 @@ returns x outer g tied sound on = record {
 
 -- ---- all its steps
 
-answered : (x : World) (s : Signal) (w m t : ℕ) (n : Note) → s ≡ Listens w m → Answers x.loaded x.trace w m (so_far x).cap_entered t n → AnswersAt x.loaded x.trace s (so_far x).cap_entered t n
+answered : (x : World) (s : Signal) (w m t : ℕ) (n : Note) → s ≡ Listens w m → Answers x.loaded x.trace w m (so_far x).cap_entered t n
+    → AnswersAt x.loaded x.trace s (so_far x).cap_entered t n
 answered x s w m t n e a = rw e a
 
-steps : (s : Signal) (at : CapAt) (x : World) (outer : List Kind) → Ground x → WindowSound x.bank.window x.bank.time → (so_far x).signal ≡ s → SignalTied s at (cap_view x.trace x.core x.bank (so_far x)) → (so_far x).stack ≡ kind.Cap ∷ outer → 0 < cap_left at
+steps : (s : Signal) (at : CapAt) (x : World) (outer : List Kind) → Ground x → WindowSound x.bank.window x.bank.time → (so_far x).signal ≡ s
+    → SignalTied s at (cap_seen x) → (so_far x).stack ≡ kind.Cap ∷ outer → 0 < cap_left at
     → StepKeeps kind.Cap outer x (cap_step at x.core x.bank)
 steps s cap.Shut x outer g sound e k on left = absurd (omega arith)
-steps s cap.Back x outer g sound e k on left = returns x outer g (subst (λ (r : Signal). SignalTied r cap.Back (cap_view x.trace x.core x.bank (so_far x))) (sym e) k) sound on
+steps s cap.Back x outer g sound e k on left =
+    returns x outer g (subst (λ (r : Signal). SignalTied r cap.Back (cap_seen x)) (sym e) k) sound on
 steps (Listens w m) cap.Start x outer g sound e k on left = if_false x.core.paused kind.Cap outer x _ _ k.hears.running (begins x outer w m g sound e k on)
 steps (Listens w m) (cap.Copy rest) x outer g sound e k on left =
-    copies (takes x.core.burst (next_edge x.core x.bank)) x outer w m rest (copy_goes x.trace x.core x.bank (so_far x) w m rest (few x.bank sound) sound g.small k) g sound e k on
+    copies (takes x.core.burst (next_edge x.core x.bank)) x outer w m rest
+    (copy_goes x.trace x.core x.bank (so_far x) w m rest (few x.bank sound) sound g.small k) g sound e k on
 steps (Listens w m) cap.Judge x outer g sound e k on left =
-    judges (judged (inputs_of x.core.orders.settings) x.core.window x.core.burst) x outer w m g sound k.0
+    judges (judged x.core.window x.core.burst x.core.orders.settings.input (servo_of x.core.orders.settings)) x outer w m g sound k.0
     (answered x (so_far x).signal w m x.bank.time _ e (answers_is x w m g k.0 k.1)) on
 steps (Judged f opens_next) cap.Open x outer g sound e k on left = open_window x outer (Judged f opens_next) g e k.1 k.0.no_timer (inl k.0.verdict) on
 steps (Judged f opens_next) (cap.Pause at) x outer g sound e k on left = pauses x outer f at opens_next g sound e k.0 k.1.0 k.1.1 on
-steps (Rests f r) cap.Start x outer g sound e k on left = if_true x.core.paused kind.Cap outer x _ _ k.paused (open_window x outer (Rests f r) g e k.reached k.no_timer (inr (k.no_verdict, k.no_window)) on)
+steps (Rests f r) cap.Start x outer g sound e k on left =
+    if_true x.core.paused kind.Cap outer x _ _ k.paused (open_window x outer (Rests f r) g e k.reached k.no_timer (inr (k.no_verdict, k.no_window)) on)
 steps s at x outer g sound e k on left = absurd k
 
 -- ---- it is called and entered
 
-shut_tie : (w : World) → CapTie w → cap_left w.core.cap_at ≡ 0 → SignalTied (so_far w).signal cap.Shut (cap_view w.trace w.core w.bank (so_far w))
-shut_tie w t none = subst (λ (at : CapAt). SignalTied (so_far w).signal at (cap_view w.trace w.core w.bank (so_far w))) (cap_shut w.core.cap_at none) t.0
+shut_tie : (w : World) → CapTie w → cap_left w.core.cap_at ≡ 0 → SignalTied (so_far w).signal cap.Shut (cap_seen w)
+shut_tie w t none = subst (λ (at : CapAt). SignalTied (so_far w).signal at (cap_seen w)) (cap_shut w.core.cap_at none) t.0
 
 -- ---- time goes on, and events come
 
 later : (w : World) (u : ℕ) → w.bank.time ≤ u → CapTie w → CapTie (at_time w u)
 later w u from t = (
-  signal_follows (so_far w).signal w.core.cap_at (cap_view w.trace w.core w.bank (so_far w)) (cap_view w.trace w.core (at_time w u).bank (so_far w)) (time_follows (cap_view w.trace w.core w.bank (so_far w)) u from) t.0,
+  signal_follows (so_far w).signal w.core.cap_at (cap_seen w) (cap_view w.trace w.core (at_time w u).bank (so_far w))
+      (time_follows (cap_seen w) u from) t.0,
   record { past = All-later (λ e. e.t.0) w.bank.window.edges w.bank.time u from t.1.past; order = t.1.order; few = t.1.few },
 )
 
 plain : (w : World) (e : Event) → line (w.trace ++ e ∷ []) ≡ line w.trace → w.bank.time ≤ tick_of e → CapTie w → CapTie (record w { trace = w.trace ++ e ∷ [] })
 plain w e same le t = (
-  signal_follows (so_far w).signal w.core.cap_at (cap_view w.trace w.core w.bank (so_far w)) (cap_view (w.trace ++ e ∷ []) w.core w.bank (so_far w)) (plain_follows w.trace e w.core w.bank (so_far w) same le) t.0,
+  signal_follows (so_far w).signal w.core.cap_at (cap_seen w) (cap_view (w.trace ++ e ∷ []) w.core w.bank (so_far w))
+      (plain_follows w.trace e w.core w.bank (so_far w) same le) t.0,
   t.1,
 )
 
 edge : (v : Bool) (w : World) (level : Bool) → differ w.bank.level level ≡ v → Ground w → CapTie w
     → CapTie (record w { trace = w.trace ++ event.Edge (as_tick w.bank.time) level ∷ []; bank = record w.bank { level = (if v then edge_bank w.bank level else w.bank).level; window = (if v then edge_bank w.bank level else w.bank).window } })
 edge true w level d g t = (
-  signal_follows (so_far w).signal w.core.cap_at (cap_view w.trace w.core w.bank (so_far w)) (cap_view (w.trace ++ event.Edge (as_tick w.bank.time) level ∷ []) w.core (edge_bank w.bank level) (so_far w))
-      (edge_follows w.trace w.core w.bank (so_far w) level (ap (λ (l : Line). l.edges) (line_changes w.trace w.bank level (subst (λ (l : Bool). differ l level ≡ true) g.level d)))) t.0,
+  signal_follows (so_far w).signal w.core.cap_at (cap_seen w)
+      (cap_view (w.trace ++ event.Edge (as_tick w.bank.time) level ∷ []) w.core (edge_bank w.bank level) (so_far w))
+      (edge_follows w.trace w.core w.bank (so_far w) level
+      (ap (λ (l : Line). l.edges) (line_changes w.trace w.bank level (subst (λ (l : Bool). differ l level ≡ true) g.level d)))) t.0,
   edge_sound w.bank.window (edge_now w.bank level) t.1,
 )
-edge false w level d g t = plain w (event.Edge (as_tick w.bank.time) level) (line_same w.trace w.bank level (subst (λ (l : Bool). differ l level ≡ false) g.level d)) (omega arith) t
+edge false w level d g t =
+    plain w (event.Edge (as_tick w.bank.time) level) (line_same w.trace w.bank level (subst (λ (l : Bool). differ l level ≡ false) g.level d)) (omega arith) t
 
 outside : (w : World) (e : Event) → tick_of e ≡ w.bank.time → Ground w → CapTie w → CapTie (after_outside w e)
 outside w (event.Edge at level) is g t =
-    subst (λ (n : ℕ). CapTie (record w { trace = w.trace ++ event.Edge (as_tick n) level ∷ []; bank = record w.bank { level = (after_line w.bank level).level; window = (after_line w.bank level).window } })) (sym is)
+    subst
+    (λ (n : ℕ). CapTie (record w { trace = w.trace ++ event.Edge (as_tick n) level ∷ []; bank = record w.bank { level = (after_line w.bank level).level; window = (after_line w.bank level).window } }))
+    (sym is)
     (edge (differ w.bank.level level) w level refl g t)
 outside w (event.Comp at level) is g t = plain w (event.Comp at level) (line-push w.trace (event.Comp at level)) (omega arith) t
 outside w (event.Serial at byte) is g t = plain w (event.Serial at byte) (line-push w.trace (event.Serial at byte)) (omega arith) t
@@ -261,11 +338,10 @@ outside w (event.Stall at n) is g t = plain w (event.Stall at n) (line-push w.tr
 pub cap_law : HandlerLaw kind.Cap
 cap_law = record {
   called = λ w g t none s. cap_called w.core.orders.save_asked (so_far w).signal w.trace w.core w.bank (so_far w) (shut_tie w (t kind.Cap) none) s;
+  built = λ w t due. tt;
   entered = λ w g t none due. (cap_entered w.core.orders.save_asked (so_far w).signal w.trace w.core w.bank (so_far w) refl (shut_tie w (t kind.Cap) none) due, (t kind.Cap).1);
   beside = λ w. elim [ kind.Cap ↦ λ ne t. absurd (ne refl) | j ↦ λ ne t. t ];
-  steps = λ w saved outer g t above on left. steps (so_far w).signal w.core.cap_at w outer g (t kind.Cap).1 refl (t kind.Cap).0 on left;
-  need = λ c. lit≤ tt;
-  mask = λ saved c b outer keeps left. mask_free kind.Cap (cap_left c.cap_at) c b outer _ refl refl keeps (cap_moves c.cap_at (counted_down c b) b left);
+  steps = λ w answers outer g t above on left. steps (so_far w).signal w.core.cap_at w outer g (t kind.Cap).1 refl (t kind.Cap).0 on left;
   later = λ w u from small g t. later w u from (t kind.Cap);
   outside = λ w e at g t. outside w e at g (t kind.Cap);
 }

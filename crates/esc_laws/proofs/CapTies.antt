@@ -21,8 +21,8 @@ use Rattle.esc_base.specs.declared.signal.Frame.{Frame}
 use Rattle.dshot_commands.specs.declared.act.Act.{Act}
 use Rattle.arming.specs.Kept.{after_frame}
 use Rattle.esc_core.specs.declared.state.CapAt.TheVariants as cap
-use Rattle.esc_core.specs.declared.judge.Judgement.{Judgement}
-use Rattle.esc_core.specs.declared.judge.Judgement.TheVariants.{Good, Bad, Found, Nothing}
+use Rattle.input_detect.specs.declared.window.Judgement.{Judgement}
+use Rattle.input_detect.specs.declared.window.Judgement.TheVariants.{Good, Bad, Found, Nothing}
 use Rattle.esc_core.specs.Brain.{Brain}
 use Rattle.esc_core.specs.Orders.{obeyed_if}
 use Rattle.esc_core.specs.Stepped.{Stepped, goes_on}

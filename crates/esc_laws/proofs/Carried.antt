@@ -14,6 +14,7 @@ use Rattle.settings_block.specs.declared.stored.Loaded.{Loaded}
 use Rattle.timer_regs.specs.Bank.{Bank}
 use Rattle.timer_regs.specs.Effects.{advanced, after_entry, is_due}
 use Rattle.timer_regs.specs.NextDue.{IsNextDue, becomes_due}
+use Rattle.timer_regs.proofs.Advance.{advanced-now}
 use Rattle.interrupt_machine.specs.declared.nest.Nest.{Nest}
 use Rattle.interrupt_machine.specs.declared.firmware.Did.{Did}
 use Rattle.interrupt_machine.specs.Open.{due_now, highest, is_idle, is_open, next_entry}
@@ -22,11 +23,12 @@ use Rattle.interrupt_machine.proofs.Waiting.{highest_none}
 use Rattle.arming.proofs.InOrder.{each_front, in_order}
 use Rattle.arming.specs.Controlled.{Controlled, FitsControl}
 use Rattle.esc_core.specs.Brain.{Brain}
+use Rattle.esc_core.specs.Calls.{Answer}
 use Rattle.esc_core.specs.Firmware.{new_core, entered_core, core_step}
 use Rattle.esc_core.specs.Stepped.{IsStepped}
 use Rattle.esc_core.proofs.Bounds.{core_step-goes}
 use Rattle.esc_laws.specs.Seen.{sees}
-use Rattle.esc_laws.specs.Steps.{Turned, opening, journal, notes_in, open_in, past_stall, free, after, steps_since, entered_at, EachStep, StepFits, Awaits, Below}
+use Rattle.esc_laws.specs.Steps.{Turned, opening, journal, notes_in, open_in, past_stall, free, after, steps_since, entered_at, EachStep, StepFits, Awaits, Below, OpenFew}
 use Rattle.esc_laws.specs.Windowed.{WindowRule, Windowed}
 use Rattle.esc_laws.specs.Nested.{NestRule, NestedAfter}
 use Rattle.esc_laws.specs.Tied.{Keeps}
@@ -50,25 +52,32 @@ start_logged loaded nest cost = logged_start loaded nest cost
 
 -- ---- a step
 
-entry_told : (loaded : Loaded) (nest : Nest) (cost : ℕ) (trace : List Event) (c c' : Brain) (b b' : Bank) (stack stack' : List Kind) (log : List Turned) (notes : List Note) (k : Kind)
+entry_told : (loaded : Loaded) (nest : Nest) (cost : ℕ) (trace : List Event) (c c' : Brain) (b b' : Bank) (stack stack' : List Kind) (log : List Turned)
+    (notes : List Note) (k : Kind)
     → c' ≡ entered_core c k → b' ≡ after_entry b k → stack' ≡ k ∷ stack → notes ≡ enters k b.time ∷ []
-    → Logged loaded nest cost trace (b.time + cost) (entered_core c k) (after_entry b k) (k ∷ stack) (log ++ record { tick = b.time; kind = k; enters = true; notes = enters k b.time ∷ [] } ∷ [])
+    → Logged loaded nest cost trace (b.time + cost) (entered_core c k) (after_entry b k) (k ∷ stack)
+    (log ++ record { tick = b.time; kind = k; enters = true; notes = enters k b.time ∷ [] } ∷ [])
     → Logged loaded nest cost trace (b.time + cost) c' b' stack' (log ++ record { tick = b.time; kind = k; enters = true; notes = notes } ∷ [])
 entry_told loaded nest cost trace c c' b b' stack stack' log notes k e f g h l = rw (e, f, g, h) l
 
-own_told : (loaded : Loaded) (nest : Nest) (cost : ℕ) (trace : List Event) (c c' : Brain) (b b' : Bank) (stack stack' : List Kind) (log : List Turned) (notes : List Note) (k : Kind) (outer : List Kind) (did : Did) (saved : Bool) → 1 ≤ cost
-    → Logged loaded nest cost trace b.time c b stack log → (b.masked ≡ false → next_entry nest stack (due_now c.orders.save_asked b) ≡ None) → stack ≡ k ∷ outer → IsStepped b (core_step k saved c b) did c' b'
+own_told : (loaded : Loaded) (nest : Nest) (cost : ℕ) (trace : List Event) (c c' : Brain) (b b' : Bank) (stack stack' : List Kind) (log : List Turned)
+    (notes : List Note) (k : Kind) (outer : List Kind) (did : Did) (answers : List Answer)
+    → 1 ≤ cost
+    → Logged loaded nest cost trace b.time c b stack log → (b.masked ≡ false → next_entry nest stack (due_now c.orders.save_asked b) ≡ None)
+    → stack ≡ k ∷ outer → IsStepped b (core_step k answers c b) did c' b'
     → stack' ≡ open_after k outer did → notes ≡ own_notes b.hi b.lo b' k did
     → Logged loaded nest cost trace (b.time + cost) c' b' stack' (log ++ record { tick = b.time; kind = k; enters = false; notes = notes } ∷ [])
-own_told loaded nest cost trace c c' b b' stack stack' log notes k outer did saved some l none same stepped open_is notes_are =
+own_told loaded nest cost trace c c' b b' stack stack' log notes k outer did answers some l none same stepped open_is notes_are =
     let l' : Logged loaded nest cost trace b.time c b (k ∷ outer) log = subst (λ (st : List Kind). Logged loaded nest cost trace b.time c b st log) same l in
-    let none' : b.masked ≡ false → next_entry nest (k ∷ outer) (due_now c.orders.save_asked b) ≡ None = subst (λ (st : List Kind). b.masked ≡ false → next_entry nest st (due_now c.orders.save_asked b) ≡ None) same none in
-    let i : IsStepped b (stepped_by k saved c b) did c' b' = rw (core_step-goes k saved c b (steady k c b (k ∷ outer) l'.keeps refl)) at stepped in
-    let told = notes_are ∙ own_are k b b' (stepped_by k saved c b) did c' i in
-    let left = open_is ∙ left_is k outer did (stepped_by k saved c b).over i.over_is in
-    rw (i.core_is, i.bank_is, left, told) (own_turn loaded nest cost trace c b outer log k saved some l' none')
+    let none' : b.masked ≡ false → next_entry nest (k ∷ outer) (due_now c.orders.save_asked b) ≡ None =
+    subst (λ (st : List Kind). b.masked ≡ false → next_entry nest st (due_now c.orders.save_asked b) ≡ None) same none in
+    let i : IsStepped b (stepped_by k answers c b) did c' b' = rw (core_step-goes k answers c b (steady k c b (k ∷ outer) l'.keeps refl)) at stepped in
+    let told = notes_are ∙ own_are k b b' (stepped_by k answers c b) did c' i in
+    let left = open_is ∙ left_is k outer did (stepped_by k answers c b).over i.over_is in
+    rw (i.core_is, i.bank_is, left, told) (own_turn loaded nest cost trace c b outer log k answers some l' none')
 
-pub turn_logged : (loaded : Loaded) (nest : Nest) (cost : ℕ) (trace : List Event) (c c' : Brain) (b b' : Bank) (flash flash' : Told) (stack stack' : List Kind) (log : List Turned) (notes : List Note)
+pub turn_logged : (loaded : Loaded) (nest : Nest) (cost : ℕ) (trace : List Event) (c c' : Brain) (b b' : Bank) (flash flash' : Told)
+    (stack stack' : List Kind) (log : List Turned) (notes : List Note)
     → 1 ≤ cost → b.time + cost < 2147483648 → Logged loaded nest cost trace b.time c b stack log → is_idle stack (due_now c.orders.save_asked b) ≡ false
     → (t : CoreTurn nest c stack b flash notes c' stack' b' flash')
     → Logged loaded nest cost trace (b.time + cost) c' b' stack' (log ++ turned b.time notes t ∷ [])
@@ -76,11 +85,13 @@ turn_logged loaded nest cost trace c c' b b' flash flash' stack stack' log notes
     entry_told loaded nest cost trace c c' b b' stack stack' log notes e.0 e.1.entered e.1.regs_are e.1.stack_is e.1.notes_are
     (entry_turn loaded nest cost trace c b stack log e.0 some l e.1.unmasked e.1.chosen)
 turn_logged loaded nest cost trace c c' b b' flash flash' stack stack' log notes some small l busy (inr e) =
-    own_told loaded nest cost trace c c' b b' stack stack' log notes e.0 e.1 e.2 e.3.stepped.saved some l e.3.none_enters e.3.innermost_is e.3.stepped.stepped e.3.stack_is e.3.notes_are
+    own_told loaded nest cost trace c c' b b' stack stack' log notes e.0 e.1 e.2 e.3.stepped.answers some l e.3.none_enters e.3.innermost_is
+    e.3.stepped.stepped e.3.stack_is e.3.notes_are
 
 -- ---- time
 
-pub time_logged : (loaded : Loaded) (nest : Nest) (cost : ℕ) (trace : List Event) (next : ℕ) (c : Brain) (b : Bank) (stack : List Kind) (log : List Turned) (t : ℕ)
+pub time_logged : (loaded : Loaded) (nest : Nest) (cost : ℕ) (trace : List Event) (next : ℕ) (c : Brain) (b : Bank) (stack : List Kind) (log : List Turned)
+    (t : ℕ)
     → b.time ≤ t → t ≤ next → t < 2147483648 → Logged loaded nest cost trace next c b stack log → Logged loaded nest cost trace next c (advanced b t) stack log
 time_logged loaded nest cost trace next c b stack log t later le small l = record {
   keeps = keeps_later c b stack t l.keeps;
@@ -110,7 +121,8 @@ none_open [] due idle = (refl, none_of (highest due) idle)
 none_open (k ∷ outer) due idle = cc
 
 -- time makes a kind due by the registers alone
-due_by_regs : (w : Bool) (b : Bank) (u : ℕ) (k : Kind) → due_now w b k ≡ false → (is_due b k ≡ false → is_due (advanced b u) k ≡ false) → due_now w (advanced b u) k ≡ false
+due_by_regs : (w : Bool) (b : Bank) (u : ℕ) (k : Kind) → due_now w b k ≡ false → (is_due b k ≡ false → is_due (advanced b u) k ≡ false)
+    → due_now w (advanced b u) k ≡ false
 due_by_regs w b u kind.Main e f = e
 due_by_regs w b u k e f = f e
 
@@ -118,29 +130,38 @@ stays_shut : (x y : Bool) → x ≡ false → (not x && y) ≡ false → y ≡ f
 stays_shut true y e f = cc
 stays_shut false y e f = f
 
-none_before : (due : Option ℕ) (b : Bank) (k : Kind) (t u : ℕ) → IsNextDue b due → ((d : ℕ) → due ≡ Some d → t ≤ d) → b.time < u → u < t → becomes_due b k u ≡ false
+none_before : (due : Option ℕ) (b : Bank) (k : Kind) (t u : ℕ) → IsNextDue b due → ((d : ℕ) → due ≡ Some d → t ≤ d) → b.time < u → u < t
+    → becomes_due b k u ≡ false
 none_before None b k t u is le from below = is k u from
 none_before (Some d) b k t u is le from below = is.none_before k u from (let m = le d refl in omega arith)
 
 -- while nothing is due nothing is seen due
-none_seen : (loaded : Loaded) (nest : Nest) (trace : List Event) (c : Brain) (b : Bank) (log : List Turned) (due : Option ℕ) (t u : ℕ) (k : Kind) → Keeps c b [] → Ground (world loaded nest trace c b log) → ((j : Kind) → Tie j (world loaded nest trace c b log))
-    → highest (due_now c.orders.save_asked b) ≡ None → IsNextDue b due → ((d : ℕ) → due ≡ Some d → t ≤ d) → b.time ≤ u → u < t → t < 2147483648 → sees trace (journal loaded log) u k ≡ false
+none_seen : (loaded : Loaded) (nest : Nest) (trace : List Event) (c : Brain) (b : Bank) (log : List Turned) (due : Option ℕ) (t u : ℕ) (k : Kind)
+    → Keeps c b [] → Ground (world loaded nest trace c b log) → ((j : Kind) → Tie j (world loaded nest trace c b log))
+    → highest (due_now c.orders.save_asked b) ≡ None → IsNextDue b due → ((d : ℕ) → due ≡ Some d → t ≤ d) → b.time ≤ u → u < t → t < 2147483648
+    → sees trace (journal loaded log) u k ≡ false
 none_seen loaded nest trace c b log due t u k keeps g ties none is le from below small = by_seen (sees trace (journal loaded log) u k) refl
   where
     shut_now : due_now c.orders.save_asked (advanced b u) k ≡ false
     shut_now = elim (cases_lt b.time u) [
-      | inl later ↦ due_by_regs c.orders.save_asked b u k (highest_none (due_now c.orders.save_asked b) k none) (λ e. stays_shut (is_due b k) (is_due (advanced b u) k) e (none_before due b k t u is le later below))
-      | inr not_later ↦ (let same : b.time ≡ u = omega arith in rw (sym same) (highest_none (due_now c.orders.save_asked b) k none))
+      | inl later ↦ due_by_regs c.orders.save_asked b u k (highest_none (due_now c.orders.save_asked b) k none)
+          (λ e. stays_shut (is_due b k) (is_due (advanced b u) k) e (none_before due b k t u is le later below))
+      | inr not_later ↦ (let same : b.time ≡ u = omega arith in subst (λ (v : ℕ). due_now c.orders.save_asked (advanced b v) k ≡ false) same
+          (subst (λ (x : Bank). due_now c.orders.save_asked x k ≡ false) (advanced-now b) (highest_none (due_now c.orders.save_asked b) k none)))
     ]
 
     by_seen : (v : Bool) → sees trace (journal loaded log) u k ≡ v → sees trace (journal loaded log) u k ≡ false
     by_seen true e =
-        let d = sees_due loaded nest trace c (advanced b u) [] log (keeps_later c b [] u keeps) (later_ground (world loaded nest trace c b log) u from (omega arith) g) (λ j. (law j).later (world loaded nest trace c b log) u from (omega arith) g ties) k (rw e refl) in
+        let d =
+        sees_due loaded nest trace c (advanced b u) [] log (keeps_later c b [] u keeps)
+        (later_ground (world loaded nest trace c b log) u from (omega arith) g)
+        (λ j. (law j).later (world loaded nest trace c b log) u from (omega arith) g ties) k (rw e refl) in
         absurd (let z : true ≡ false = sym d ∙ shut_now in cc)
     by_seen false e = e
 
 -- nothing is due, and nothing becomes due before t
-pub jump_logged : (loaded : Loaded) (nest : Nest) (cost : ℕ) (trace : List Event) (c : Brain) (b : Bank) (stack : List Kind) (log : List Turned) (due : Option ℕ) (t : ℕ)
+pub jump_logged : (loaded : Loaded) (nest : Nest) (cost : ℕ) (trace : List Event) (c : Brain) (b : Bank) (stack : List Kind) (log : List Turned)
+    (due : Option ℕ) (t : ℕ)
     → is_idle stack (due_now c.orders.save_asked b) ≡ true → IsNextDue b due → b.time ≤ t → t < 2147483648 → ((d : ℕ) → due ≡ Some d → t ≤ d)
     → Logged loaded nest cost trace b.time c b stack log → Logged loaded nest cost trace t c (advanced b t) stack log
 jump_logged loaded nest cost trace c b stack log due t idle is later small le l =
@@ -175,7 +196,8 @@ jump_logged loaded nest cost trace c b stack log due t idle is later small le l 
 -- ---- an event
 
 -- at now; all steps stand before it
-module _ (loaded : Loaded) (nest : Nest) (cost : ℕ) (trace : List Event) (e : Event) (next : ℕ) (c : Brain) (b : Bank) (stack : List Kind) (log : List Turned) (at : tick_of e ≡ b.time) (below : Below b.time log) (l : Logged loaded nest cost trace next c b stack log) where
+module _ (loaded : Loaded) (nest : Nest) (cost : ℕ) (trace : List Event) (e : Event) (next : ℕ) (c : Brain) (b : Bank) (stack : List Kind) (log : List Turned)
+    (at : tick_of e ≡ b.time) (below : Below b.time log) (l : Logged loaded nest cost trace next c b stack log) where
   next_is : stack ≢ [] → past_stall next e ≡ after cost (trace ++ e ∷ []) log
   next_is o = ap (λ (t : ℕ). past_stall t e) (l.at_next o) ∙ sym (after_grows cost trace e log)
 
@@ -192,7 +214,8 @@ module _ (loaded : Loaded) (nest : Nest) (cost : ℕ) (trace : List Event) (e : 
   awaits_grow = record {
     open_step = λ o. (let n = next_is (λ s. o (sym l.marks.stack_is ∙ s)) in omega arith);
     idle = λ o u from soon f k. elim (cases_lt u b.time) [
-      | inl early ↦ sees_before trace e (journal loaded log) u k (omega arith) ∙ l.awaits.idle o u (after_past u from) (let t = l.time in omega arith) (free_less trace e u f) k
+      | inl early ↦ sees_before trace e (journal loaded log) u k (omega arith)
+          ∙ l.awaits.idle o u (after_past u from) (let t = l.time in omega arith) (free_less trace e u f) k
       | inr late ↦ absurd (none_now u late soon from f)
     ];
   }
@@ -211,21 +234,33 @@ module _ (loaded : Loaded) (nest : Nest) (cost : ℕ) (trace : List Event) (e : 
         patient = patient_grows loaded nest trace e c b stack log at before l.patient;
         owes = l.owes;
         reached = λ k o. reached_grows cost trace e log (steps_since k log) (entered_at k log) (l.reached k o) (l.reached_by k o (tick_of e) before);
-        reached_by = λ k o t b. rw (uses_before cost trace e (steps_since k log) (entered_at k log) (l.reached_by k o (tick_of e) before)) (l.reached_by k o t b);
+        reached_by = λ k o t b.
+            rw (uses_before cost trace e (steps_since k log) (entered_at k log) (l.reached_by k o (tick_of e) before)) (l.reached_by k o t b);
         fits = fits_grow loaded nest cost trace e log before l.fits;
         past = rw (after_grows cost trace e log) (past_more e (after cost trace log) next l.past);
         awaits = awaits_grow;
         time = (let t = l.time in let s = event_time b e in omega arith);
         put_off = λ u from. none_now u (let s = event_time b e in omega arith);
-        stalls = All-push (λ x. stall_end x ≤ past_stall next e) trace e (All-later stall_end trace next (past_stall next e) later l.stalls) (past_ends e next (let t = l.time in omega arith));
+        stalls = All-push (λ x. stall_end x ≤ past_stall next e) trace e (All-later stall_end trace next (past_stall next e) later l.stalls)
+            (past_ends e next (let t = l.time in omega arith));
         at_next = next_is;
       }
 
 -- ---- what it says of the journal
 
+-- an open activation has steps left
+pub few_open : (loaded : Loaded) (nest : Nest) (cost : ℕ) (trace : List Event) (next : ℕ) (c : Brain) (b : Bank) (stack : List Kind) (log : List Turned)
+    → Logged loaded nest cost trace next c b stack log → OpenFew loaded log
+few_open loaded nest cost trace next c b stack log l k o =
+    let inside : is_open stack k ≡ true = subst (λ (st : List Kind). is_open st k ≡ true) (sym l.marks.stack_is) o in
+    let a = l.owes k inside in let left = l.keeps.live k inside in
+    omega arith
+
 -- a journal whose steps stand below T, and which awaits none below it, is legal up to T
-pub legal_logged : (loaded : Loaded) (nest : Nest) (cost : ℕ) (trace : List Event) (next : ℕ) (c : Brain) (b : Bank) (stack : List Kind) (log : List Turned) (until : ℕ)
-    → until ≤ next → Below until log → All InRange (journal loaded log) → Logged loaded nest cost trace next c b stack log → Legal loaded nest cost trace until (journal loaded log)
+pub legal_logged : (loaded : Loaded) (nest : Nest) (cost : ℕ) (trace : List Event) (next : ℕ) (c : Brain) (b : Bank) (stack : List Kind) (log : List Turned)
+    (until : ℕ)
+    → until ≤ next → Below until log → All InRange (journal loaded log) → Logged loaded nest cost trace next c b stack log
+    → Legal loaded nest cost trace until (journal loaded log)
 legal_logged loaded nest cost trace next c b stack log until le below range l = record {
   rest = notes_in log;
   begins = refl;
@@ -242,9 +277,7 @@ legal_logged loaded nest cost trace next c b stack log until le below range l = 
     open_step = λ o. (let n = l.at_next (λ s. o (sym l.marks.stack_is ∙ s)) in omega arith);
     idle = λ o t from soon. l.awaits.idle o t from (omega arith);
   };
-  open_few = λ k o. (
-      let inside : is_open stack k ≡ true = subst (λ (st : List Kind). is_open st k ≡ true) (sym l.marks.stack_is) o in
-      let a = l.owes k inside in let left = l.keeps.live k inside in omega arith);
+  open_few = few_open loaded nest cost trace next c b stack log l;
 }
 
 pub last_step : (P : List Turned → Turned → Type 0) (before log : List Turned) (e : Turned) → EachStep P before (log ++ e ∷ []) → P (before ++ log) e
@@ -252,11 +285,12 @@ last_step P before [] e each = rw (append-nil before) each.0
 last_step P before (x ∷ log) e each = rw (← append_assoc before (x ∷ []) log) (last_step P (before ++ x ∷ []) log e each.1)
 
 -- after a step whose notes were written in part
-pub front_logged : (loaded : Loaded) (nest : Nest) (cost : ℕ) (trace : List Event) (next : ℕ) (c : Brain) (b : Bank) (stack : List Kind) (log : List Turned) (broken : Turned) (front left_out : List Note)
-    → broken.notes ≡ front ++ left_out → Below broken.tick log → All InRange (journal loaded log ++ front)
+pub front_logged : (loaded : Loaded) (nest : Nest) (cost : ℕ) (trace : List Event) (next : ℕ) (c : Brain) (b : Bank) (stack : List Kind) (log : List Turned)
+    (broken : Turned) (front left_out : List Note)
+    → broken.notes ≡ front ++ left_out → Below broken.tick log → All InRange (journal loaded log ++ front) → OpenFew loaded log
     → Logged loaded nest cost trace next c b stack (log ++ broken ∷ [])
     → LegalFront loaded nest cost trace (journal loaded log ++ front)
-front_logged loaded nest cost trace next c b stack log broken front left_out split below range l =
+front_logged loaded nest cost trace next c b stack log broken front left_out split below range few l =
     let whole : journal loaded (log ++ broken ∷ []) ≡ (journal loaded log ++ front) ++ left_out =
     journal-push loaded log broken ∙ ap (λ (ns : List Note). journal loaded log ++ ns) split ∙ sym (append_assoc (journal loaded log) front left_out) in
     let tail : notes_in (log ++ broken ∷ []) ≡ (notes_in log ++ front) ++ left_out =
@@ -271,13 +305,17 @@ front_logged loaded nest cost trace next c b stack log broken front left_out spl
       notes_are = refl;
       in_range = range;
       in_time = each_front IsLater [] (journal loaded log ++ front) left_out (subst (λ (ns : List Note). Journal ns) whole l.marks.in_time);
-      windowed = each_front (WindowRule loaded trace) [] (journal loaded log ++ front) left_out (subst (λ (ns : List Note). Windowed loaded trace ns) whole l.marks.windowed);
-      controlled = each_front (λ before n. FitsControl (reverse before) n) [] (journal loaded log ++ front) left_out (subst (λ (ns : List Note). Controlled ns) whole (in_order (journal loaded (log ++ broken ∷ [])) l.ground.control.controlled));
-      nested = each_front (NestRule nest) (opening loaded) (notes_in log ++ front) left_out (subst (λ (ns : List Note). NestedAfter nest (opening loaded) ns) tail l.marks.nested);
+      windowed = each_front (WindowRule loaded trace) [] (journal loaded log ++ front) left_out
+          (subst (λ (ns : List Note). Windowed loaded trace ns) whole l.marks.windowed);
+      controlled = each_front (λ before n. FitsControl (reverse before) n) [] (journal loaded log ++ front) left_out
+          (subst (λ (ns : List Note). Controlled ns) whole (in_order (journal loaded (log ++ broken ∷ [])) l.ground.control.controlled));
+      nested = each_front (NestRule nest) (opening loaded) (notes_in log ++ front) left_out
+          (subst (λ (ns : List Note). NestedAfter nest (opening loaded) ns) tail l.marks.nested);
       fits = l.fits;
       below = below;
       all_made = record {
         open_step = λ o. (let at = last.open_step o in omega arith);
         idle = λ o. last.idle o;
       };
+      open_few = few;
     }

@@ -38,7 +38,8 @@ alone i (j ∷ rest) z a = absurd (let b : kind_number j < kind_number i = a in 
 main_open : (m n : ℕ) → ((m == 0) && not (n == 0)) ≡ true → (m ≡ 0) × (0 < n)
 main_open m n e = (grind (arith, nat_tests), grind (arith, nat_tests))
 
-above_all : (nest : Nest) (stack : List Kind) (k : Kind) → IsStack stack → IsAbove (innermost stack) k → may_enter nest (innermost stack) k ≡ true → IsAboveAll nest stack (kind_number k)
+above_all : (nest : Nest) (stack : List Kind) (k : Kind) → IsStack stack → IsAbove (innermost stack) k → may_enter nest (innermost stack) k ≡ true
+    → IsAboveAll nest stack (kind_number k)
 above_all Full stack k s a m = less_all stack k s a
 above_all One [] k s a m = All-nil (λ j. (kind_number j ≡ 0) × (0 < kind_number k))
 above_all One (i ∷ outer) k s a m =
@@ -55,7 +56,8 @@ entry_may nest stack due k e =
     may_by true k e = refl
     may_by false k e = cc
 
-pub entry_above_all : (nest : Nest) (stack : List Kind) (due : Kind → Bool) (k : Kind) → IsStack stack → next_entry nest stack due ≡ Some k → IsAboveAll nest stack (kind_number k)
+pub entry_above_all : (nest : Nest) (stack : List Kind) (due : Kind → Bool) (k : Kind) → IsStack stack → next_entry nest stack due ≡ Some k
+    → IsAboveAll nest stack (kind_number k)
 entry_above_all nest stack due k s e = above_all nest stack k s (entry_above nest stack due k e) (entry_may nest stack due k e)
 
 -- ---- what holds between any two steps
@@ -89,11 +91,13 @@ entered_need k c = refl
 
 none_masked : (k : Kind) (c : Brain) (b : Bank) (stack : List Kind) → Keeps c b stack → b.masked ≡ false → (j : Kind) → need_of (entered_core c k) j ≤ 8 → ⊥
 none_masked k c b stack keeps down j n = elim (same_kind j k) [
-  | inl e ↦ (let nine = entered_need k c in let m : need_of (entered_core c k) k ≤ 8 = subst (λ (x : Kind). need_of (entered_core c k) x ≤ 8) e n in omega arith)
+  | inl e ↦
+      (let nine = entered_need k c in let m : need_of (entered_core c k) k ≤ 8 = subst (λ (x : Kind). need_of (entered_core c k) x ≤ 8) e n in omega arith)
   | inr ne ↦ (let same = (entered_others k c j ne).1 in let up = (keeps.masked j (rw (← same) n)).0 in let z : false ≡ true = sym down ∙ up in cc)
 ]
 
-pub keeps_entry : (nest : Nest) (c : Brain) (b : Bank) (stack : List Kind) (k : Kind) → Keeps c b stack → IsStack stack → b.masked ≡ false → next_entry nest stack (due_now c.orders.save_asked b) ≡ Some k
+pub keeps_entry : (nest : Nest) (c : Brain) (b : Bank) (stack : List Kind) (k : Kind) → Keeps c b stack → IsStack stack → b.masked ≡ false
+    → next_entry nest stack (due_now c.orders.save_asked b) ≡ Some k
     → Keeps (entered_core c k) (after_entry b k) (k ∷ stack)
 keeps_entry nest c b stack k keeps sorted down chosen =
     let still : (after_entry b k).masked ≡ false = entry_masked b k ∙ down in

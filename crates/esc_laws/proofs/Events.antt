@@ -28,17 +28,20 @@ use Rattle.esc_laws.proofs.StepGrowth.{count_before}
 pub keeps_later : (c : Brain) (b : Bank) (stack : List Kind) (u : ℕ) → Keeps c b stack → Keeps c (advanced b u) stack
 keeps_later c b stack u k = record { hold = k.hold; enough = k.enough; masked = k.masked; live = k.live; shut = k.shut }
 
-pub marks_later : (loaded : Loaded) (nest : Nest) (trace : List Event) (b : Bank) (stack : List Kind) (log : List Turned) (u : ℕ) → b.time ≤ u → Marks loaded nest trace b stack log → Marks loaded nest trace (advanced b u) stack log
+pub marks_later : (loaded : Loaded) (nest : Nest) (trace : List Event) (b : Bank) (stack : List Kind) (log : List Turned) (u : ℕ) → b.time ≤ u
+    → Marks loaded nest trace b stack log → Marks loaded nest trace (advanced b u) stack log
 marks_later loaded nest trace b stack log u le m = record {
   in_time = m.in_time;
   windowed = m.windowed;
   nested = m.nested;
   stack_is = m.stack_is;
   past = All-later time_of (journal loaded log) b.time u le m.past;
+  gates = m.gates;
 }
 
 pub patient_later : (loaded : Loaded) (nest : Nest) (trace : List Event) (c : Brain) (b : Bank) (stack : List Kind) (log : List Turned) (u : ℕ) → b.time ≤ u
-    → Patient nest c.hold b.masked stack (sees trace (journal loaded log) b.time) (called loaded nest trace log) → Patient nest c.hold b.masked stack (sees trace (journal loaded log) u) (called loaded nest trace log)
+    → Patient nest c.hold b.masked stack (sees trace (journal loaded log) b.time) (called loaded nest trace log)
+    → Patient nest c.hold b.masked stack (sees trace (journal loaded log) u) (called loaded nest trace log)
 patient_later loaded nest trace c b stack log u le p =
     grow_patient nest stack (sees trace (journal loaded log) b.time) (sees trace (journal loaded log) u) b.masked c.hold (called loaded nest trace log) p
 
@@ -47,36 +50,46 @@ patient_later loaded nest trace c b stack log u le p =
 record SameRegs (b b' : Bank) : Type 0 where
   time : b'.time ≡ b.time
   masked : b'.masked ≡ b.masked
+  high : b'.hi ≡ b.hi
+  low : b'.lo ≡ b.lo
 
 same_regs : (b : Bank) (e : Event) → SameRegs b (after_event b e)
-same_regs b (event.Edge at level) = by_test (differ b.level level) (record b { level = level; window = after_edge b.window (record { t = as_tick b.time; level = level }) }) (record { time = refl; masked = refl })
+same_regs b (event.Edge at level) =
+    by_test (differ b.level level) (record b { level = level; window = after_edge b.window (record { t = as_tick b.time; level = level }) })
+    (record { time = refl; masked = refl; high = refl; low = refl })
   where
     by_test : (v : Bool) (b' : Bank) → SameRegs b b' → SameRegs b (if v then b' else b)
     by_test true b' s = s
-    by_test false b' s = record { time = refl; masked = refl }
-same_regs b (event.Comp at level) = record { time = refl; masked = refl }
-same_regs b (event.Serial at byte) = record { time = refl; masked = refl }
-same_regs b (event.Stall at n) = record { time = refl; masked = refl }
+    by_test false b' s = record { time = refl; masked = refl; high = refl; low = refl }
+same_regs b (event.Comp at level) = record { time = refl; masked = refl; high = refl; low = refl }
+same_regs b (event.Serial at byte) = record { time = refl; masked = refl; high = refl; low = refl }
+same_regs b (event.Stall at n) = record { time = refl; masked = refl; high = refl; low = refl }
 
 pub event_time : (b : Bank) (e : Event) → (after_event b e).time ≡ b.time
 event_time b e = (same_regs b e).time
 
-pub patient_grows : (loaded : Loaded) (nest : Nest) (trace : List Event) (e : Event) (c : Brain) (b : Bank) (stack : List Kind) (log : List Turned) → tick_of e ≡ b.time → Below (tick_of e) log
+pub patient_grows : (loaded : Loaded) (nest : Nest) (trace : List Event) (e : Event) (c : Brain) (b : Bank) (stack : List Kind) (log : List Turned)
+    → tick_of e ≡ b.time → Below (tick_of e) log
     → Patient nest c.hold b.masked stack (sees trace (journal loaded log) b.time) (called loaded nest trace log)
-    → Patient nest c.hold (after_event b e).masked stack (sees (trace ++ e ∷ []) (journal loaded log) (after_event b e).time) (called loaded nest (trace ++ e ∷ []) log)
+    → Patient nest c.hold (after_event b e).masked stack (sees (trace ++ e ∷ []) (journal loaded log) (after_event b e).time)
+    (called loaded nest (trace ++ e ∷ []) log)
 patient_grows loaded nest trace e c b stack log at below p =
     let same : SameRegs b (after_event b e) = same_regs b e in
     rw (same.masked, same.time)
-    (same_patient nest c.hold b.masked stack (sees (trace ++ e ∷ []) (journal loaded log) b.time) (called loaded nest trace log) (called loaded nest (trace ++ e ∷ []) log) (λ k. count_before loaded nest trace e log k below)
-    (grow_patient nest stack (sees trace (journal loaded log) b.time) (sees (trace ++ e ∷ []) (journal loaded log) b.time) b.masked c.hold (called loaded nest trace log) p))
+    (same_patient nest c.hold b.masked stack (sees (trace ++ e ∷ []) (journal loaded log) b.time) (called loaded nest trace log)
+    (called loaded nest (trace ++ e ∷ []) log) (λ k. count_before loaded nest trace e log k below)
+    (grow_patient nest stack (sees trace (journal loaded log) b.time) (sees (trace ++ e ∷ []) (journal loaded log) b.time) b.masked c.hold
+    (called loaded nest trace log) p))
 
-pub marks_grow : (loaded : Loaded) (nest : Nest) (trace : List Event) (e : Event) (b : Bank) (stack : List Kind) (log : List Turned) → tick_of e ≡ b.time → Marks loaded nest trace b stack log → Marks loaded nest (trace ++ e ∷ []) (after_event b e) stack log
+pub marks_grow : (loaded : Loaded) (nest : Nest) (trace : List Event) (e : Event) (b : Bank) (stack : List Kind) (log : List Turned) → tick_of e ≡ b.time
+    → Marks loaded nest trace b stack log → Marks loaded nest (trace ++ e ∷ []) (after_event b e) stack log
 marks_grow loaded nest trace e b stack log at m = record {
   in_time = m.in_time;
   windowed = windowed_grows loaded trace e (journal loaded log) (All-later time_of (journal loaded log) b.time (tick_of e) (omega arith) m.past) m.windowed;
   nested = m.nested;
   stack_is = m.stack_is;
   past = All-later time_of (journal loaded log) b.time (after_event b e).time (let s = event_time b e in omega arith) m.past;
+  gates = (let same = same_regs b e in record { high = same.high ∙ m.gates.high; low = same.low ∙ m.gates.low });
 }
 
 pub keeps_grow : (e : Event) (c : Brain) (b : Bank) (stack : List Kind) → Keeps c b stack → Keeps c (after_event b e) stack

@@ -1,5 +1,5 @@
 -- Small facts of the registers and the core.
-use Rattle.std.proofs.Common.{◌≡◌, ◌≤◌, ◌<◌, ◌+◌, ◌-◌, ◌/◌, ℕ, Bool, true, false, not, ◌&&◌, ◌||◌, ◌==◌, nat_lt, if◌then◌else◌, List, [], ◌∷◌, ◌++◌, Option, Some, None, refl, sym, ◌∙◌, ap, subst, arith, ◌≢◌}
+use Rattle.std.proofs.Common.{◌≡◌, ◌≤◌, ◌<◌, ◌+◌, ◌-◌, ◌/◌, ℕ, Bool, true, false, not, ◌&&◌, ◌||◌, ◌==◌, nat_lt, if◌then◌else◌, List, [], ◌∷◌, Option, Some, None, refl, sym, ◌∙◌, ap, subst, arith, ◌≢◌}
 use Rattle.std.proofs.lemmas.Bool.{eq-eqb, ne_eqb, not_from_false, le-leb, leb-true, lt-ltb, le-ltb, or_left, or_right, or_parts, eqb-false}
 use Rattle.std.proofs.lemmas.Bool.Decides.{nat_tests}
 use Rattle.esc_base.specs.declared.kind.Kind.{Kind}
@@ -7,57 +7,34 @@ use Rattle.esc_base.specs.declared.kind.Kind.TheVariants as kind
 use Rattle.esc_base.specs.declared.signal.Edge.{Edge}
 use Rattle.esc_base.specs.declared.signal.Mode.{Mode}
 use Rattle.esc_base.specs.declared.signal.Mode.TheVariants as mode
-use Rattle.esc_base.specs.declared.note.Note.{Note}
-use Rattle.esc_base.specs.declared.note.Note.TheVariants as note
 use Rattle.esc_base.specs.Numbers.{kind_number, mode_number, mode_of, as_tick}
 use Rattle.esc_base.specs.Times.{is_reached}
 use Rattle.timer_regs.specs.Bank.{Bank}
 use Rattle.timer_regs.specs.Effects.{after_read, written, is_readable, shown_edge}
 use Rattle.timer_regs.specs.declared.regs.Reg.{Reg}
 use Rattle.timer_regs.specs.declared.regs.Reg.TheVariants as reg
-use Rattle.interrupt_machine.specs.declared.firmware.Did.{Did}
-use Rattle.interrupt_machine.specs.Did.{Access, NoAccess, Reads, Writes, accessed, notes_of}
+use Rattle.interrupt_machine.specs.Did.{Access, NoAccess, Reads, Writes, accessed}
 use Rattle.interrupt_machine.specs.Open.{due_now, is_open}
-use Rattle.interrupt_machine.specs.Turn.{gate_note, own_notes, leave_note}
 use Rattle.interrupt_machine.proofs.OpenKinds.{number_same}
 use Rattle.esc_core.specs.declared.state.CapAt.{CapAt}
 use Rattle.esc_core.specs.declared.state.CapAt.TheVariants as cap
-use Rattle.esc_core.specs.declared.state.TickAt.{TickAt}
-use Rattle.esc_core.specs.declared.state.TickAt.TheVariants as tick
-use Rattle.esc_core.specs.declared.state.MainAt.{MainAt}
-use Rattle.esc_core.specs.declared.state.MainAt.TheVariants as main
 use Rattle.esc_core.specs.Cap.{edge_of}
-use Rattle.esc_core.specs.Firmware.{cap_left, tick_left, main_left}
+use Rattle.esc_core.specs.Firmware.{cap_left}
 
--- ---- an access leaves the gates and the time
+-- ---- an access takes no time
 
-pub record SameGates (b b' : Bank) : Type 0 where
-  pub hi : b'.hi ≡ b.hi
-  pub lo : b'.lo ≡ b.lo
-  pub time : b'.time ≡ b.time
-  pub level : b'.level ≡ b.level
+read_time : (b : Bank) (r : Reg) → (after_read b r).time ≡ b.time
+read_time b reg.TickState = refl
+read_time b r = refl
 
-read_gates : (b : Bank) (r : Reg) → SameGates b (after_read b r)
-read_gates b reg.TickState = record { hi = refl; lo = refl; time = refl; level = refl }
-read_gates b r = record { hi = refl; lo = refl; time = refl; level = refl }
+write_time : (b : Bank) (r : Reg) (v : ℕ) → (written b r v).time ≡ b.time
+write_time b reg.Mask v = refl
+write_time b r v = refl
 
-write_gates : (b : Bank) (r : Reg) (v : ℕ) → SameGates b (written b r v)
-write_gates b reg.Mask v = record { hi = refl; lo = refl; time = refl; level = refl }
-write_gates b r v = record { hi = refl; lo = refl; time = refl; level = refl }
-
-pub same_gates : (b : Bank) (a : Access) → SameGates b (accessed b a)
-same_gates b NoAccess = record { hi = refl; lo = refl; time = refl; level = refl }
-same_gates b (Reads r) = read_gates b r
-same_gates b (Writes r v) = write_gates b r v
-
-no_gate : (m n : ℕ) (g : List Note) → (if (m == m) && (n == n) then [] else g) ≡ []
-no_gate m n g = rw (eq-eqb m m refl, eq-eqb n n refl) refl
-
--- so a step gives its own notes, and its return
-pub plain_notes : (b b' : Bank) (k : Kind) (did : Did) → SameGates b b' → own_notes b.hi b.lo b' k did ≡ notes_of did ++ leave_note b' k did
-plain_notes b b' k did s =
-    let none : gate_note b.hi b.lo b' ≡ [] = rw (s.hi, s.lo) (no_gate b.hi b.lo (note.Gate (record { 0 = b'.time }) b.hi b.lo ∷ [])) in
-    ap (λ (g : List Note). (g ++ notes_of did) ++ leave_note b' k did) none
+pub access_time : (b : Bank) (a : Access) → (accessed b a).time ≡ b.time
+access_time b NoAccess = refl
+access_time b (Reads r) = read_time b r
+access_time b (Writes r v) = write_time b r v
 
 -- ---- which kinds are due
 
@@ -116,7 +93,8 @@ due_window w b e d = window_at (is_readable b) b.taken (is_reached b.timer b.tim
     window_at false n t e d = (let z = sym e ∙ d in cc)
 
 pub due_timer : (w : Bool) (b : Bank) (at : ℕ) → b.timer ≡ Some at → b.taken ≡ true → due_now w b kind.Cap ≡ true → at ≤ b.time
-due_timer w b at e n d = leb-true at b.time (subst (λ (o : Option ℕ). is_reached o b.time ≡ true) e (timer_at (is_readable b) b.taken (is_reached b.timer b.time) n d))
+due_timer w b at e n d =
+    leb-true at b.time (subst (λ (o : Option ℕ). is_reached o b.time ≡ true) e (timer_at (is_readable b) b.taken (is_reached b.timer b.time) n d))
   where
     timer_at : (r n t : Bool) → n ≡ true → ((r && not n) || t) ≡ true → t ≡ true
     timer_at true true t e d = d
@@ -127,24 +105,7 @@ due_timer w b at e n d = leb-true at b.time (subst (λ (o : Option ℕ). is_reac
 
 pub cap_shut : (at : CapAt) → cap_left at ≡ 0 → at ≡ cap.Shut
 cap_shut cap.Shut e = refl
-cap_shut cap.Start e = absurd (omega arith)
-cap_shut (cap.Copy rest) e = absurd (omega arith)
-cap_shut cap.Judge e = absurd (omega arith)
-cap_shut cap.Open e = absurd (omega arith)
-cap_shut (cap.Pause at) e = absurd (omega arith)
-cap_shut cap.Back e = absurd (omega arith)
-
-pub tick_shut : (at : TickAt) → tick_left at ≡ 0 → at ≡ tick.Shut
-tick_shut tick.Shut e = refl
-tick_shut tick.Raise e = absurd (omega arith)
-tick_shut tick.Read e = absurd (omega arith)
-tick_shut tick.Lower e = absurd (omega arith)
-tick_shut tick.Back e = absurd (omega arith)
-
-pub main_shut : (at : MainAt) → main_left at ≡ 0 → at ≡ main.Shut
-main_shut main.Shut e = refl
-main_shut main.Work e = absurd (omega arith)
-main_shut main.Back e = absurd (omega arith)
+cap_shut at e = absurd (omega arith)
 
 -- ---- modes and edges by their numbers
 
@@ -163,7 +124,8 @@ at_level t level = record { t = as_tick t; level = level }
 falling_shown : (t : ℕ) → t < 2147483648 → (if nat_lt t 2147483648 then at_level t false else at_level (t - 2147483648) true) ≡ at_level t false
 falling_shown t l = rw (lt-ltb t 2147483648 l) refl
 
-rising_shown : (t : ℕ) → (if nat_lt (t + 2147483648) 2147483648 then at_level (t + 2147483648) false else at_level ((t + 2147483648) - 2147483648) true) ≡ at_level t true
+rising_shown : (t : ℕ)
+    → (if nat_lt (t + 2147483648) 2147483648 then at_level (t + 2147483648) false else at_level ((t + 2147483648) - 2147483648) true) ≡ at_level t true
 rising_shown t = rw (le-ltb (t + 2147483648) 2147483648 (omega arith)) (ap (λ (x : ℕ). at_level x true) (back t))
   where
     back : (t : ℕ) → (t + 2147483648) - 2147483648 ≡ t

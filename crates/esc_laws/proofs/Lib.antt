@@ -9,6 +9,7 @@ pub mod CapTies
 pub mod Dues
 pub mod Lines
 pub mod RoomSteps
+pub mod Returns
 pub mod Law
 pub mod MainRoom
 pub mod TickRoom
@@ -23,3 +24,6 @@ pub mod Events
 pub mod Start
 pub mod Carried
 pub mod FlashSteps
+pub mod Refused
+pub mod RefusedSteps
+pub mod Allowed

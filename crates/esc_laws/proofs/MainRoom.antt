@@ -1,5 +1,5 @@
 -- MAIN's room.
-use Rattle.std.proofs.Common.{◌≡◌, ◌<◌, ◌+◌, ℕ, Bool, true, List, ◌∷◌, refl, sym, ◌∙◌, ap, arith, lit≤}
+use Rattle.std.proofs.Common.{◌≡◌, ◌<◌, ◌+◌, ℕ, Bool, true, List, ◌∷◌, refl, sym, ◌∙◌, ap, arith}
 use Rattle.esc_base.specs.declared.kind.Kind.{Kind}
 use Rattle.esc_base.specs.declared.kind.Kind.TheVariants as kind
 use Rattle.esc_base.specs.declared.note.Note.TheVariants as note
@@ -7,20 +7,22 @@ use Rattle.esc_base.specs.Numbers.{as_tick}
 use Rattle.arming.proofs.FrameTies.{other_stands}
 use Rattle.esc_core.specs.declared.state.MainAt.{MainAt}
 use Rattle.esc_core.specs.declared.state.MainAt.TheVariants as main
+use Rattle.esc_core.specs.Calls.{Answer, took_first}
 use Rattle.esc_core.specs.Background.{result_of, saving_step, main_step}
-use Rattle.esc_core.specs.Firmware.{main_left, counted_down}
-use Rattle.esc_core.proofs.Bounds.{main_moves}
+use Rattle.esc_core.specs.Firmware.{main_left}
 use Rattle.esc_laws.specs.Tied.{MainTied}
 use Rattle.esc_laws.specs.World.{World, so_far}
 use Rattle.esc_laws.specs.Rooms.{Ground, StepKeeps}
-use Rattle.esc_laws.proofs.Law.{HandlerLaw, mask_free}
+use Rattle.esc_laws.proofs.Law.{HandlerLaw}
 use Rattle.esc_laws.proofs.RoomSteps.{ground_noted, inside, popped, if_true}
 use Rattle.esc_laws.proofs.Saves.{saved_tied}
 
-saves : (w : World) (saved : Bool) (outer : List Kind) → Ground w → w.core.orders.save_asked ≡ true → (so_far w).saves ≡ 0 → (so_far w).stack ≡ kind.Main ∷ outer
+saves : (w : World) (saved : Bool) (outer : List Kind) → Ground w → w.core.orders.save_asked ≡ true → (so_far w).saves ≡ 0
+    → (so_far w).stack ≡ kind.Main ∷ outer
     → StepKeeps kind.Main outer w (saving_step saved (record w.core { main_at = main.Back }) w.bank)
 saves w saved outer g asked none on = record {
-  fits = (record { at = refl; no_entry = refl; save = λ e. refl; window = tt; nest = inside (so_far w).stack kind.Main outer on }, tt);
+  gate = λ word moved. absurd (moved refl refl);
+  fits = (record { at = refl; owned = refl; window = tt; nest = inside (so_far w).stack kind.Main outer on }, tt);
   ground = record {
     control = other_stands (note.Saved (as_tick w.bank.time) (result_of saved)) w.core.control w.back refl refl (sym g.orders.save_is ∙ asked) g.control;
     orders = saved_tied w.loaded w.core.orders (as_tick w.bank.time) (result_of saved) w.back g.orders;
@@ -33,12 +35,14 @@ saves w saved outer g asked none on = record {
   stack_is = on;
 }
 
-steps : (at : MainAt) (w : World) (saved : Bool) (outer : List Kind) → Ground w → MainTied at w.core.orders.save_asked (so_far w).saves → (so_far w).stack ≡ kind.Main ∷ outer → 0 < main_left at
-    → StepKeeps kind.Main outer w (main_step saved at w.core w.bank)
-steps main.Shut w saved outer g t on left = absurd (omega arith)
-steps main.Work w saved outer g t on left = if_true w.core.orders.save_asked kind.Main outer w _ _ t.0 (saves w saved outer g t.0 t.1 on)
-steps main.Back w saved outer g t on left = record {
-  fits = (record { at = refl; no_entry = refl; save = λ e. cc; window = λ e. cc; nest = (inside (so_far w).stack kind.Main outer on, t) }, tt);
+steps : (at : MainAt) (w : World) (answers : List Answer) (outer : List Kind) → Ground w → MainTied at w.core.orders.save_asked (so_far w).saves
+    → (so_far w).stack ≡ kind.Main ∷ outer → 0 < main_left at
+    → StepKeeps kind.Main outer w (main_step answers at w.core w.bank)
+steps main.Shut w answers outer g t on left = absurd (omega arith)
+steps main.Work w answers outer g t on left = if_true w.core.orders.save_asked kind.Main outer w _ _ t.0 (saves w (took_first answers) outer g t.0 t.1 on)
+steps main.Back w answers outer g t on left = record {
+  gate = λ word moved. absurd (moved refl refl);
+  fits = (record { at = refl; owned = refl; window = λ e. cc; nest = (inside (so_far w).stack kind.Main outer on, t) }, tt);
   ground = ground_noted w (note.Leave (as_tick w.bank.time) 0) refl refl tt refl g;
   tie = tt;
   others = elim [ kind.Main ↦ λ ne t. absurd (ne refl) | j ↦ λ ne t. t ];
@@ -48,11 +52,10 @@ steps main.Back w saved outer g t on left = record {
 pub main_law : HandlerLaw kind.Main
 main_law = record {
   called = λ w g t none s. g.orders.save_is ∙ s;
+  built = λ w t due. tt;
   entered = λ w g t none due. (due, refl);
   beside = λ w. elim [ kind.Main ↦ λ ne t. absurd (ne refl) | j ↦ λ ne t. t ];
-  steps = λ w saved outer g t above on left. steps w.core.main_at w saved outer g (t kind.Main) on left;
-  need = λ c. lit≤ tt;
-  mask = λ saved c b outer keeps left. mask_free kind.Main (main_left c.main_at) c b outer _ refl refl keeps (main_moves c.main_at saved (counted_down c b) b left);
+  steps = λ w answers outer g t above on left. steps w.core.main_at w answers outer g (t kind.Main) on left;
   later = λ w u from small g t. (t kind.Main);
   outside = λ w e at g t. (t kind.Main);
 }

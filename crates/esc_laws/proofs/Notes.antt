@@ -1,22 +1,15 @@
 -- The journal after one more note.
 use Rattle.std.proofs.Common.{◌≡◌, ◌≤◌, ℕ, List, [], ◌∷◌, ◌++◌, arith, All}
 use Rattle.std.proofs.lemmas.List.Elements.{All-nil, All-cons, All-head, All-tail, All-push}
-use Rattle.std.proofs.lemmas.List.Sums.{fold-append}
-use Rattle.std.specs.List.{fold}
 use Rattle.esc_base.specs.declared.event.Event.{Event}
 use Rattle.esc_base.specs.declared.note.Note.{Note}
 use Rattle.esc_base.specs.Journal.{Journal, IsLater, time_of}
 use Rattle.settings_block.specs.declared.stored.Loaded.{Loaded}
 use Rattle.interrupt_machine.specs.declared.nest.Nest.{Nest}
 use Rattle.arming.proofs.InOrder.{each_push}
-use Rattle.esc_laws.specs.Place.{next, nowhere, place}
 use Rattle.esc_laws.specs.Windowed.{WindowRule, Windowed}
 use Rattle.esc_laws.specs.Nested.{NestRule, NestedAfter}
 use Rattle.esc_laws.specs.Steps.{opening}
-
-pub place-append : (notes more : List Note) → place (notes ++ more) ≡ fold next (place notes) more
-unfolding place
-place-append notes more = fold-append next nowhere notes more
 
 -- the notes keep the laws of windows and of nesting, in the order of their times, up to t
 pub record Said (loaded : Loaded) (nest : Nest) (trace : List Event) (t : ℕ) (rest : List Note) : Type 0 where

@@ -12,7 +12,8 @@ use Rattle.esc_laws.specs.Rooms.{Ground, StepKeeps}
 use Rattle.esc_laws.proofs.Saves.{changes_orders, orders_other}
 
 -- a note of another part of the core
-pub ground_noted : (w : World) (n : Note) → changes_control n ≡ false → says n ≡ None → IsSave w.back n → changes_orders n ≡ false → Ground w → Ground (noted w n)
+pub ground_noted : (w : World) (n : Note) → changes_control n ≡ false → says n ≡ None → IsSave w.back n → changes_orders n ≡ false → Ground w
+    → Ground (noted w n)
 ground_noted w n c s p o g = record {
   control = other_stands n w.core.control w.back c s p g.control;
   orders = orders_other w.loaded w.core.orders n w.back o g.orders;
@@ -28,10 +29,12 @@ pub popped : (stack : List Kind) (k : Kind) (outer : List Kind) → stack ≡ k 
 popped stack k outer e = ap outer_ones e
 
 -- a step that turns on a test whose answer is known
-pub if_true : (v : Bool) (k : Kind) (outer : List Kind) (w : World) (x y : Stepped) → v ≡ true → StepKeeps k outer w x → StepKeeps k outer w (if v then x else y)
+pub if_true : (v : Bool) (k : Kind) (outer : List Kind) (w : World) (x y : Stepped) → v ≡ true → StepKeeps k outer w x
+    → StepKeeps k outer w (if v then x else y)
 if_true true k outer w x y e h = h
 if_true false k outer w x y e h = cc
 
-pub if_false : (v : Bool) (k : Kind) (outer : List Kind) (w : World) (x y : Stepped) → v ≡ false → StepKeeps k outer w y → StepKeeps k outer w (if v then x else y)
+pub if_false : (v : Bool) (k : Kind) (outer : List Kind) (w : World) (x y : Stepped) → v ≡ false → StepKeeps k outer w y
+    → StepKeeps k outer w (if v then x else y)
 if_false true k outer w x y e h = cc
 if_false false k outer w x y e h = h

@@ -16,14 +16,13 @@ use Rattle.dshot_commands.specs.Act.{act_of, acting, frames_needed, number_of}
 use Rattle.settings_block.specs.declared.block.BlockFault.{BlockFault}
 use Rattle.settings_block.specs.declared.settings.Settings.{Settings}
 use Rattle.settings_block.specs.declared.stored.Loaded.{Loaded}
-use Rattle.settings_block.specs.Settings.{applied}
+use Rattle.settings_block.specs.Settings.{applied, servo_of}
 use Rattle.settings_block.specs.Stored.{KeepsBelow}
 use Rattle.settings_block.specs.Block.{block_of}
 use Rattle.arming.proofs.InOrder.{reverse-push}
 use Rattle.esc_core.specs.declared.orders.Orders.{Orders}
 use Rattle.esc_core.specs.Orders.{obeyed}
-use Rattle.esc_core.specs.Judge.{inputs_of}
-use Rattle.esc_core.specs.Saving.{IsSaved, IsSpoilt}
+use Rattle.esc_core.specs.Calls.{IsSaved, IsSpoilt}
 use Rattle.esc_laws.specs.Saves.{is_save, after_save, and_places, any_places, changed_by, erased_places, flash_at, refused_at, settings_at, FlashFits, Holds, HoldsSaves}
 use Rattle.esc_laws.specs.Steps.{first_notes, load_number}
 use Rattle.esc_laws.specs.Tied.{OrdersTied}
@@ -36,19 +35,24 @@ changes_orders n = false
 
 -- ---- commands leave what the settings say of the input
 
-changed_inputs : (o : Option Act) (s : Settings) → inputs_of (changed_by o s) ≡ inputs_of s
-changed_inputs None s = refl
-changed_inputs (Some (Beacon beacon)) s = refl
-changed_inputs (Some (Direction side)) s = refl
-changed_inputs (Some (ThreeD is_on)) s = refl
-changed_inputs (Some Save) s = refl
-changed_inputs (Some (Extended is_on)) s = refl
-changed_inputs (Some (Spin side)) s = refl
+changed_input : (o : Option Act) (s : Settings) → ((changed_by o s).input ≡ s.input) × (servo_of (changed_by o s) ≡ servo_of s)
+changed_input None s = (refl, refl)
+changed_input (Some (Beacon beacon)) s = (refl, refl)
+changed_input (Some (Direction side)) s = (refl, refl)
+changed_input (Some (ThreeD is_on)) s = (refl, refl)
+changed_input (Some Save) s = (refl, refl)
+changed_input (Some (Extended is_on)) s = (refl, refl)
+changed_input (Some (Spin side)) s = (refl, refl)
 
-pub inputs_kept : (s : Settings) (back : List Note) → inputs_of (settings_at s back) ≡ inputs_of s
-inputs_kept s [] = refl
-inputs_kept s (note.Command t c ∷ back) = changed_inputs (act_of c) (settings_at s back) ∙ inputs_kept s back
-inputs_kept s (n ∷ back) = inputs_kept s back
+pub input_kept : (s : Settings) (back : List Note) → (settings_at s back).input ≡ s.input
+input_kept s [] = refl
+input_kept s (note.Command t c ∷ back) = (changed_input (act_of c) (settings_at s back)).0 ∙ input_kept s back
+input_kept s (n ∷ back) = input_kept s back
+
+pub servo_kept : (s : Settings) (back : List Note) → servo_of (settings_at s back) ≡ servo_of s
+servo_kept s [] = refl
+servo_kept s (note.Command t c ∷ back) = (changed_input (act_of c) (settings_at s back)).1 ∙ servo_kept s back
+servo_kept s (n ∷ back) = servo_kept s back
 
 -- ---- an act that was asked for is the act of its number
 

@@ -42,7 +42,7 @@ later_from : (trace : List Event) (t : ℕ) → t ≤ fold past_stall t trace
 later_from [] t = omega arith
 later_from (e ∷ trace) t = let a = past_later e t in let b = later_from trace (past_stall t e) in omega arith
 
-free_later : (trace : List Event) (t : ℕ) → t ≤ free trace t
+pub free_later : (trace : List Event) (t : ℕ) → t ≤ free trace t
 unfolding free
 free_later trace t = later_from trace t
 

@@ -1,8 +1,9 @@
 -- The log of a run that has made no step.
-use Rattle.std.proofs.Common.{◌≡◌, ◌≤◌, ℕ, false, [], ◌∷◌, reverse, refl, sym, ◌∙◌, ap, arith, lit<, All, Option, Some, None}
+use Rattle.std.proofs.Common.{◌≡◌, ◌≤◌, ℕ, false, List, [], ◌∷◌, reverse, refl, sym, ◌∙◌, ap, arith, lit<, All, Option, Some, None}
 use Rattle.std.proofs.lemmas.List.Elements.{All-nil, All-cons}
 use Rattle.esc_base.specs.declared.kind.Kind.{Kind}
 use Rattle.esc_base.specs.declared.kind.Kind.TheVariants as kind
+use Rattle.esc_base.specs.declared.event.Event.{Event}
 use Rattle.esc_base.specs.declared.note.Note.TheVariants as note
 use Rattle.esc_base.specs.Range.{InRange}
 use Rattle.esc_base.specs.Journal.{Journal, time_of}
@@ -27,6 +28,7 @@ use Rattle.esc_laws.specs.Tied.{Keeps}
 use Rattle.esc_laws.specs.World.{world}
 use Rattle.esc_laws.specs.Rooms.{Ground, Tie}
 use Rattle.esc_laws.specs.Logged.{Marks, Logged, stall_end, first_bank}
+use Rattle.esc_laws.proofs.Notes.{Said}
 use Rattle.esc_laws.proofs.Pushes.{after-none, free-none, called-none}
 
 place-opening : (loaded : Loaded) → place (opening loaded) ≡ record nowhere { signal = Listens 0 0; windows = 1; last = 0 }
@@ -53,15 +55,28 @@ first_in_range fault =
     few_numbers (Some (Range offset)) = omega arith
 
 opening_in_time : (loaded : Loaded) → Journal (opening loaded)
-opening_in_time loaded =
-    (All-nil (λ b. time_of b ≤ 0), (All-cons (λ b. time_of b ≤ 0) (note.Up (as_tick 0) (load_number loaded.fault)) [] (omega arith) (All-nil (λ b. time_of b ≤ 0)), tt))
+opening_in_time loaded = (
+  All-nil (λ b. time_of b ≤ 0),
+  (All-cons (λ b. time_of b ≤ 0) (note.Up (as_tick 0) (load_number loaded.fault)) [] (omega arith) (All-nil (λ b. time_of b ≤ 0)), tt),
+)
 
-opening_windowed : (loaded : Loaded) → Windowed loaded [] (opening loaded)
-opening_windowed loaded = (tt, (rw (place-up (load_number loaded.fault)) (refl, refl), tt))
+opening_windowed : (loaded : Loaded) (trace : List Event) → Windowed loaded trace (opening loaded)
+opening_windowed loaded trace = (tt, (rw (place-up (load_number loaded.fault)) (refl, refl), tt))
+
+-- the two first notes, for any trace and up to any tick
+pub start_said : (loaded : Loaded) (nest : Nest) (trace : List Event) (t : ℕ) → Said loaded nest trace t []
+start_said loaded nest trace t = record {
+  in_time = opening_in_time loaded;
+  windowed = opening_windowed loaded trace;
+  nested = tt;
+  past = All-cons (λ n. time_of n ≤ t) (note.Up (as_tick 0) (load_number loaded.fault)) (note.Window (as_tick 0) 0 ∷ []) (omega arith)
+      (All-cons (λ n. time_of n ≤ t) (note.Window (as_tick 0) 0) [] (omega arith) (All-nil (λ n. time_of n ≤ t)));
+}
 
 opening_stands : (loaded : Loaded) → Stands start (reverse (opening loaded))
 opening_stands loaded =
-    other_stands (note.Window (as_tick 0) 0) start (note.Up (as_tick 0) (load_number loaded.fault) ∷ []) refl refl tt (other_stands (note.Up (as_tick 0) (load_number loaded.fault)) start [] refl refl tt start_stands)
+    other_stands (note.Window (as_tick 0) 0) start (note.Up (as_tick 0) (load_number loaded.fault) ∷ []) refl refl tt
+    (other_stands (note.Up (as_tick 0) (load_number loaded.fault)) start [] refl refl tt start_stands)
 
 start_keeps : (loaded : Loaded) → Keeps (new_core loaded.settings) first_bank []
 start_keeps loaded = record {
@@ -82,12 +97,12 @@ start_keeps loaded = record {
 
 start_marks : (loaded : Loaded) (nest : Nest) → Marks loaded nest [] first_bank [] []
 start_marks loaded nest = record {
-  in_time = opening_in_time loaded;
-  windowed = opening_windowed loaded;
+  in_time = (start_said loaded nest [] 0).in_time;
+  windowed = (start_said loaded nest [] 0).windowed;
   nested = tt;
   stack_is = ap (λ (p : Place). p.stack) (sym (place-opening loaded));
-  past = All-cons (λ n. time_of n ≤ 0) (note.Up (as_tick 0) (load_number loaded.fault)) (note.Window (as_tick 0) 0 ∷ []) (omega arith)
-      (All-cons (λ n. time_of n ≤ 0) (note.Window (as_tick 0) 0) [] (omega arith) (All-nil (λ n. time_of n ≤ 0)));
+  past = (start_said loaded nest [] 0).past;
+  gates = record { high = refl; low = refl };
 }
 
 no_burst : [] ≡ burst (line []).edges 0 (mode_of 0)
@@ -109,7 +124,9 @@ start_ties loaded nest kind.Cap = (
   record { past = λ k d l. absurd (omega arith); order = λ x y le l. absurd (omega arith); few = omega arith },
 )
 start_ties loaded nest kind.Tick = (tt, refl, omega arith)
-start_ties loaded nest k = tt
+start_ties loaded nest kind.Main = tt
+start_ties loaded nest kind.Comm = (refl, record { high_off = refl; low_off = refl; no_duty = refl; no_event = refl; disarmed = refl; no_mark = refl })
+start_ties loaded nest k = refl
 
 start_patient : (loaded : Loaded) (nest : Nest) → Patient nest 0 false [] (sees [] (journal loaded []) 0) (called loaded nest [] [])
 start_patient loaded nest = record {

@@ -53,6 +53,7 @@ step_grows loaded nest cost trace e before x past l f =
       few = f.few;
       at_tick = f.at_tick;
       no_entry = f.no_entry;
+      returns = f.returns;
       patient = λ k. rw (count_before loaded nest trace e (before ++ x ∷ []) k (All-push (λ (y : Turned). y.tick < tick_of e) before x past l)) (f.patient k);
     }
 

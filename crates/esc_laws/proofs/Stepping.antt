@@ -20,18 +20,19 @@ use Rattle.interrupt_machine.proofs.OpenKinds.{closed_above, entry_above, same_k
 use Rattle.interrupt_machine.proofs.Waiting.{entry_patient, own_patient, entry_highest, entry_masked, highest_is_due, highest_most, self_open}
 use Rattle.esc_core.specs.Brain.{Brain}
 use Rattle.esc_core.specs.Stepped.{Stepped, is_return}
-use Rattle.esc_core.specs.Firmware.{left_of, entered_core, kind_step, counted_down}
-use Rattle.esc_core.proofs.Bounds.{Bounds, bounds, core_step-goes}
+use Rattle.esc_core.specs.Calls.{Answer}
+use Rattle.esc_core.specs.Firmware.{left_of, need_of, entered_core, kind_step, counted_down}
+use Rattle.esc_core.proofs.Bounds.{Bounds, need_some, mask_down, goes_bounds}
 use Rattle.esc_laws.specs.Place.{Place}
 use Rattle.esc_laws.specs.Seen.{sees, sees_at}
-use Rattle.esc_laws.specs.Steps.{Turned, notes_in, journal, after, uses, is_of, is_entry, own_steps, steps_since, entered_at, called, StepFits, Below}
+use Rattle.esc_laws.specs.Steps.{Turned, notes_in, journal, after, uses, is_of, is_entry, ReturnsLast, own_steps, steps_since, entered_at, called, StepFits, Below}
 use Rattle.esc_laws.specs.Tied.{Keeps}
-use Rattle.esc_laws.specs.World.{world, enters, step_notes, open_left}
+use Rattle.esc_laws.specs.World.{world, enters, all_notes, open_left}
 use Rattle.esc_laws.specs.Rooms.{Ground, Tie}
 use Rattle.esc_laws.specs.Logged.{Logged}
 use Rattle.esc_laws.proofs.Pushes.{own-push, since-push}
 use Rattle.esc_laws.proofs.Stalls.{free_ended}
-use Rattle.esc_laws.proofs.Facts.{of_self, of_other, some_open, outer_open, left_open, same_gates}
+use Rattle.esc_laws.proofs.Facts.{of_self, of_other, some_open, outer_open, left_open, access_time}
 use Rattle.esc_laws.proofs.Laws.{law}
 use Rattle.esc_laws.proofs.Stages.{IsOwn, placed-is, enter_time, enter_stood, step_made}
 use Rattle.esc_laws.proofs.Entries.{entered_others, entered_most, entry_above_all, keeps_entry}
@@ -40,12 +41,15 @@ use Rattle.esc_laws.proofs.Turns.{reached_on, reached_new, by_on, by_new, stood,
 
 -- ---- what is seen due, and isn't open, is due
 
-waits_due : (loaded : Loaded) (nest : Nest) (trace : List Event) (c : Brain) (b : Bank) (stack : List Kind) (log : List Turned) → Keeps c b stack → Ground (world loaded nest trace c b log) → ((j : Kind) → Tie j (world loaded nest trace c b log))
+waits_due : (loaded : Loaded) (nest : Nest) (trace : List Event) (c : Brain) (b : Bank) (stack : List Kind) (log : List Turned) → Keeps c b stack
+    → Ground (world loaded nest trace c b log) → ((j : Kind) → Tie j (world loaded nest trace c b log))
     → (k : Kind) → sees trace (journal loaded log) b.time k ≡ true → is_open stack k ≡ false → due_now c.orders.save_asked b k ≡ true
 waits_due loaded nest trace c b stack log keeps g t k s f =
-    (law k).called (world loaded nest trace c b log) g t (keeps.shut k f) (subst (λ (p : Place). sees_at trace p (reverse (journal loaded log)) b.time k ≡ true) (sym (placed-is (journal loaded log))) s)
+    (law k).called (world loaded nest trace c b log) g t (keeps.shut k f)
+    (subst (λ (p : Place). sees_at trace p (reverse (journal loaded log)) b.time k ≡ true) (sym (placed-is (journal loaded log))) s)
 
-pub sees_due : (loaded : Loaded) (nest : Nest) (trace : List Event) (c : Brain) (b : Bank) (stack : List Kind) (log : List Turned) → Keeps c b stack → Ground (world loaded nest trace c b log) → ((j : Kind) → Tie j (world loaded nest trace c b log))
+pub sees_due : (loaded : Loaded) (nest : Nest) (trace : List Event) (c : Brain) (b : Bank) (stack : List Kind) (log : List Turned) → Keeps c b stack
+    → Ground (world loaded nest trace c b log) → ((j : Kind) → Tie j (world loaded nest trace c b log))
     → (k : Kind) → is_waiting (sees trace (journal loaded log) b.time) stack k ≡ true → due_now c.orders.save_asked b k ≡ true
 sees_due loaded nest trace c b stack log keeps g t k e =
     let parts = and_parts (sees trace (journal loaded log) b.time k) (not (is_open stack k)) e in
@@ -59,8 +63,10 @@ entry_of t k = record { tick = t; kind = k; enters = true; notes = enters k t �
 empty_open : (stack : List Kind) (k : Kind) → stack ≡ [] → is_open stack k ≡ false
 empty_open stack k e = rw e refl
 
-entry_fits : (loaded : Loaded) (nest : Nest) (cost : ℕ) (trace : List Event) (c : Brain) (b : Bank) (stack : List Kind) (log : List Turned) (k : Kind) → Logged loaded nest cost trace b.time c b stack log
-    → next_entry nest stack (due_now c.orders.save_asked b) ≡ Some k → ((j : Kind) → called loaded nest trace (log ++ entry_of b.time k ∷ []) j ≤ 8) → StepFits loaded nest cost trace log (entry_of b.time k)
+entry_fits : (loaded : Loaded) (nest : Nest) (cost : ℕ) (trace : List Event) (c : Brain) (b : Bank) (stack : List Kind) (log : List Turned) (k : Kind)
+    → Logged loaded nest cost trace b.time c b stack log
+    → next_entry nest stack (due_now c.orders.save_asked b) ≡ Some k → ((j : Kind) → called loaded nest trace (log ++ entry_of b.time k ∷ []) j ≤ 8)
+    → StepFits loaded nest cost trace log (entry_of b.time k)
 entry_fits loaded nest cost trace c b stack log k l chosen calls = record {
   later = l.past;
   free_at = free_ended trace b.time b.time l.stalls (omega arith);
@@ -69,7 +75,8 @@ entry_fits loaded nest cost trace c b stack log k l chosen calls = record {
   first = λ o. (
     refl,
     λ j s. highest_most (due_now c.orders.save_asked b) k j
-        (waits_due loaded nest trace c b stack log l.keeps l.ground l.ties j s (empty_open stack j (l.marks.stack_is ∙ o))) (entry_highest nest stack (due_now c.orders.save_asked b) k chosen),
+        (waits_due loaded nest trace c b stack log l.keeps l.ground l.ties j s (empty_open stack j (l.marks.stack_is ∙ o)))
+        (entry_highest nest stack (due_now c.orders.save_asked b) k chosen),
   );
   entry = λ e. refl;
   own = λ e. cc;
@@ -78,6 +85,7 @@ entry_fits loaded nest cost trace c b stack log k l chosen calls = record {
   few = λ e. cc;
   at_tick = All-cons (λ n. time_of n ≡ b.time) (enters k b.time) [] refl (All-nil (λ n. time_of n ≡ b.time));
   no_entry = λ e. cc;
+  returns = λ e. cc;
   patient = calls;
 }
 
@@ -85,7 +93,8 @@ other_open : (k j : Kind) (stack : List Kind) → j ≢ k → is_open (k ∷ sta
 other_open k j stack ne o = sym (outer_open k j stack ne) ∙ o
 
 -- an open kind has as many steps left as its places show
-entry_owes : (c : Brain) (b : Bank) (stack : List Kind) (log : List Turned) (k : Kind) → ((j : Kind) → is_open stack j ≡ true → own_steps j log + left_of c j ≤ most j)
+entry_owes : (c : Brain) (b : Bank) (stack : List Kind) (log : List Turned) (k : Kind)
+    → ((j : Kind) → is_open stack j ≡ true → own_steps j log + left_of c j ≤ most j)
     → (j : Kind) → is_open (k ∷ stack) j ≡ true → own_steps j (log ++ entry_of b.time k ∷ []) + left_of (entered_core c k) j ≤ most j
 entry_owes c b stack log k owes j o = elim (same_kind j k) [
   | inl s ↦ subst (λ (x : Kind). own_steps x (log ++ entry_of b.time k ∷ []) + left_of (entered_core c k) x ≤ most x) (sym s)
@@ -96,10 +105,12 @@ entry_owes c b stack log k owes j o = elim (same_kind j k) [
 entry_reached : (cost : ℕ) (trace : List Event) (b : Bank) (stack : List Kind) (log : List Turned) (k : Kind) → (stack ≢ [] → b.time ≡ after cost trace log)
     → ((j : Kind) → is_open stack j ≡ true → after cost trace log ≡ uses cost trace (steps_since j log + 1) (entered_at j log))
     → (j : Kind) → is_open (k ∷ stack) j ≡ true
-    → after cost trace (log ++ entry_of b.time k ∷ []) ≡ uses cost trace (steps_since j (log ++ entry_of b.time k ∷ []) + 1) (entered_at j (log ++ entry_of b.time k ∷ []))
+    → after cost trace (log ++ entry_of b.time k ∷ []) ≡ uses cost trace (steps_since j (log ++ entry_of b.time k ∷ []) + 1)
+    (entered_at j (log ++ entry_of b.time k ∷ []))
 entry_reached cost trace b stack log k at reached j o = elim (same_kind j k) [
   | inl s ↦ reached_new cost trace log (entry_of b.time k) j (subst (λ (x : Kind). is_of x (entry_of b.time k) ≡ true) (sym s) (of_self k))
-  | inr ne ↦ reached_on cost trace log (entry_of b.time k) j (of_other j k ne) (at (some_open stack j (other_open k j stack ne o))) (reached j (other_open k j stack ne o))
+  | inr ne ↦ reached_on cost trace log (entry_of b.time k) j (of_other j k ne) (at (some_open stack j (other_open k j stack ne o)))
+      (reached j (other_open k j stack ne o))
 ]
 
 entry_by : (cost : ℕ) (trace : List Event) (b : Bank) (stack : List Kind) (log : List Turned) (k : Kind) → (stack ≢ [] → b.time ≡ after cost trace log)
@@ -108,10 +119,12 @@ entry_by : (cost : ℕ) (trace : List Event) (b : Bank) (stack : List Kind) (log
     → uses cost trace (steps_since j (log ++ entry_of b.time k ∷ [])) (entered_at j (log ++ entry_of b.time k ∷ [])) < t
 entry_by cost trace b stack log k at reached j o t below = elim (same_kind j k) [
   | inl s ↦ by_new cost trace log (entry_of b.time k) j t (subst (λ (x : Kind). is_of x (entry_of b.time k) ≡ true) (sym s) (of_self k)) below
-  | inr ne ↦ by_on cost trace log (entry_of b.time k) j t (of_other j k ne) (at (some_open stack j (other_open k j stack ne o))) (reached j (other_open k j stack ne o)) below
+  | inr ne ↦ by_on cost trace log (entry_of b.time k) j t (of_other j k ne) (at (some_open stack j (other_open k j stack ne o)))
+      (reached j (other_open k j stack ne o)) below
 ]
 
-pub entry_turn : (loaded : Loaded) (nest : Nest) (cost : ℕ) (trace : List Event) (c : Brain) (b : Bank) (stack : List Kind) (log : List Turned) (k : Kind) → 1 ≤ cost → Logged loaded nest cost trace b.time c b stack log
+pub entry_turn : (loaded : Loaded) (nest : Nest) (cost : ℕ) (trace : List Event) (c : Brain) (b : Bank) (stack : List Kind) (log : List Turned) (k : Kind)
+    → 1 ≤ cost → Logged loaded nest cost trace b.time c b stack log
     → b.masked ≡ false → next_entry nest stack (due_now c.orders.save_asked b) ≡ Some k
     → Logged loaded nest cost trace (b.time + cost) (entered_core c k) (after_entry b k) (k ∷ stack) (log ++ entry_of b.time k ∷ [])
 entry_turn loaded nest cost trace c b stack log k some l down chosen =
@@ -122,8 +135,12 @@ entry_turn loaded nest cost trace c b stack log k some l down chosen =
       keeps = keeps_entry nest c b stack k l.keeps l.sorted down chosen;
       sorted = (entry_above nest stack (due_now c.orders.save_asked b) k chosen, l.sorted);
       time = enter_time k b;
-      out = enter_stood k loaded nest trace c b (notes_in log) stack (stood loaded nest cost trace b.time c b stack log l) none due (entry_above_all nest stack (due_now c.orders.save_asked b) k l.sorted chosen);
-      patient = rw still (entry_patient nest stack (due_now c.orders.save_asked b) (sees trace (journal loaded log) b.time) (sees trace (journal loaded (log ++ entry_of b.time k ∷ [])) b.time) k c.hold (entered_core c k).hold (called loaded nest trace log)
+      out = enter_stood k loaded nest trace c b (notes_in log) stack (stood loaded nest cost trace b.time c b stack log l) none due
+          (entry_above_all nest stack (due_now c.orders.save_asked b) k l.sorted chosen);
+      patient =
+          rw still
+          (entry_patient nest stack (due_now c.orders.save_asked b) (sees trace (journal loaded log) b.time)
+          (sees trace (journal loaded (log ++ entry_of b.time k ∷ [])) b.time) k c.hold (entered_core c k).hold (called loaded nest trace log)
           (sees_due loaded nest trace c b stack log l.keeps l.ground l.ties) chosen (rw down at l.patient));
       owes = entry_owes c b stack log k l.owes;
       reached = entry_reached cost trace b stack log k l.at_next l.reached;
@@ -145,7 +162,8 @@ left_goes : (v m : Bool) (k : Kind) (outer : List Kind) → (v ≡ true → m �
 left_goes true m k outer back = inr (back refl)
 left_goes false m k outer back = inl refl
 
-own_owes : (c c' : Brain) (outer : List Kind) (log : List Turned) (k : Kind) (t : ℕ) (notes : List Note) (v : Bool) → ((j : Kind) → is_open (k ∷ outer) j ≡ true → own_steps j log + left_of c j ≤ most j)
+own_owes : (c c' : Brain) (outer : List Kind) (log : List Turned) (k : Kind) (t : ℕ) (notes : List Note) (v : Bool)
+    → ((j : Kind) → is_open (k ∷ outer) j ≡ true → own_steps j log + left_of c j ≤ most j)
     → left_of c' k < left_of c k → ((j : Kind) → j ≢ k → left_of c' j ≡ left_of c j)
     → (j : Kind) → is_open (if v then outer else k ∷ outer) j ≡ true → own_steps j (log ++ own_of t k notes ∷ []) + left_of c' j ≤ most j
 own_owes c c' outer log k t notes v owes less others j o = elim (same_kind j k) [
@@ -154,9 +172,12 @@ own_owes c c' outer log k t notes v owes less others j o = elim (same_kind j k) 
   | inr ne ↦ rw (own-push j log (own_of t k notes), of_other j k ne, others j ne) (owes j (left_open v k j outer o))
 ]
 
-own_fits : (loaded : Loaded) (nest : Nest) (cost : ℕ) (trace : List Event) (c : Brain) (b : Bank) (outer : List Kind) (log : List Turned) (k : Kind) (notes : List Note) → Logged loaded nest cost trace b.time c b (k ∷ outer) log
-    → All (IsOwn k b.time) notes → ((j : Kind) → called loaded nest trace (log ++ own_of b.time k notes ∷ []) j ≤ 8) → StepFits loaded nest cost trace log (own_of b.time k notes)
-own_fits loaded nest cost trace c b outer log k notes l own calls =
+own_fits : (loaded : Loaded) (nest : Nest) (cost : ℕ) (trace : List Event) (c : Brain) (b : Bank) (outer : List Kind) (log : List Turned) (k : Kind)
+    (notes : List Note)
+    → Logged loaded nest cost trace b.time c b (k ∷ outer) log
+    → All (IsOwn k b.time) notes → ReturnsLast k notes → ((j : Kind) → called loaded nest trace (log ++ own_of b.time k notes ∷ []) j ≤ 8)
+    → StepFits loaded nest cost trace log (own_of b.time k notes)
+own_fits loaded nest cost trace c b outer log k notes l own back calls =
     let inside : is_open (k ∷ outer) k ≡ true = self_open k outer in
     let at : b.time ≡ after cost trace log = l.at_next (λ e. cc) in
     record {
@@ -172,36 +193,45 @@ own_fits loaded nest cost trace c b outer log k notes l own calls =
       few = λ e. rw (own-push k log (own_of b.time k notes), of_self k) (let a = l.owes k inside in let left = l.keeps.live k inside in omega arith);
       at_tick = All-weaker (IsOwn k b.time) (λ n. time_of n ≡ b.time) (λ n p. p.0) notes own;
       no_entry = λ e. All-weaker (IsOwn k b.time) (λ n. is_entry n ≡ false) (λ n p. p.1) notes own;
+      returns = λ e. back;
       patient = calls;
     }
 
-abbrev pub stepped_by : Kind → Bool → Brain → Bank → Stepped
-stepped_by k saved c b = kind_step k saved (counted_down c b) b
+abbrev pub stepped_by : Kind → List Answer → Brain → Bank → Stepped
+stepped_by k answers c b = kind_step k answers (counted_down c b) b
 
-pub own_turn : (loaded : Loaded) (nest : Nest) (cost : ℕ) (trace : List Event) (c : Brain) (b : Bank) (outer : List Kind) (log : List Turned) (k : Kind) (saved : Bool) → 1 ≤ cost → Logged loaded nest cost trace b.time c b (k ∷ outer) log
+pub own_turn : (loaded : Loaded) (nest : Nest) (cost : ℕ) (trace : List Event) (c : Brain) (b : Bank) (outer : List Kind) (log : List Turned) (k : Kind)
+    (answers : List Answer)
+    → 1 ≤ cost → Logged loaded nest cost trace b.time c b (k ∷ outer) log
     → (b.masked ≡ false → next_entry nest (k ∷ outer) (due_now c.orders.save_asked b) ≡ None)
-    → Logged loaded nest cost trace (b.time + cost) (stepped_by k saved c b).core (accessed b (stepped_by k saved c b).access) (open_left k outer (stepped_by k saved c b)) (log ++ own_of b.time k (step_notes b.time k (stepped_by k saved c b)) ∷ [])
-own_turn loaded nest cost trace c b outer log k saved some l none =
-    let s : Stepped = stepped_by k saved c b in
+    → Logged loaded nest cost trace (b.time + cost) (stepped_by k answers c b).core (accessed b (stepped_by k answers c b).access)
+    (open_left k outer (stepped_by k answers c b)) (log ++ own_of b.time k (all_notes b k (stepped_by k answers c b)) ∷ [])
+own_turn loaded nest cost trace c b outer log k answers some l none =
+    let s : Stepped = stepped_by k answers c b in
     let b' : Bank = accessed b s.access in
-    let notes : List Note = step_notes b.time k s in
+    let notes : List Note = all_notes b k s in
     let inside : is_open (k ∷ outer) k ≡ true = self_open k outer in
     let left : 0 < left_of c k = l.keeps.live k inside in
-    let held : b.masked ≡ true → 0 < c.hold = (λ m. (let a = l.keeps.enough m k refl in let n = (law k).need c in omega arith)) in
-    let bound : Bounds k c b s = subst (λ (x : Stepped). Bounds k c b x) (core_step-goes k saved c b (steady k c b (k ∷ outer) l.keeps refl)) (bounds k saved c b left l.keeps.hold held) in
-    let gates = same_gates b s.access in
-    let made = step_made k saved loaded nest trace c b (notes_in log) outer (stood loaded nest cost trace b.time c b (k ∷ outer) log l) (λ j above. l.keeps.shut j (closed_above (k ∷ outer) j l.sorted above)) left in
+    let held : b.masked ≡ true → 0 < c.hold = (λ m. (let a = l.keeps.enough m k refl in let n = need_some k c in omega arith)) in
+    let bound : Bounds k c b s = goes_bounds k answers c b left l.keeps.hold (steady k c b (k ∷ outer) l.keeps refl) in
+    let made =
+    step_made k answers loaded nest trace c b (notes_in log) outer (stood loaded nest cost trace b.time c b (k ∷ outer) log l)
+    (λ j above. l.keeps.shut j (closed_above (k ∷ outer) j l.sorted above)) left in
     logged_after loaded nest cost trace c s.core b b' (k ∷ outer) (open_left k outer s) log (own_of b.time k notes) some refl l (record {
-      keeps = keeps_own k saved c b outer l.sorted l.keeps left bound;
+      keeps = keeps_own k c b outer s l.sorted l.keeps bound;
       sorted = left_stack s.over k outer l.sorted;
-      time = gates.time;
+      time = access_time b s.access;
       out = made.0;
-      patient = own_patient nest k outer (open_left k outer s) (due_now c.orders.save_asked b) (sees trace (journal loaded log) b.time) (sees trace (journal loaded (log ++ own_of b.time k notes ∷ [])) b.time) b.masked b'.masked c.hold s.core.hold (called loaded nest trace log)
-          (λ m. sees_due loaded nest trace c b (k ∷ outer) log l.keeps l.ground l.ties) none (left_goes s.over b'.masked k outer bound.back) held bound.mask.most bound.mask.less l.patient;
+      patient =
+          own_patient nest k outer (open_left k outer s) (due_now c.orders.save_asked b) (sees trace (journal loaded log) b.time)
+          (sees trace (journal loaded (log ++ own_of b.time k notes ∷ [])) b.time) b.masked b'.masked c.hold s.core.hold (called loaded nest trace log)
+          (λ m. sees_due loaded nest trace c b (k ∷ outer) log l.keeps l.ground l.ties) none
+          (left_goes s.over b'.masked k outer (mask_down k (need_of c k) c.hold b s bound.mask)) held (λ m. bound.mask.most) bound.mask.less l.patient;
       owes = own_owes c s.core outer log k b.time notes s.over l.owes bound.moves.less (λ j ne. (bound.moves.others j ne).0);
       reached = λ j o. reached_on cost trace log (own_of b.time k notes) j refl (l.at_next (λ e. cc)) (l.reached j (left_open s.over k j outer o));
-      reached_by = λ j o t below. by_on cost trace log (own_of b.time k notes) j t refl (l.at_next (λ e. cc)) (l.reached j (left_open s.over k j outer o)) below;
-      fits = own_fits loaded nest cost trace c b outer log k notes l made.1;
+      reached_by = λ j o t below.
+          by_on cost trace log (own_of b.time k notes) j t refl (l.at_next (λ e. cc)) (l.reached j (left_open s.over k j outer o)) below;
+      fits = own_fits loaded nest cost trace c b outer log k notes l made.1 made.2;
     })
 
 -- the open kinds after it, by what the handler did

@@ -39,7 +39,8 @@ last_below : (log : List Turned) (e : Turned) (t : ℕ) → Below t (log ++ e �
 last_below [] e t b = All-head (λ (x : Turned). x.tick < t) e [] b
 last_below (x ∷ log) e t b = last_below log e t (All-tail (λ (y : Turned). y.tick < t) x (log ++ e ∷ []) b)
 
-pub by_on : (cost : ℕ) (trace : List Event) (log : List Turned) (e : Turned) (j : Kind) (t : ℕ) → (e.enters && is_of j e) ≡ false → e.tick ≡ after cost trace log
+pub by_on : (cost : ℕ) (trace : List Event) (log : List Turned) (e : Turned) (j : Kind) (t : ℕ) → (e.enters && is_of j e) ≡ false
+    → e.tick ≡ after cost trace log
     → after cost trace log ≡ uses cost trace (steps_since j log + 1) (entered_at j log) → Below t (log ++ e ∷ [])
     → uses cost trace (steps_since j (log ++ e ∷ [])) (entered_at j (log ++ e ∷ [])) < t
 by_on cost trace log e j t f at h b =
@@ -51,9 +52,11 @@ by_new cost trace log e j t f b = rw (since-push j log e, entered-push j log e, 
 
 -- ---- what holds between two steps, in the words of the rooms
 
-pub stood : (loaded : Loaded) (nest : Nest) (cost : ℕ) (trace : List Event) (next : ℕ) (c : Brain) (b : Bank) (stack : List Kind) (log : List Turned) → Logged loaded nest cost trace next c b stack log → Stood loaded nest trace c b (notes_in log) stack
+pub stood : (loaded : Loaded) (nest : Nest) (cost : ℕ) (trace : List Event) (next : ℕ) (c : Brain) (b : Bank) (stack : List Kind) (log : List Turned)
+    → Logged loaded nest cost trace next c b stack log → Stood loaded nest trace c b (notes_in log) stack
 stood loaded nest cost trace next c b stack log l = record {
   said = record { in_time = l.marks.in_time; windowed = l.marks.windowed; nested = l.marks.nested; past = l.marks.past };
+  gates = l.marks.gates;
   ground = l.ground;
   ties = l.ties;
   stack_is = sym l.marks.stack_is;
@@ -61,46 +64,75 @@ stood loaded nest cost trace next c b stack log l = record {
 
 -- ---- the new log
 
+-- a kind's count after a step at t
+abbrev pub counted_by : Loaded → Nest → List Event → ℕ → List Kind → List Kind → List Turned → Turned → Kind → ℕ
+counted_by loaded nest trace t stack stack' log e k =
+    wait_next nest k (is_waiting (sees trace (journal loaded log) t) stack k) (is_waiting (sees trace (journal loaded (log ++ e ∷ [])) t) stack' k) (Some e.kind)
+    (called loaded nest trace log k)
+
 -- what a step of a kind gives, by its log entry
-pub record Given (loaded : Loaded) (nest : Nest) (cost : ℕ) (trace : List Event) (c' : Brain) (b b' : Bank) (stack stack' : List Kind) (log : List Turned) (e : Turned) : Type 0 where
+pub record Given (loaded : Loaded) (nest : Nest) (cost : ℕ) (trace : List Event) (c' : Brain) (b b' : Bank) (stack stack' : List Kind) (log : List Turned)
+    (e : Turned) : Type 0 where
   pub keeps : Keeps c' b' stack'
   pub sorted : IsStack stack'
   pub time : b'.time ≡ b.time
   pub out : Stood loaded nest trace c' b' (notes_in log ++ e.notes) stack'
   pub patient : Patient nest c'.hold b'.masked stack' (sees trace (journal loaded (log ++ e ∷ [])) b.time)
-      (λ k. wait_next nest k (is_waiting (sees trace (journal loaded log) b.time) stack k) (is_waiting (sees trace (journal loaded (log ++ e ∷ [])) b.time) stack' k) (Some e.kind) (called loaded nest trace log k))
+      (λ k. counted_by loaded nest trace b.time stack stack' log e k)
   pub owes : (k : Kind) → is_open stack' k ≡ true → own_steps k (log ++ e ∷ []) + left_of c' k ≤ most k
-  pub reached : (k : Kind) → is_open stack' k ≡ true → after cost trace (log ++ e ∷ []) ≡ uses cost trace (steps_since k (log ++ e ∷ []) + 1) (entered_at k (log ++ e ∷ []))
-  pub reached_by : (k : Kind) → is_open stack' k ≡ true → (t : ℕ) → Below t (log ++ e ∷ []) → uses cost trace (steps_since k (log ++ e ∷ [])) (entered_at k (log ++ e ∷ [])) < t
+  pub reached : (k : Kind) → is_open stack' k ≡ true
+      → after cost trace (log ++ e ∷ []) ≡ uses cost trace (steps_since k (log ++ e ∷ []) + 1) (entered_at k (log ++ e ∷ []))
+  pub reached_by : (k : Kind) → is_open stack' k ≡ true → (t : ℕ) → Below t (log ++ e ∷ [])
+      → uses cost trace (steps_since k (log ++ e ∷ [])) (entered_at k (log ++ e ∷ [])) < t
   pub fits : ((k : Kind) → called loaded nest trace (log ++ e ∷ []) k ≤ 8) → StepFits loaded nest cost trace log e
 
-counts_by : (nest : Nest) (k : Kind) (by : Option Kind) (n : ℕ) (seen seen' : ℕ → Kind → Bool) (t u : ℕ) (st now st' now' : List Kind) → t ≡ u → now ≡ st → now' ≡ st'
-    → wait_next nest k (is_waiting (seen t) st k) (is_waiting (seen' t) st' k) by n ≡ wait_next nest k (is_waiting (seen u) now k) (is_waiting (seen' u) now' k) by n
+counts_by : (nest : Nest) (k : Kind) (by : Option Kind) (n : ℕ) (seen seen' : ℕ → Kind → Bool) (t u : ℕ) (st now st' now' : List Kind) → t ≡ u → now ≡ st
+    → now' ≡ st'
+    → wait_next nest k (is_waiting (seen t) st k) (is_waiting (seen' t) st' k) by n ≡ wait_next nest k (is_waiting (seen u) now k)
+    (is_waiting (seen' u) now' k) by n
 counts_by nest k by n seen seen' t u st now st' now' e f g = rw (e, f, g) refl
 
-pub logged_after : (loaded : Loaded) (nest : Nest) (cost : ℕ) (trace : List Event) (c c' : Brain) (b b' : Bank) (stack stack' : List Kind) (log : List Turned) (e : Turned) → 1 ≤ cost
+pub logged_after : (loaded : Loaded) (nest : Nest) (cost : ℕ) (trace : List Event) (c c' : Brain) (b b' : Bank) (stack stack' : List Kind) (log : List Turned)
+    (e : Turned)
+    → 1 ≤ cost
     → e.tick ≡ b.time → Logged loaded nest cost trace b.time c b stack log → Given loaded nest cost trace c' b b' stack stack' log e
     → Logged loaded nest cost trace (b.time + cost) c' b' stack' (log ++ e ∷ [])
 logged_after loaded nest cost trace c c' b b' stack stack' log e some at l g =
-    let out : Stood loaded nest trace c' b' (notes_in (log ++ e ∷ [])) stack' = subst (λ (r : List Note). Stood loaded nest trace c' b' r stack') (sym (notes-push log e)) g.out in
+    let out : Stood loaded nest trace c' b' (notes_in (log ++ e ∷ [])) stack' =
+    subst (λ (r : List Note). Stood loaded nest trace c' b' r stack') (sym (notes-push log e)) g.out in
     let ends : All (λ x. stall_end x ≤ b.time + cost) trace = All-later stall_end trace b.time (b.time + cost) (omega arith) l.stalls in
-    let next : after cost trace (log ++ e ∷ []) ≡ b.time + cost = after-push cost trace log e ∙ ap (λ (t : ℕ). next_step cost trace t) at ∙ free_ended trace b.time (b.time + cost) l.stalls (omega arith) in
-    let counts : (k : Kind) → called loaded nest trace (log ++ e ∷ []) k ≡ wait_next nest k (is_waiting (sees trace (journal loaded log) b.time) stack k) (is_waiting (sees trace (journal loaded (log ++ e ∷ [])) b.time) stack' k) (Some e.kind) (called loaded nest trace log k) =
+    let next : after cost trace (log ++ e ∷ []) ≡ b.time + cost =
+    after-push cost trace log e ∙ ap (λ (t : ℕ). next_step cost trace t) at ∙ free_ended trace b.time (b.time + cost) l.stalls (omega arith) in
+    let counts : (k : Kind) → called loaded nest trace (log ++ e ∷ []) k ≡ counted_by loaded nest trace b.time stack stack' log e k =
     (λ k. called-push loaded nest trace log e k
-    ∙ counts_by nest k (Some e.kind) (called loaded nest trace log k) (λ t. sees trace (journal loaded log) t) (λ t. sees trace (journal loaded (log ++ e ∷ [])) t) e.tick b.time (open_in loaded log) stack (open_in loaded (log ++ e ∷ [])) stack'
+    ∙ counts_by nest k (Some e.kind) (called loaded nest trace log k) (λ t. sees trace (journal loaded log) t)
+    (λ t. sees trace (journal loaded (log ++ e ∷ [])) t) e.tick b.time (open_in loaded log) stack (open_in loaded (log ++ e ∷ [])) stack'
     at l.marks.stack_is (sym out.stack_is)) in
-    let patient = same_patient nest c'.hold b'.masked stack' (sees trace (journal loaded (log ++ e ∷ [])) b.time) _ (called loaded nest trace (log ++ e ∷ [])) counts g.patient in
+    let patient =
+    same_patient nest c'.hold b'.masked stack' (sees trace (journal loaded (log ++ e ∷ [])) b.time) _
+    (called loaded nest trace (log ++ e ∷ [])) counts g.patient in
     record {
       keeps = g.keeps;
       sorted = g.sorted;
-      marks = record { in_time = out.said.in_time; windowed = out.said.windowed; nested = out.said.nested; stack_is = sym out.stack_is; past = out.said.past };
+      marks = record {
+        in_time = out.said.in_time;
+        windowed = out.said.windowed;
+        nested = out.said.nested;
+        stack_is = sym out.stack_is;
+        past = out.said.past;
+        gates = out.gates;
+      };
       ground = out.ground;
       ties = out.ties;
-      patient = subst (λ (t : ℕ). Patient nest c'.hold b'.masked stack' (sees trace (journal loaded (log ++ e ∷ [])) t) (called loaded nest trace (log ++ e ∷ []))) (sym g.time) patient;
+      patient = subst
+          (λ (t : ℕ). Patient nest c'.hold b'.masked stack' (sees trace (journal loaded (log ++ e ∷ [])) t) (called loaded nest trace (log ++ e ∷ [])))
+          (sym g.time) patient;
       owes = g.owes;
       reached = g.reached;
       reached_by = g.reached_by;
-      fits = step-push (StepFits loaded nest cost trace) [] log e l.fits (g.fits (patient_most nest c'.hold b'.masked stack' (sees trace (journal loaded (log ++ e ∷ [])) b.time) (called loaded nest trace (log ++ e ∷ [])) patient));
+      fits = step-push (StepFits loaded nest cost trace) [] log e l.fits
+          (g.fits
+          (patient_most nest c'.hold b'.masked stack' (sees trace (journal loaded (log ++ e ∷ [])) b.time) (called loaded nest trace (log ++ e ∷ [])) patient));
       past = rw next (omega arith);
       awaits = record { open_step = λ o. rw next (omega arith); idle = λ o t from below f k. absurd (let n = next in omega arith) };
       time = rw g.time (omega arith);

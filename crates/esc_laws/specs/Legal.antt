@@ -1,3 +1,4 @@
+-- A law, or what a law is said with: what `Legal` means rests on this.
 -- Which journals are legal for a trace. Each part is a law of its own.
 use Rattle.std.specs.Prelude.{◌≡◌, ℕ, List, [], ◌∷◌, ◌++◌, All}
 use Rattle.esc_base.specs.declared.event.Event.{Event}
@@ -47,3 +48,4 @@ pub record LegalFront (loaded : Loaded) (nest : Nest) (cost : ℕ) (trace : List
   pub fits : EachStep (StepFits loaded nest cost trace) [] (log ++ broken ∷ [])
   pub below : Below broken.tick log
   pub all_made : Awaits loaded cost trace broken.tick log
+  pub open_few : OpenFew loaded log

@@ -1,10 +1,16 @@
+-- the laws, which end in `Legal`, and what a journal says of the flash
 pub mod Place
+pub mod Gates
 pub mod Windowed
 pub mod Nested
 pub mod Seen
 pub mod Steps
 pub mod Legal
 pub mod Saves
+-- what is shown of them
+pub mod Refused
+pub mod Allowed
+-- the machinery that proves a run legal
 pub mod Tied
 pub mod World
 pub mod Rooms

@@ -1,5 +1,6 @@
+-- Machinery, and no law: how a run is proved to be legal. Nothing that `Legal` means rests on this.
 -- For which trace and which log of steps the core, the registers and the open kinds stand.
-use Rattle.std.specs.Prelude.{◌≡◌, ◌≢◌, ◌<◌, ◌≤◌, ◌+◌, ℕ, true, false, List, [], All}
+use Rattle.std.specs.Prelude.{◌≡◌, ◌≢◌, ◌<◌, ◌≤◌, ◌+◌, ℕ, true, false, List, [], All, reverse}
 use Rattle.std.proofs.Common.{inl, inr}
 use Rattle.esc_base.specs.declared.kind.Kind.{Kind}
 use Rattle.esc_base.specs.declared.event.Event.{Event}
@@ -17,13 +18,13 @@ use Rattle.interrupt_machine.specs.Open.{is_open, IsStack}
 use Rattle.interrupt_machine.specs.Response.{Patient}
 use Rattle.interrupt_machine.specs.Turn.{Turn}
 use Rattle.esc_core.specs.Brain.{Brain}
-use Rattle.esc_core.specs.Saving.{IsMade}
-use Rattle.esc_core.specs.Firmware.{core_step, core_saves, entered_core, left_of}
+use Rattle.esc_core.specs.Calls.{IsMade}
+use Rattle.esc_core.specs.Firmware.{core_step, core_asked, entered_core, left_of}
 use Rattle.esc_laws.specs.Windowed.{Windowed}
 use Rattle.esc_laws.specs.Nested.{NestedAfter}
 use Rattle.esc_laws.specs.Seen.{sees}
 use Rattle.esc_laws.specs.Steps.{Turned, opening, notes_in, journal, open_in, free, after, uses, own_steps, steps_since, entered_at, called, EachStep, StepFits, Awaits, Below}
-use Rattle.esc_laws.specs.Tied.{Keeps}
+use Rattle.esc_laws.specs.Tied.{Keeps, GatesTied}
 use Rattle.esc_laws.specs.World.{world}
 use Rattle.esc_laws.specs.Rooms.{Ground, Tie}
 
@@ -31,23 +32,23 @@ use Rattle.esc_laws.specs.Rooms.{Ground, Tie}
 abbrev pub first_bank : Bank
 first_bank = written reset reg.CapArm 0
 
--- the journal keeps its laws, and is no later than now
+-- the journal keeps its laws, is no later than now, and its newest G tells the gate word
 pub record Marks (loaded : Loaded) (nest : Nest) (trace : List Event) (b : Bank) (stack : List Kind) (log : List Turned) : Type 0 where
   pub in_time : Journal (journal loaded log)
   pub windowed : Windowed loaded trace (journal loaded log)
   pub nested : NestedAfter nest (opening loaded) (notes_in log)
   pub stack_is : stack ≡ open_in loaded log
   pub past : All (λ n. time_of n ≤ b.time) (journal loaded log)
+  pub gates : GatesTied b.hi b.lo (reverse (journal loaded log))
 
 -- the tick at which an event's stall is over, 0 for one that is none
 abbrev pub stall_end : Event → ℕ
 stall_end (event.Stall at n) = at.0 + n
-stall_end (event.Edge at level) = 0
-stall_end (event.Comp at level) = 0
-stall_end (event.Serial at byte) = 0
+stall_end e = 0
 
 -- `next` is the tick of the next step, or earlier than it while nothing is due
-pub record Logged (loaded : Loaded) (nest : Nest) (cost : ℕ) (trace : List Event) (next : ℕ) (c : Brain) (b : Bank) (stack : List Kind) (log : List Turned) : Type 0 where
+pub record Logged (loaded : Loaded) (nest : Nest) (cost : ℕ) (trace : List Event) (next : ℕ) (c : Brain) (b : Bank) (stack : List Kind)
+    (log : List Turned) : Type 0 where
   pub keeps : Keeps c b stack
   pub sorted : IsStack stack
   pub marks : Marks loaded nest trace b stack log
@@ -72,9 +73,11 @@ pub record Logged (loaded : Loaded) (nest : Nest) (cost : ℕ) (trace : List Eve
 -- one step of the machine over the core, and what the flash tells before and after it
 abbrev pub CoreTurn : Nest → Brain → List Kind → Bank → Told → List Note → Brain → List Kind → Bank → Told → Type 0
 CoreTurn nest c stack b flash notes c' stack' b' flash' =
-    Turn (λ x k y. y ≡ entered_core x k) (λ x a f k did y a' f'. IsMade (λ saved. core_step k saved x a) (core_saves k x a) a f did y a' f') (λ x. x.orders.save_asked) nest c stack b flash notes c' stack' b' flash'
+    Turn (λ x k y. y ≡ entered_core x k) (λ x a f k did y a' f'. IsMade (λ answers. core_step k answers x a) (core_asked k x a) a f did y a' f')
+    (λ x. x.orders.save_asked) nest c stack b flash notes c' stack' b' flash'
 
 -- the log's entry for a step, at a tick
-abbrev pub turned : {nest : Nest} {c c' : Brain} {stack stack' : List Kind} {b b' : Bank} {flash flash' : Told} → ℕ → (notes : List Note) → CoreTurn nest c stack b flash notes c' stack' b' flash' → Turned
+abbrev pub turned : {nest : Nest} {c c' : Brain} {stack stack' : List Kind} {b b' : Bank} {flash flash' : Told} → ℕ → (notes : List Note)
+    → CoreTurn nest c stack b flash notes c' stack' b' flash' → Turned
 turned t notes (inl e) = record { tick = t; kind = e.0; enters = true; notes = notes }
 turned t notes (inr e) = record { tick = t; kind = e.0; enters = false; notes = notes }

@@ -1,3 +1,4 @@
+-- A law, or what a law is said with: what `Legal` means rests on this.
 -- How activations nest, and which notes belong to which activation.
 use Rattle.std.specs.Prelude.{◌≡◌, ◌<◌, ◌⊎◌, ℕ, List, Some, All}
 use Rattle.esc_base.specs.declared.kind.Kind.{Kind}
@@ -20,19 +21,25 @@ IsAboveAll One stack k = All (λ j. (kind_number j ≡ 0) × (0 < k)) stack
 abbrev pub IsIn : Kind → Place → Type 0
 IsIn k p = innermost p.stack ≡ Some k
 
+-- These kinds aren't built: no journal has an I of them. A kind leaves this list in the change that builds it, and gets its
+-- row of `HasDone` there.
+abbrev pub IsBuilt : Kind → Type 0
+IsBuilt kind.Uart = ⊥
+IsBuilt kind.Cmp = ⊥
+IsBuilt kind.Pwm = ⊥
+IsBuilt kind.Comm = ⊥
+IsBuilt k = Unit {0}
+
 -- a TICK that returns has one K; a CAP that returns has one F, or one W without an F; a MAIN that returns has one P
 abbrev pub HasDone : Kind → Place → Type 0
 HasDone kind.Tick p = p.ticks ≡ 1
 HasDone kind.Cap p = (p.verdicts ≡ 1) ⊎ ((p.verdicts ≡ 0) × (p.windows ≡ 1))
 HasDone kind.Main p = p.saves ≡ 1
-HasDone kind.Uart p = Unit {0}
-HasDone kind.Cmp p = Unit {0}
-HasDone kind.Pwm p = Unit {0}
-HasDone kind.Comm p = Unit {0}
+HasDone k p = ⊥
 
 -- the rule of a note at a place
 abbrev pub NestRuleAt : Nest → Place → Note → Type 0
-NestRuleAt nest p (note.Enter t k) = IsAboveAll nest p.stack k
+NestRuleAt nest p (note.Enter t k) = IsBuilt (kind_of k) × IsAboveAll nest p.stack k
 NestRuleAt nest p (note.Leave t k) = IsIn (kind_of k) p × HasDone (kind_of k) p
 NestRuleAt nest p (note.Window t m) = IsIn kind.Cap p
 NestRuleAt nest p (note.Good t v q) = IsIn kind.Cap p

@@ -1,3 +1,4 @@
+-- A law, or what a law is said with: what `Legal` means rests on this.
 -- What the notes say of the settings and of the flash. Places are bytes that are known, or not.
 use Rattle.std.specs.Prelude.{◌≡◌, ◌≤◌, ◌⊎◌, ℕ, Bool, true, false, ◌+◌, ◌*◌, ◌==◌, if◌then◌else◌, List, [], ◌∷◌, ◌++◌, take, drop, map, replicate, reverse, bit_and, Option, Some, None}
 use Rattle.std.specs.Option.{option_map}

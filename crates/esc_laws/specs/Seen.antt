@@ -1,3 +1,4 @@
+-- A law, or what a law is said with: what `Legal` means rests on this.
 -- Which kinds the notes, the trace and the time call for. Nothing here knows a register.
 use Rattle.std.specs.Prelude.{ℕ, ◌+◌, ◌/◌, Bool, false, nat_lt, nat_le, max, List, reverse}
 use Rattle.esc_base.specs.declared.kind.Kind.{Kind}

@@ -1,3 +1,4 @@
+-- A law, or what a law is said with: what `Legal` means rests on this.
 -- The log of the machine's steps with their ticks, of which the journal is the notes. No value keeps it: an entry has
 -- its own step alone, and each count is a fold over the log.
 use Rattle.std.specs.Prelude.{◌≡◌, ◌≢◌, ◌<◌, ◌≤◌, ◌+◌, ℕ, zero, suc, Bool, true, false, ◌&&◌, ◌==◌, if◌then◌else◌, nat_lt, nat_le, List, [], ◌∷◌, ◌++◌, Option, Some, None, All}
@@ -127,6 +128,12 @@ abbrev pub is_entry : Note → Bool
 is_entry (note.Enter t k) = true
 is_entry n = false
 
+-- only the last note is an O, where one is, and it is the kind's own
+abbrev pub ReturnsLast : Kind → List Note → Type 0
+ReturnsLast k [] = Unit {0}
+ReturnsLast k (note.Leave t j ∷ rest) = (j ≡ kind_number k) × (rest ≡ [])
+ReturnsLast k (n ∷ rest) = ReturnsLast k rest
+
 pub record StepFits (loaded : Loaded) (nest : Nest) (cost : ℕ) (trace : List Event) (before : List Turned) (e : Turned) : Type 0 where
   pub later : after cost trace before ≤ e.tick
   -- no step stands in a stall
@@ -144,9 +151,10 @@ pub record StepFits (loaded : Loaded) (nest : Nest) (cost : ℕ) (trace : List E
   pub reached : e.enters ≡ false → e.tick ≡ uses cost trace (steps_since e.kind (before ++ e ∷ [])) (entered_at e.kind before)
   pub some : e.enters ≡ false → 1 ≤ own_steps e.kind (before ++ e ∷ [])
   pub few : e.enters ≡ false → own_steps e.kind (before ++ e ∷ []) ≤ most e.kind
-  -- its notes stand at its tick, and an own step has no I
+  -- its notes stand at its tick, and an own step has no I, and no O but its own return at its end
   pub at_tick : All (λ n. time_of n ≡ e.tick) e.notes
   pub no_entry : e.enters ≡ false → All (λ n. is_entry n ≡ false) e.notes
+  pub returns : e.enters ≡ false → ReturnsLast e.kind e.notes
   -- no kind that is seen due waits for more than 8 counted steps
   pub patient : (k : Kind) → called loaded nest trace (before ++ e ∷ []) k ≤ 8
 

@@ -1,3 +1,4 @@
+-- Machinery, and no law: how a run is proved to be legal. Nothing that `Legal` means rests on this.
 -- What ties the core and the registers to what the notes and the trace say, by where CAP, TICK and MAIN stand. Each fact holds
 -- between any two steps, whatever higher kinds do meanwhile.
 use Rattle.std.specs.Prelude.{◌≡◌, ◌<◌, ◌≤◌, ◌+◌, ◌-◌, ◌/◌, ◌⊎◌, ℕ, Bool, true, false, List, length, take, Option, Some, None, All}
@@ -25,8 +26,9 @@ use Rattle.esc_core.specs.declared.state.MainAt.TheVariants as main
 use Rattle.esc_core.specs.declared.orders.Orders.{Orders}
 use Rattle.esc_core.specs.Brain.{Brain}
 use Rattle.esc_core.specs.Firmware.{left_of, need_of}
+use Rattle.esc_laws.specs.Gates.{high_at, low_at}
 use Rattle.esc_laws.specs.Saves.{settings_at}
-use Rattle.esc_laws.specs.Place.{Signal, Silent, Listens, Judged, Rests, Place}
+use Rattle.esc_laws.specs.Place.{Signal, Listens, Judged, Rests, Place}
 
 -- what the core, the registers and the notes say of the signal line
 pub record CapView : Type 0 where
@@ -117,28 +119,18 @@ abbrev pub CapIsDone : CapView → Type 0
 CapIsDone v = (v.verdicts ≡ 1) ⊎ ((v.verdicts ≡ 0) × (v.windows ≡ 1))
 
 abbrev pub SignalTied : Signal → CapAt → CapView → Type 0
-SignalTied Silent at v = ⊥
 SignalTied (Listens w m) cap.Shut v = IsListening v w m
 SignalTied (Listens w m) cap.Start v = IsClosing v w m
 SignalTied (Listens w m) (cap.Copy rest) v = IsCopying v w m rest
 SignalTied (Listens w m) cap.Judge v = IsClosing v w m × (v.copied ≡ v.window.edges)
-SignalTied (Listens w m) cap.Open v = ⊥
-SignalTied (Listens w m) (cap.Pause at) v = ⊥
 SignalTied (Listens w m) cap.Back v = IsListening v w m × CapIsDone v
 SignalTied (Judged f opens) cap.Open v = IsJudged v × (opens ≡ true)
 SignalTied (Judged f opens) (cap.Pause at) v = IsJudged v × ((opens ≡ false) × (at ≡ f + 600))
 SignalTied (Judged f opens) cap.Back v = IsPaused v f × ((opens ≡ false) × (v.verdicts ≡ 1))
-SignalTied (Judged f opens) cap.Shut v = ⊥
-SignalTied (Judged f opens) cap.Start v = ⊥
-SignalTied (Judged f opens) (cap.Copy rest) v = ⊥
-SignalTied (Judged f opens) cap.Judge v = ⊥
 SignalTied (Rests f r) cap.Shut v = IsPaused v f
 SignalTied (Rests f r) cap.Start v = IsOver v f
-SignalTied (Rests f r) (cap.Copy rest) v = ⊥
-SignalTied (Rests f r) cap.Judge v = ⊥
-SignalTied (Rests f r) cap.Open v = ⊥
-SignalTied (Rests f r) (cap.Pause at) v = ⊥
-SignalTied (Rests f r) cap.Back v = ⊥
+-- at the other places CAP doesn't stand
+SignalTied s at v = ⊥
 
 -- the edges that the capture has heard
 pub record WindowSound (w : Window) (time : ℕ) : Type 0 where
@@ -164,6 +156,11 @@ MainTied main.Back save saves = saves ≡ 1
 pub record OrdersTied (loaded : Loaded) (o : Orders) (back : List Note) : Type 0 where
   pub settings_are : o.settings ≡ settings_at loaded.settings back
   pub save_is : o.save_asked ≡ asked_at back
+
+-- the switches that are on are those of the newest G
+pub record GatesTied (hi lo : ℕ) (back : List Note) : Type 0 where
+  pub high : hi ≡ high_at back
+  pub low : lo ≡ low_at back
 
 -- what holds between any two steps of the core, the registers and the open kinds
 pub record Keeps (c : Brain) (b : Bank) (stack : List Kind) : Type 0 where

@@ -1,3 +1,4 @@
+-- A law, or what a law is said with: what `Legal` means rests on this.
 -- Windows and their verdicts. Each rule looks at a note, at all notes before it, and at the trace up to the note's time.
 use Rattle.std.specs.Prelude.{◌≡◌, ◌≤◌, ◌+◌, ℕ, true, false, List, [], reverse, Some}
 use Rattle.esc_base.specs.declared.event.Event.{Event}
@@ -9,9 +10,10 @@ use Rattle.esc_base.specs.Trace.{line}
 use Rattle.edge_capture.specs.Burst.{burst, close}
 use Rattle.settings_block.specs.declared.stored.Loaded.{Loaded}
 use Rattle.arming.specs.ControlAt.{mode_at}
-use Rattle.esc_core.specs.declared.judge.Judgement.{Judgement}
-use Rattle.esc_core.specs.declared.judge.Judgement.TheVariants.{Good, Bad, Found, Nothing}
-use Rattle.esc_core.specs.Judge.{inputs_of, judged}
+use Rattle.input_detect.specs.declared.window.Judgement.{Judgement}
+use Rattle.input_detect.specs.declared.window.Judgement.TheVariants.{Good, Bad, Found, Nothing}
+use Rattle.input_detect.specs.Judge.{judged}
+use Rattle.settings_block.specs.Settings.{servo_of}
 use Rattle.esc_laws.specs.Place.{Signal, Silent, Listens, Judged, Rests, Place, place}
 
 -- the F of a window
@@ -28,7 +30,7 @@ pub record Answers (loaded : Loaded) (trace : List Event) (w m entered t : ℕ) 
   pub closes : close (line trace).edges w (mode_of m) ≡ Some closed_at
   pub waits : closed_at ≤ entered
   pub entered_before : entered ≤ t
-  pub verdict_is : said ≡ verdict_note t (judged (inputs_of loaded.settings) (mode_of m) (burst (line trace).edges w (mode_of m)))
+  pub verdict_is : said ≡ verdict_note t (judged (mode_of m) (burst (line trace).edges w (mode_of m)) loaded.settings.input (servo_of loaded.settings))
 
 -- W and F alternate, so an F answers the newest W
 abbrev pub AnswersAt : Loaded → List Event → Signal → ℕ → ℕ → Note → Type 0

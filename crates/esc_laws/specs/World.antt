@@ -1,3 +1,4 @@
+-- Machinery, and no law: how a run is proved to be legal. Nothing that `Legal` means rests on this.
 -- What a step finds: the trace, the core, the registers, and the notes so far.
 use Rattle.std.specs.Prelude.{ℕ, if◌then◌else◌, List, [], ◌∷◌, ◌++◌, reverse}
 use Rattle.esc_base.specs.declared.kind.Kind.{Kind}
@@ -11,6 +12,7 @@ use Rattle.timer_regs.specs.Bank.{Bank}
 use Rattle.timer_regs.specs.Effects.{advanced, after_entry, after_line}
 use Rattle.interrupt_machine.specs.declared.nest.Nest.{Nest}
 use Rattle.interrupt_machine.specs.Did.{accessed}
+use Rattle.interrupt_machine.specs.Turn.{gate_note}
 use Rattle.esc_core.specs.Brain.{Brain}
 use Rattle.esc_core.specs.Firmware.{entered_core, counted_down}
 use Rattle.esc_core.specs.Stepped.{Stepped}
@@ -57,6 +59,14 @@ after_enter k w = record w { core = entered_core w.core k; bank = after_entry w.
 abbrev pub step_notes : ℕ → Kind → Stepped → List Note
 step_notes t k s = s.notes ++ (if s.over then note.Leave (as_tick t) (kind_number k) ∷ [] else [])
 
+-- with the G of a changed gate word, which stands before them
+abbrev pub all_notes : Bank → Kind → Stepped → List Note
+all_notes b k s = gate_note b.hi b.lo (accessed b s.access) ++ step_notes b.time k s
+
+-- such a G is noted
+abbrev pub gated : World → Bank → World
+gated w after = noted w (note.Gate (as_tick w.bank.time) after.hi after.lo)
+
 abbrev pub after_step : Kind → World → Stepped → World
 after_step k w s = record w { core = s.core; bank = accessed w.bank s.access; back = onto (step_notes w.bank.time k s) w.back }
 
@@ -74,10 +84,11 @@ at_time w u = record w { bank = advanced w.bank u }
 -- what an event at now leaves of the registers: an edge of the signal line changes them, others nothing
 abbrev pub after_event : Bank → Event → Bank
 after_event b (event.Edge at level) = after_line b level
-after_event b (event.Comp at level) = b
-after_event b (event.Serial at byte) = b
-after_event b (event.Stall at n) = b
+after_event b e = b
 
 -- an event touches these registers alone
 abbrev pub after_outside : World → Event → World
-after_outside w e = record w { trace = w.trace ++ e ∷ []; bank = record w.bank { level = (after_event w.bank e).level; window = (after_event w.bank e).window } }
+after_outside w e = record w {
+  trace = w.trace ++ e ∷ [];
+  bank = record w.bank { level = (after_event w.bank e).level; window = (after_event w.bank e).window };
+}

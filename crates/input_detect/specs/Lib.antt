@@ -1,1 +1,2 @@
 pub mod Detect
+pub mod Judge

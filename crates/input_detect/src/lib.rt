@@ -1,8 +1,10 @@
-//! The detection of the signal mode from one burst of edges.
+//! What a burst of edges is: in a window whose mode is known a frame or a pulse, else a signal mode that is detected.
 #![tactic(auto)]
 
 mod search;
 #[cfg(test)]
 mod tests;
+mod window;
 
 pub use search::{Seen, detect, is_good_in};
+pub use window::{Judgement, judge};

@@ -1,4 +1,4 @@
-use crate::{Seen, detect, is_good_in};
+use crate::{Judgement, Seen, detect, is_good_in, judge};
 use dshot_frame::encode;
 use edge_capture::{Burst, Edge};
 use esc_base::{Frame, Mode, Tick};
@@ -59,6 +59,11 @@ fn frames_are_seen(rt: HostRuntime) {
             Seen::None,
         );
         assert!(rt; is_good_in(mode, &burst, &RANGE));
+        let good = Judgement::Good(Frame {
+            value: 1046,
+            telemetry: false,
+        });
+        assert_eq!(rt; judge(mode, &burst, InputKind::Any, &RANGE), good);
     }
     is_seen(&rt, &frame(120, false), Seen::None, Seen::None, Seen::None);
 }

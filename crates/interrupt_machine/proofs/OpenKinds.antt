@@ -1,5 +1,6 @@
 -- The open kinds: the one that enters is above them, and each of them has steps left.
-use Rattle.std.proofs.Common.{◌≡◌, ◌≢◌, ◌<◌, ◌≤◌, ℕ, Bool, true, false, not, ◌&&◌, ◌||◌, ◌==◌, nat_lt, if◌then◌else◌, List, [], ◌∷◌, ◌++◌, Option, Some, None, refl, sym, ◌∙◌, ap, subst, arith, reverse, lit≤, ◌⊎◌, inl, inr}
+use Rattle.std.proofs.Common.{◌≡◌, ◌≢◌, ◌<◌, ◌≤◌, ℕ, Bool, true, false, not, ◌&&◌, ◌||◌, ◌==◌, nat_lt, if◌then◌else◌, List, [], ◌∷◌, ◌++◌, Option, Some, None, refl, sym, ◌∙◌, ap, subst, arith, reverse, lit≤, ◌⊎◌, inl, inr, zero, suc, ◌+◌, length, get_or, drop}
+use Rattle.std.specs.List.{find}
 use Rattle.std.proofs.lemmas.Bool.Decides.{nat_tests}
 use Rattle.std.proofs.lemmas.List.{reverse-append}
 use Rattle.esc_base.specs.declared.kind.Kind.{Kind}
@@ -11,40 +12,45 @@ use Rattle.timer_regs.specs.Kinds.{has_kind}
 use Rattle.timer_regs.specs.declared.kinds.KindSet.{KindSet}
 use Rattle.interrupt_machine.specs.declared.nest.Nest.{Nest}
 use Rattle.interrupt_machine.specs.declared.nest.Nest.TheVariants.{One, Full}
-use Rattle.interrupt_machine.specs.Open.{innermost, is_open, due_now, due_in, highest, may_enter, enters_above, next_entry, IsStack, IsAbove, outer_ones, kind_of}
+use Rattle.interrupt_machine.specs.Open.{innermost, is_open, due_now, due_in, by_priority, highest, may_enter, enters_above, next_entry, IsStack, IsAbove, outer_ones, kind_of}
 
 -- the highest kind of two sets that agree
 pub highest_same : (p q : Kind → Bool) → ((k : Kind) → p k ≡ q k) → highest p ≡ highest q
-highest_same p q h = rw (h kind.Comm, h kind.Pwm, h kind.Cmp, h kind.Cap, h kind.Tick, h kind.Uart, h kind.Main) refl
+highest_same p q h = same_in by_priority
+  where
+    same_in : (kinds : List Kind) → find p kinds ≡ find q kinds
+    same_in [] = refl
+    same_in (k ∷ rest) = rw (h k, same_in rest) refl
+
+-- one that isn't due is passed over
+pub find-passed_over : (due : Kind → Bool) (kinds : List Kind) (i : ℕ) (d : Kind) → i < length kinds → due (get_or kinds i d) ≡ false
+    → find due (drop i kinds) ≡ find due (drop (i + 1) kinds)
+find-passed_over due [] i d l e = absurd (omega arith)
+find-passed_over due (k ∷ kinds) zero d l e = rw e refl
+find-passed_over due (k ∷ kinds) (suc i) d l e =
+    let next : suc i + 1 ≡ suc (i + 1) = omega arith in
+    rw next (find-passed_over due kinds i d (omega arith) e)
 
 pub due_same : (waits : Bool) (set : KindSet) (b : Bank) → ((k : Kind) → has_kind set k ≡ is_due b k) → (k : Kind) → due_in waits set k ≡ due_now waits b k
 due_same waits set b h kind.Main = refl
-due_same waits set b h kind.Uart = h kind.Uart
-due_same waits set b h kind.Tick = h kind.Tick
-due_same waits set b h kind.Cap = h kind.Cap
-due_same waits set b h kind.Cmp = h kind.Cmp
-due_same waits set b h kind.Pwm = h kind.Pwm
-due_same waits set b h kind.Comm = h kind.Comm
+due_same waits set b h k = h k
 
 -- the highest due kind, by the set that the registers give
-pub due_is : (r : Option Kind) (w v : Bool) (set : KindSet) (b : Bank) → w ≡ v → r ≡ highest (due_in w set) → ((k : Kind) → has_kind set k ≡ is_due b k) → r ≡ highest (due_now v b)
+pub due_is : (r : Option Kind) (w v : Bool) (set : KindSet) (b : Bank) → w ≡ v → r ≡ highest (due_in w set) → ((k : Kind) → has_kind set k ≡ is_due b k)
+    → r ≡ highest (due_now v b)
 due_is r w v set b e h d = subst (λ (x : Bool). r ≡ highest (due_now x b)) e (h ∙ highest_same (due_in w set) (due_now w b) (due_same w set b d))
 
 pub number_most : (k : Kind) → kind_number k ≤ 6
 number_most kind.Main = lit≤ tt
-number_most kind.Uart = lit≤ tt
-number_most kind.Tick = lit≤ tt
-number_most kind.Cap = lit≤ tt
-number_most kind.Cmp = lit≤ tt
-number_most kind.Pwm = lit≤ tt
-number_most kind.Comm = lit≤ tt
+number_most k = lit≤ tt
 
 -- the kind that enters is a due one, and may enter
 entry_may : (nest : Nest) (inner : Option Kind) (o : Option Kind) (k : Kind) → enters_above nest inner o ≡ Some k → may_enter nest inner k ≡ true
 entry_may nest inner None k e = cc
 entry_may nest inner (Some j) k e = may_at nest inner j k (may_enter nest inner j) refl e
   where
-    may_at : (nest : Nest) (inner : Option Kind) (j k : Kind) (v : Bool) → may_enter nest inner j ≡ v → (if v then Some j else None) ≡ Some k → may_enter nest inner k ≡ true
+    may_at : (nest : Nest) (inner : Option Kind) (j k : Kind) (v : Bool) → may_enter nest inner j ≡ v → (if v then Some j else None) ≡ Some k
+        → may_enter nest inner k ≡ true
     may_at nest inner j k true m e = let s : j ≡ k = cc in subst (λ (x : Kind). may_enter nest inner x ≡ true) s m
     may_at nest inner j k false m e = cc
 
@@ -84,12 +90,7 @@ closed_above (i ∷ outer) k s a =
 
 pub kind_of-number : (k : Kind) → kind_of (kind_number k) ≡ k
 kind_of-number kind.Main = refl
-kind_of-number kind.Uart = refl
-kind_of-number kind.Tick = refl
-kind_of-number kind.Cap = refl
-kind_of-number kind.Cmp = refl
-kind_of-number kind.Pwm = refl
-kind_of-number kind.Comm = refl
+kind_of-number k = refl
 
 pub number_same : (j k : Kind) → kind_number j ≡ kind_number k → j ≡ k
 number_same j k e = sym (kind_of-number j) ∙ ap kind_of e ∙ kind_of-number k
@@ -122,7 +123,10 @@ or_right false b e = e
 pub live_less : (before after : Kind → ℕ) (k : Kind) (outer : List Kind) → IsStack (k ∷ outer) → ((j : Kind) → is_open (k ∷ outer) j ≡ true → 0 < before j)
     → ((j : Kind) → j ≢ k → after j ≡ before j) → (j : Kind) → is_open outer j ≡ true → 0 < after j
 live_less before after k outer stack live others j o = elim (same_kind j k) [
-  | inl s ↦ absurd (let shut = closed_above outer k stack.1 stack.0 in let found : is_open outer k ≡ true = subst (λ (x : Kind). is_open outer x ≡ true) s o in (let z = sym found ∙ shut in cc))
+  | inl s ↦ absurd
+      (let shut = closed_above outer k stack.1 stack.0 in
+      let found : is_open outer k ≡ true = subst (λ (x : Kind). is_open outer x ≡ true) s o in
+      (let z = sym found ∙ shut in cc))
   | inr ne ↦ rw (others j ne) (live j (or_right _ (is_open outer j) o))
 ]
 
@@ -140,6 +144,11 @@ live_entry before after k stack live own others j o = elim (same_kind j k) [
 
     or_other : (k j : Kind) (stack : List Kind) → j ≢ k → is_open (k ∷ stack) j ≡ true → is_open stack j ≡ true
     or_other k j stack ne e = or_left (kind_number k) (kind_number j) (is_open stack j) (λ s. ne (sym (number_same k j s))) e
+
+-- where one is the innermost, some are open
+pub some_kinds : (stack : List Kind) (k : Kind) → innermost stack ≡ Some k → stack ≢ []
+some_kinds [] k e = cc
+some_kinds (j ∷ outer) k e = λ n. cc
 
 -- the innermost kind is the first
 pub innermost_first : (stack : List Kind) (k : Kind) → innermost stack ≡ Some k → stack ≡ k ∷ outer_ones stack

@@ -42,4 +42,5 @@ more_spends left old new j (x ∷ outer) i own others = own_spends left old new 
 pub back_spends : {F : Type 0} (left : F → Kind → ℕ) (old new : F) (j : Kind) (stack stack' : List Kind) → innermost stack ≡ Some j → stack' ≡ outer_ones stack
     → left new j < left old j → ((k : Kind) → k ≢ j → left new k ≡ left old k) → SpendsOwnSteps left old stack new stack'
 back_spends left old new j [] stack' i s own others = cc
-back_spends left old new j (x ∷ outer) stack' i s own others = rw s (own_spends left old new j (x ∷ outer) outer i (omega arith) (shorter x outer ∙ i) own others)
+back_spends left old new j (x ∷ outer) stack' i s own others =
+    rw s (own_spends left old new j (x ∷ outer) outer i (omega arith) (shorter x outer ∙ i) own others)

@@ -13,7 +13,8 @@ use Rattle.interrupt_machine.specs.Open.{innermost, outer_ones, next_entry, due_
 use Rattle.interrupt_machine.specs.Turn.{OwnStep, gate_note, leave_note, open_after}
 use Rattle.interrupt_machine.proofs.OpenKinds.{innermost_first}
 
-pub own_is : {F : Type 0} (made : F → Bank → Told → Kind → Did → F → Bank → Told → Type 0) (waits : F → Bool) (nest : Nest) (old new : F) (stack stack' : List Kind) (b a : Bank) (flash flash' : Told) (k : Kind) (did : Did) (gates notes : List Note) (hi lo : ℕ)
+pub own_is : {F : Type 0} (made : F → Bank → Told → Kind → Did → F → Bank → Told → Type 0) (waits : F → Bool) (nest : Nest) (old new : F)
+    (stack stack' : List Kind) (b a : Bank) (flash flash' : Told) (k : Kind) (did : Did) (gates notes : List Note) (hi lo : ℕ)
     → (b.masked ≡ false → next_entry nest stack (due_now (waits old) b) ≡ None)
     → innermost stack ≡ Some k
     → made old b flash k did new a flash'
@@ -38,9 +39,11 @@ own_is made waits nest old new stack stack' b a flash flash' k did gates notes h
 )
 
 -- the stack of an activation that goes on
-pub goes_on : (stack : List Kind) (k : Kind) (did : Did) (own : ArrayVec Note) → innermost stack ≡ Some k → did ≡ More own → stack ≡ open_after k (outer_ones stack) did
+pub goes_on : (stack : List Kind) (k : Kind) (did : Did) (own : ArrayVec Note) → innermost stack ≡ Some k → did ≡ More own
+    → stack ≡ open_after k (outer_ones stack) did
 goes_on stack k did own i e = rw e (innermost_first stack k i)
 
 -- and of one that returned
-pub went_back : (stack stack' : List Kind) (k : Kind) (did : Did) (own : ArrayVec Note) → stack' ≡ outer_ones stack → did ≡ Return own → stack' ≡ open_after k (outer_ones stack) did
+pub went_back : (stack stack' : List Kind) (k : Kind) (did : Did) (own : ArrayVec Note) → stack' ≡ outer_ones stack → did ≡ Return own
+    → stack' ≡ open_after k (outer_ones stack) did
 went_back stack stack' k did own s e = rw e s

@@ -1,7 +1,8 @@
 -- A due kind that waits is entered after at most 8 masked steps and one further step.
-use Rattle.std.proofs.Common.{◌≡◌, ◌≢◌, ◌<◌, ◌≤◌, ◌+◌, ℕ, Bool, true, false, not, ◌&&◌, ◌==◌, if◌then◌else◌, List, [], ◌∷◌, ◌++◌, length, Option, Some, None, refl, sym, ◌∙◌, ap, subst, arith, ◌⊎◌, inl, inr, pos_of_ne-zero}
+use Rattle.std.proofs.Common.{◌≡◌, ◌≢◌, ◌<◌, ◌≤◌, ◌+◌, ℕ, Bool, true, false, not, ◌&&◌, ◌==◌, if◌then◌else◌, List, [], ◌∷◌, ◌++◌, length, Option, Some, None, refl, sym, ◌∙◌, ap, subst, arith, ◌⊎◌, inl, inr, pos_of_ne-zero, lit<}
 use Rattle.std.proofs.Math.Numerals.{lt_of_le_of_ne}
-use Rattle.std.proofs.lemmas.Bool.{cases_Bool, and_parts, not-true, leb-true, leb-false, lt-ltb, le-ltb, eqb-true, eqb-false, ne_eqb, lt-leb, or_left, or_parts, eq-eqb}
+use Rattle.std.proofs.lemmas.Bool.{cases_Bool, cases_lt, and_parts, not-true, leb-true, leb-false, lt-ltb, le-ltb, eqb-true, eqb-false, ne_eqb, lt-leb, or_left, or_parts, eq-eqb}
+use Rattle.std.specs.List.{find}
 use Rattle.std.proofs.lemmas.Bool.Decides.{nat_tests}
 use Rattle.std.proofs.lemmas.List.Sums.{fold_push}
 use Rattle.esc_base.specs.declared.kind.Kind.{Kind}
@@ -11,9 +12,9 @@ use Rattle.timer_regs.specs.Bank.{Bank}
 use Rattle.timer_regs.specs.Effects.{after_entry}
 use Rattle.interrupt_machine.specs.declared.nest.Nest.{Nest}
 use Rattle.interrupt_machine.specs.declared.nest.Nest.TheVariants.{One, Full}
-use Rattle.interrupt_machine.specs.Open.{innermost, outer_ones, is_open, highest, may_enter, enters_above, next_entry}
+use Rattle.interrupt_machine.specs.Open.{innermost, outer_ones, is_open, by_priority, highest, may_enter, enters_above, next_entry, IsStack}
 use Rattle.interrupt_machine.specs.Response.{is_waiting, is_behind, counts, Moment, Stepped, Passed, stepper, wait_next, waited_next, waited, room, Patient, Responds}
-use Rattle.interrupt_machine.proofs.OpenKinds.{number_same}
+use Rattle.interrupt_machine.proofs.OpenKinds.{number_same, closed_above}
 
 pub waited-push : (nest : Nest) (log : List Moment) (m : Moment) (k : Kind) → waited nest (log ++ m ∷ []) k ≡ waited_next nest k (waited nest log k) m
 unfolding waited
@@ -26,72 +27,66 @@ waits_parts due stack k e = let b = and_parts (due k) (not (is_open stack k)) e 
 
 -- ---- the highest due kind
 
-level : (v : Bool) (h : Kind) (rest : Option Kind) (j : Kind) (n : ℕ) → n ≤ kind_number h → (rest ≡ Some j → n ≤ kind_number j) → (if v then Some h else rest) ≡ Some j → n ≤ kind_number j
-level true h rest j n le r e = let s : h ≡ j = cc in subst (λ (x : Kind). n ≤ kind_number x) s le
-level false h rest j n le r e = r e
+-- every kind is one of them
+listed : (k : Kind) → is_open by_priority k ≡ true
+listed kind.Main = refl
+listed k = refl
 
-here : (v : Bool) (h : Kind) (rest : Option Kind) (j : Kind) → v ≡ true → (if v then Some h else rest) ≡ Some j → kind_number h ≤ kind_number j
-here true h rest j t e = let s : h ≡ j = cc in subst (λ (x : Kind). kind_number h ≤ kind_number x) s (omega arith)
-here false h rest j t e = cc
+-- each is higher than those after it
+falling : IsStack by_priority
+falling = (lit< tt, (lit< tt, (lit< tt, (lit< tt, (lit< tt, (lit< tt, (tt, tt)))))))
+
+first_most : (h : Kind) (rest : List Kind) (k : Kind) → IsStack (h ∷ rest) → is_open (h ∷ rest) k ≡ true → kind_number k ≤ kind_number h
+first_most h rest k falls within = elim (cases_lt (kind_number h) (kind_number k)) [
+  | inl higher ↦ absurd (let z : true ≡ false = sym within ∙ closed_above (h ∷ rest) k falls higher in cc)
+  | inr not_higher ↦ omega arith
+]
+
+most_in : (due : Kind → Bool) (kinds : List Kind) (j k : Kind) → IsStack kinds → is_open kinds k ≡ true → due k ≡ true → find due kinds ≡ Some j
+    → kind_number k ≤ kind_number j
+most_in due [] j k falls within d e = absurd (let z : false ≡ true = within in cc)
+most_in due (h ∷ rest) j k falls within d e = elim (cases_Bool (due h)) [
+  | inl here ↦ (
+      let z : Some h ≡ Some j = rw here at e in
+      let s : h ≡ j = cc in
+      subst (λ (x : Kind). kind_number k ≤ kind_number x) s (first_most h rest k falls within))
+  | inr not_here ↦ (
+      let other : kind_number h ≡ kind_number k → ⊥ =
+      (λ n. let z : true ≡ false = sym d ∙ subst (λ (x : Kind). due x ≡ false) (number_same h k n) not_here in cc) in
+      most_in due rest j k falls.1 (rw (ne_eqb (kind_number h) (kind_number k) other) at within) d (rw not_here at e))
+]
 
 -- no due kind is higher than the highest one
 pub highest_most : (due : Kind → Bool) (j k : Kind) → due k ≡ true → highest due ≡ Some j → kind_number k ≤ kind_number j
-highest_most due j kind.Comm d e = here (due kind.Comm) kind.Comm _ j d e
-highest_most due j kind.Pwm d e =
-    level (due kind.Comm) kind.Comm _ j 5 (omega arith) (here (due kind.Pwm) kind.Pwm _ j d) e
-highest_most due j kind.Cmp d e =
-    level (due kind.Comm) kind.Comm _ j 4 (omega arith) (level (due kind.Pwm) kind.Pwm _ j 4 (omega arith)
-    (here (due kind.Cmp) kind.Cmp _ j d)) e
-highest_most due j kind.Cap d e =
-    level (due kind.Comm) kind.Comm _ j 3 (omega arith) (level (due kind.Pwm) kind.Pwm _ j 3 (omega arith)
-    (level (due kind.Cmp) kind.Cmp _ j 3 (omega arith) (here (due kind.Cap) kind.Cap _ j d))) e
-highest_most due j kind.Tick d e =
-    level (due kind.Comm) kind.Comm _ j 2 (omega arith) (level (due kind.Pwm) kind.Pwm _ j 2 (omega arith)
-    (level (due kind.Cmp) kind.Cmp _ j 2 (omega arith) (level (due kind.Cap) kind.Cap _ j 2 (omega arith)
-    (here (due kind.Tick) kind.Tick _ j d)))) e
-highest_most due j kind.Uart d e =
-    level (due kind.Comm) kind.Comm _ j 1 (omega arith) (level (due kind.Pwm) kind.Pwm _ j 1 (omega arith)
-    (level (due kind.Cmp) kind.Cmp _ j 1 (omega arith) (level (due kind.Cap) kind.Cap _ j 1 (omega arith)
-    (level (due kind.Tick) kind.Tick _ j 1 (omega arith) (here (due kind.Uart) kind.Uart _ j d))))) e
-highest_most due j kind.Main d e = omega arith
+highest_most due j k d e = most_in due by_priority j k falling (listed k) d e
 
-next_none : (v : Bool) (h : Kind) (rest : Option Kind) → (if v then Some h else rest) ≡ None → rest ≡ None
-next_none true h rest e = cc
-next_none false h rest e = e
+none_here : (v : Bool) (h : Kind) (rest : Option Kind) → (if v then Some h else rest) ≡ None → (v ≡ false) × (rest ≡ None)
+none_here true h rest e = cc
+none_here false h rest e = (refl, e)
 
-not_here : (v : Bool) (h : Kind) (rest : Option Kind) → (if v then Some h else rest) ≡ None → v ≡ false
-not_here true h rest e = cc
-not_here false h rest e = refl
+none_in : (due : Kind → Bool) (kinds : List Kind) (k : Kind) → is_open kinds k ≡ true → find due kinds ≡ None → due k ≡ false
+none_in due [] k within e = absurd (let z : false ≡ true = within in cc)
+none_in due (h ∷ rest) k within e =
+    let none = none_here (due h) h (find due rest) e in
+    elim (cases_Bool (kind_number h == kind_number k)) [
+      | inl same ↦ subst (λ (x : Kind). due x ≡ false) (number_same h k (eqb-true (kind_number h) (kind_number k) same)) none.0
+      | inr other ↦ none_in due rest k (rw other at within) none.1
+    ]
 
 -- where there is no highest kind, none is due
 pub highest_none : (due : Kind → Bool) (k : Kind) → highest due ≡ None → due k ≡ false
-highest_none due k e =
-    let comm = next_none (due kind.Comm) kind.Comm _ e in
-    let pwm = next_none (due kind.Pwm) kind.Pwm _ comm in
-    let cmp = next_none (due kind.Cmp) kind.Cmp _ pwm in
-    let cap = next_none (due kind.Cap) kind.Cap _ cmp in
-    let tick = next_none (due kind.Tick) kind.Tick _ cap in
-    let uart = next_none (due kind.Uart) kind.Uart _ tick in
-    elim k as (λ x. due x ≡ false) [
-      | kind.Main ↦ not_here (due kind.Main) kind.Main None uart
-      | kind.Uart ↦ not_here (due kind.Uart) kind.Uart _ tick
-      | kind.Tick ↦ not_here (due kind.Tick) kind.Tick _ cap
-      | kind.Cap ↦ not_here (due kind.Cap) kind.Cap _ cmp
-      | kind.Cmp ↦ not_here (due kind.Cmp) kind.Cmp _ pwm
-      | kind.Pwm ↦ not_here (due kind.Pwm) kind.Pwm _ comm
-      | kind.Comm ↦ not_here (due kind.Comm) kind.Comm _ e
-    ]
+highest_none due k e = none_in due by_priority k (listed k) e
 
-pick : (v : Bool) (h : Kind) (rest : Option Kind) (j : Kind) (due : Kind → Bool) → due h ≡ v → (rest ≡ Some j → due j ≡ true) → (if v then Some h else rest) ≡ Some j → due j ≡ true
-pick true h rest j due d r e = let s : h ≡ j = cc in subst (λ (x : Kind). due x ≡ true) s d
-pick false h rest j due d r e = r e
+first_is_due : (due : Kind → Bool) (kinds : List Kind) (j : Kind) → find due kinds ≡ Some j → due j ≡ true
+first_is_due due [] j e = (let z : None ≡ Some j = e in cc)
+first_is_due due (h ∷ rest) j e = elim (cases_Bool (due h)) [
+  | inl here ↦ (let z : Some h ≡ Some j = rw here at e in let s : h ≡ j = cc in subst (λ (x : Kind). due x ≡ true) s here)
+  | inr not_here ↦ first_is_due due rest j (rw not_here at e)
+]
 
 -- the highest kind is due
 pub highest_is_due : (due : Kind → Bool) (j : Kind) → highest due ≡ Some j → due j ≡ true
-highest_is_due due j e =
-    pick (due kind.Comm) kind.Comm _ j due refl (pick (due kind.Pwm) kind.Pwm _ j due refl (pick (due kind.Cmp) kind.Cmp _ j due refl
-    (pick (due kind.Cap) kind.Cap _ j due refl (pick (due kind.Tick) kind.Tick _ j due refl (pick (due kind.Uart) kind.Uart _ j due refl
-    (pick (due kind.Main) kind.Main None j due refl (λ f. let z : None ≡ Some j = f in cc))))))) e
+highest_is_due due j e = first_is_due due by_priority j e
 
 -- what enters is the highest due kind
 entry_at : (nest : Nest) (inner : Option Kind) (o : Option Kind) (j : Kind) → enters_above nest inner o ≡ Some j → o ≡ Some j
@@ -107,7 +102,7 @@ entry_highest nest stack due j e = entry_at nest (innermost stack) (highest due)
 
 -- where none enters, the highest due kind may not
 none_at : (nest : Nest) (inner : Option Kind) (h : Kind) → enters_above nest inner (Some h) ≡ None → may_enter nest inner h ≡ false
-none_at nest inner h e = not_here (may_enter nest inner h) h None e
+none_at nest inner h e = (none_here (may_enter nest inner h) h None e).0
 
 -- ---- one step
 
@@ -137,7 +132,8 @@ may_above One k j h e ne le = main_below (kind_number j) (kind_number k) (kind_n
     main_below j k h e ne le = grind (arith, nat_tests)
 
 -- where the mask is down and no kind enters, no counted step keeps a due kind out
-none_kept : (nest : Nest) (j k : Kind) (outer : List Kind) (due : Kind → Bool) → counts nest k (Some j) ≡ true → k ≢ j → due k ≡ true → next_entry nest (j ∷ outer) due ≡ None → ⊥
+none_kept : (nest : Nest) (j k : Kind) (outer : List Kind) (due : Kind → Bool) → counts nest k (Some j) ≡ true → k ≢ j → due k ≡ true
+    → next_entry nest (j ∷ outer) due ≡ None → ⊥
 none_kept nest j k outer due c ne d e = by_highest (highest due) refl
   where
     by_highest : (o : Option Kind) → highest due ≡ o → ⊥
@@ -185,10 +181,12 @@ wait_fresh : (nest : Nest) (k : Kind) (b a : Bool) (by : Option Kind) (w : ℕ) 
 wait_fresh nest k true a by w e = cc
 wait_fresh nest k false a by w e = refl
 
-wait_uncounted : (nest : Nest) (k : Kind) (b a : Bool) (by : Option Kind) (w : ℕ) → b ≡ true → a ≡ true → counts nest k by ≡ false → wait_next nest k b a by w ≡ w
+wait_uncounted : (nest : Nest) (k : Kind) (b a : Bool) (by : Option Kind) (w : ℕ) → b ≡ true → a ≡ true → counts nest k by ≡ false
+    → wait_next nest k b a by w ≡ w
 wait_uncounted nest k b a by w e f c = rw (e, f, c) refl
 
-wait_counted : (nest : Nest) (k : Kind) (b a : Bool) (by : Option Kind) (w : ℕ) → b ≡ true → a ≡ true → counts nest k by ≡ true → wait_next nest k b a by w ≡ w + 1
+wait_counted : (nest : Nest) (k : Kind) (b a : Bool) (by : Option Kind) (w : ℕ) → b ≡ true → a ≡ true → counts nest k by ≡ true
+    → wait_next nest k b a by w ≡ w + 1
 wait_counted nest k b a by w e f c = rw (e, f, c) refl
 
 pub self_open : (j : Kind) (stack : List Kind) → is_open (j ∷ stack) j ≡ true
@@ -235,11 +233,12 @@ own_patient nest j outer stack' due seen seen' masked masked' hold hold' w sees 
           let parts = waits_parts seen (j ∷ outer) k before in
           let ne = other_kind k j outer parts.1 in
           elim (cases_Bool (counts nest k (Some j))) [
-            | inl c ↦ rw (wait_counted nest k (is_waiting seen (j ∷ outer) k) (is_waiting seen' stack' k) (Some j) (w k) before after c) (elim (cases_Bool masked) [
-              | inl m ↦ rest_kept (is_behind nest (innermost stack') k) masked' (w k + 1) hold'
-                  (less_room masked masked' hold hold' (w k) m (some m) (less m) (rw (not_behind nest k j c) at (p.bound k)))
-              | inr m ↦ absurd (none_kept nest j k outer due c ne (sees m k before) (none m))
-            ])
+            | inl c ↦ rw (wait_counted nest k (is_waiting seen (j ∷ outer) k) (is_waiting seen' stack' k) (Some j) (w k) before after c)
+                (elim (cases_Bool masked) [
+                  | inl m ↦ rest_kept (is_behind nest (innermost stack') k) masked' (w k + 1) hold'
+                      (less_room masked masked' hold hold' (w k) m (some m) (less m) (rw (not_behind nest k j c) at (p.bound k)))
+                  | inr m ↦ absurd (none_kept nest j k outer due c ne (sees m k before) (none m))
+                ])
             | inr n ↦ rw (wait_uncounted nest k (is_waiting seen (j ∷ outer) k) (is_waiting seen' stack' k) (Some j) (w k) before after n) (
                 let le = drop_rest (w k) _ (p.bound k) in
                 elim goes [
@@ -258,21 +257,25 @@ pub pass_patient : (nest : Nest) (stack : List Kind) (seen seen' : Kind → Bool
     → Patient nest hold masked stack seen' (λ k. wait_next nest k (is_waiting seen stack k) (is_waiting seen' stack k) None (w k))
 pass_patient nest stack seen seen' masked hold w p = record {
   bound = λ k. elim (cases_Bool (is_waiting seen' stack k)) [
-    | inr over ↦ rw (wait_over nest k (is_waiting seen stack k) (is_waiting seen' stack k) None (w k) over) (rest_room (is_behind nest (innermost stack) k) masked hold p.held)
+    | inr over ↦ rw (wait_over nest k (is_waiting seen stack k) (is_waiting seen' stack k) None (w k) over)
+        (rest_room (is_behind nest (innermost stack) k) masked hold p.held)
     | inl after ↦ elim (cases_Bool (is_waiting seen stack k)) [
       | inl before ↦ rw (wait_uncounted nest k (is_waiting seen stack k) (is_waiting seen' stack k) None (w k) before after refl) (p.bound k)
-      | inr fresh ↦ rw (wait_fresh nest k (is_waiting seen stack k) (is_waiting seen' stack k) None (w k) fresh) (rest_room (is_behind nest (innermost stack) k) masked hold p.held)
+      | inr fresh ↦ rw (wait_fresh nest k (is_waiting seen stack k) (is_waiting seen' stack k) None (w k) fresh)
+          (rest_room (is_behind nest (innermost stack) k) masked hold p.held)
     ]
   ];
   held = p.held;
 }
 
 -- the same where the count is by steps alone
-pub grow_patient : (nest : Nest) (stack : List Kind) (seen seen' : Kind → Bool) (masked : Bool) (hold : ℕ) (w : Kind → ℕ) → Patient nest hold masked stack seen w → Patient nest hold masked stack seen' w
+pub grow_patient : (nest : Nest) (stack : List Kind) (seen seen' : Kind → Bool) (masked : Bool) (hold : ℕ) (w : Kind → ℕ)
+    → Patient nest hold masked stack seen w → Patient nest hold masked stack seen' w
 grow_patient nest stack seen seen' masked hold w p = record { bound = p.bound; held = p.held }
 
 -- equal counts
-pub same_patient : (nest : Nest) (hold : ℕ) (masked : Bool) (stack : List Kind) (due : Kind → Bool) (w w' : Kind → ℕ) → ((k : Kind) → w' k ≡ w k) → Patient nest hold masked stack due w → Patient nest hold masked stack due w'
+pub same_patient : (nest : Nest) (hold : ℕ) (masked : Bool) (stack : List Kind) (due : Kind → Bool) (w w' : Kind → ℕ) → ((k : Kind) → w' k ≡ w k)
+    → Patient nest hold masked stack due w → Patient nest hold masked stack due w'
 same_patient nest hold masked stack due w w' e p = record {
   bound = λ k. rw (e k) (p.bound k);
   held = p.held;
@@ -280,10 +283,12 @@ same_patient nest hold masked stack due w w' e p = record {
 
 -- ---- along a log
 
-pub patient_most : (nest : Nest) (hold : ℕ) (masked : Bool) (stack : List Kind) (due : Kind → Bool) (w : Kind → ℕ) → Patient nest hold masked stack due w → (k : Kind) → w k ≤ 8
+pub patient_most : (nest : Nest) (hold : ℕ) (masked : Bool) (stack : List Kind) (due : Kind → Bool) (w : Kind → ℕ) → Patient nest hold masked stack due w
+    → (k : Kind) → w k ≤ 8
 patient_most nest hold masked stack due w p k = drop_rest (w k) _ (p.bound k)
 
-responds : (nest : Nest) (hold : ℕ) (masked : Bool) (stack : List Kind) (due : Kind → Bool) (log : List Moment) → Patient nest hold masked stack due (waited nest log) → Responds nest hold masked stack due log
+responds : (nest : Nest) (hold : ℕ) (masked : Bool) (stack : List Kind) (due : Kind → Bool) (log : List Moment)
+    → Patient nest hold masked stack due (waited nest log) → Responds nest hold masked stack due log
 responds nest hold masked stack due log p = record { patient = p; most = patient_most nest hold masked stack due (waited nest log) p }
 
 waited-none : (nest : Nest) (k : Kind) → waited nest [] k ≡ 0
@@ -311,7 +316,8 @@ entry_responds : (nest : Nest) (hold hold' : ℕ) (stack : List Kind) (due due' 
     → Responds nest hold' false (j ∷ stack) due' (log ++ Stepped stack due (j ∷ stack) due' ∷ [])
 entry_responds nest hold hold' stack due due' j log chosen r =
     responds nest hold' false (j ∷ stack) due' _ (same_patient nest hold' false (j ∷ stack) due' _ _
-    (λ k. waited-push nest log (Stepped stack due (j ∷ stack) due') k ∙ ap (λ (by : Option Kind). wait_next nest k (is_waiting due stack k) (is_waiting due' (j ∷ stack) k) by (waited nest log k)) (longer j stack))
+    (λ k. waited-push nest log (Stepped stack due (j ∷ stack) due') k
+    ∙ ap (λ (by : Option Kind). wait_next nest k (is_waiting due stack k) (is_waiting due' (j ∷ stack) k) by (waited nest log k)) (longer j stack))
     (entry_patient nest stack due due due' j hold hold' (waited nest log) (λ k s. (waits_parts due stack k s).0) chosen r.patient))
 
 -- the entry as a step tells it
@@ -324,11 +330,14 @@ entry_logged nest hold hold' masked masked' stack stack' due due' j m m' s chose
 own_responds : (nest : Nest) (hold hold' : ℕ) (masked masked' : Bool) (j : Kind) (outer stack' : List Kind) (due due' : Kind → Bool)
     → (masked ≡ false → next_entry nest (j ∷ outer) due ≡ None) → (stack' ≡ j ∷ outer) ⊎ (masked' ≡ false) → stepper (j ∷ outer) stack' ≡ Some j
     → (masked ≡ true → 0 < hold) → (masked' ≡ true → hold' ≤ 8) → (masked ≡ true → masked' ≡ true → hold' < hold)
-    → (log : List Moment) → Responds nest hold masked (j ∷ outer) due log → Responds nest hold' masked' stack' due' (log ++ Stepped (j ∷ outer) due stack' due' ∷ [])
+    → (log : List Moment) → Responds nest hold masked (j ∷ outer) due log
+    → Responds nest hold' masked' stack' due' (log ++ Stepped (j ∷ outer) due stack' due' ∷ [])
 own_responds nest hold hold' masked masked' j outer stack' due due' none goes by some most less log r =
     responds nest hold' masked' stack' due' _ (same_patient nest hold' masked' stack' due' _ _
-    (λ k. waited-push nest log (Stepped (j ∷ outer) due stack' due') k ∙ ap (λ (o : Option Kind). wait_next nest k (is_waiting due (j ∷ outer) k) (is_waiting due' stack' k) o (waited nest log k)) by)
-    (own_patient nest j outer stack' due due due' masked masked' hold hold' (waited nest log) (λ m k s. (waits_parts due (j ∷ outer) k s).0) none goes some most less r.patient))
+    (λ k. waited-push nest log (Stepped (j ∷ outer) due stack' due') k
+    ∙ ap (λ (o : Option Kind). wait_next nest k (is_waiting due (j ∷ outer) k) (is_waiting due' stack' k) o (waited nest log k)) by)
+    (own_patient nest j outer stack' due due due' masked masked' hold hold' (waited nest log) (λ m k s. (waits_parts due (j ∷ outer) k s).0) none goes some
+    most less r.patient))
 
 -- an own step that goes on
 pub own_logged : (nest : Nest) (hold hold' : ℕ) (masked masked' : Bool) (stack : List Kind) (due due' : Kind → Bool) (j : Kind)
@@ -358,10 +367,5 @@ pass_logged nest hold masked stack due due' log r =
 
 -- an entry leaves the mask
 pub entry_masked : (b : Bank) (k : Kind) → (after_entry b k).masked ≡ b.masked
-entry_masked b kind.Main = refl
-entry_masked b kind.Uart = refl
-entry_masked b kind.Tick = refl
 entry_masked b kind.Cap = refl
-entry_masked b kind.Cmp = refl
-entry_masked b kind.Pwm = refl
-entry_masked b kind.Comm = refl
+entry_masked b k = refl

@@ -4,8 +4,8 @@ use Rattle.esc_base.specs.declared.kind.Kind.{Kind}
 use Rattle.esc_base.specs.declared.kind.Kind.TheVariants as kind
 use Rattle.esc_base.specs.declared.note.Note.{Note}
 use Rattle.timer_regs.specs.Bank.{Bank}
-use Rattle.timer_regs.specs.Effects.{after_read, written}
-use Rattle.timer_regs.specs.declared.regs.Reg.{Reg}
+pub use Rattle.timer_regs.specs.Access.{Access, accessed}
+pub use Rattle.timer_regs.specs.Access.Access.{NoAccess, Reads, Writes}
 use Rattle.interrupt_machine.specs.declared.firmware.Did.{Did}
 use Rattle.interrupt_machine.specs.declared.firmware.Did.TheVariants.{More, Return}
 
@@ -30,18 +30,6 @@ most kind.Cap = 64
 most kind.Cmp = 12
 most kind.Pwm = 12
 most kind.Comm = 24
-
--- an access of a step to the registers
-pub data Access : Type 0 where
-  NoAccess : Access
-  Reads : Reg → Access
-  Writes : Reg → ℕ → Access
-
--- the registers after an access
-abbrev pub accessed : Bank → Access → Bank
-accessed b NoAccess = b
-accessed b (Reads r) = after_read b r
-accessed b (Writes r v) = written b r v
 
 -- beside at most one access the registers stay as they were
 pub record MakesOneAccess (before after : Bank) : Type 0 where

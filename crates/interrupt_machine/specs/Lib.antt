@@ -4,3 +4,4 @@ pub mod Running
 pub mod Turn
 pub mod Response
 pub mod Limits
+pub mod Step

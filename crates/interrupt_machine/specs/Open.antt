@@ -1,6 +1,6 @@
 -- The kinds that are open, the innermost first, and which due kind enters.
 use Rattle.std.specs.Prelude.{ℕ, Bool, true, false, not, ◌&&◌, ◌==◌, nat_lt, ◌<◌, if◌then◌else◌, List, [], ◌∷◌, Option, Some, None, is_none}
-use Rattle.std.specs.List.{list_any}
+use Rattle.std.specs.List.{find, list_any}
 use Rattle.esc_base.specs.declared.kind.Kind.{Kind}
 use Rattle.esc_base.specs.declared.kind.Kind.TheVariants as kind
 use Rattle.esc_base.specs.Numbers.{kind_number}
@@ -26,16 +26,17 @@ abbrev pub IsAbove : Option Kind → Kind → Type 0
 IsAbove None k = Unit {0}
 IsAbove (Some inner) k = kind_number inner < kind_number k
 
+-- the kinds, the highest first
+abbrev pub by_priority : List Kind
+by_priority = kind.Comm ∷ kind.Pwm ∷ kind.Cmp ∷ kind.Cap ∷ kind.Tick ∷ kind.Uart ∷ kind.Main ∷ []
+
 -- the kind with a number
+abbrev pub kind_in : List Kind → ℕ → Kind
+kind_in [] n = kind.Comm
+kind_in (k ∷ rest) n = if n == kind_number k then k else kind_in rest n
+
 abbrev pub kind_of : ℕ → Kind
-kind_of n =
-    if n == 0 then kind.Main
-    else if n == 1 then kind.Uart
-    else if n == 2 then kind.Tick
-    else if n == 3 then kind.Cap
-    else if n == 4 then kind.Cmp
-    else if n == 5 then kind.Pwm
-    else kind.Comm
+kind_of n = kind_in by_priority n
 
 abbrev pub is_open : List Kind → Kind → Bool
 is_open stack k = list_any (λ j. kind_number j == kind_number k) stack
@@ -43,34 +44,16 @@ is_open stack k = list_any (λ j. kind_number j == kind_number k) stack
 -- what is due: MAIN where the firmware waits, the others by the registers
 abbrev pub due_now : Bool → Bank → Kind → Bool
 due_now waits b kind.Main = waits
-due_now waits b kind.Uart = is_due b kind.Uart
-due_now waits b kind.Tick = is_due b kind.Tick
-due_now waits b kind.Cap = is_due b kind.Cap
-due_now waits b kind.Cmp = is_due b kind.Cmp
-due_now waits b kind.Pwm = is_due b kind.Pwm
-due_now waits b kind.Comm = is_due b kind.Comm
+due_now waits b k = is_due b k
 
 -- the same by a set of kinds
 abbrev pub due_in : Bool → KindSet → Kind → Bool
 due_in waits set kind.Main = waits
-due_in waits set kind.Uart = has_kind set kind.Uart
-due_in waits set kind.Tick = has_kind set kind.Tick
-due_in waits set kind.Cap = has_kind set kind.Cap
-due_in waits set kind.Cmp = has_kind set kind.Cmp
-due_in waits set kind.Pwm = has_kind set kind.Pwm
-due_in waits set kind.Comm = has_kind set kind.Comm
+due_in waits set k = has_kind set k
 
 -- the highest kind of those that are due
 abbrev pub highest : (Kind → Bool) → Option Kind
-highest due =
-    if due kind.Comm then Some kind.Comm
-    else if due kind.Pwm then Some kind.Pwm
-    else if due kind.Cmp then Some kind.Cmp
-    else if due kind.Cap then Some kind.Cap
-    else if due kind.Tick then Some kind.Tick
-    else if due kind.Uart then Some kind.Uart
-    else if due kind.Main then Some kind.Main
-    else None
+highest due = find due by_priority
 
 -- whether a due kind may enter above the innermost open one
 abbrev pub may_enter : Nest → Option Kind → Kind → Bool

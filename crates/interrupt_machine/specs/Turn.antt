@@ -33,7 +33,8 @@ open_after kind outer (More own) = kind ∷ outer
 open_after kind outer (Return own) = outer
 
 -- a kind is entered
-pub record Entry {F : Type 0} (came : F → Kind → F → Type 0) (waits : F → Bool) (nest : Nest) (old : F) (stack : List Kind) (before : Bank) (kind : Kind) (notes : List Note) (new : F) (stack' : List Kind) (after : Bank) : Type 0 where
+pub record Entry {F : Type 0} (came : F → Kind → F → Type 0) (waits : F → Bool) (nest : Nest) (old : F) (stack : List Kind) (before : Bank) (kind : Kind)
+    (notes : List Note) (new : F) (stack' : List Kind) (after : Bank) : Type 0 where
   pub unmasked : before.masked ≡ false
   pub chosen : next_entry nest stack (due_now (waits old) before) ≡ Some kind
   pub entered : came old kind new
@@ -42,7 +43,9 @@ pub record Entry {F : Type 0} (came : F → Kind → F → Type 0) (waits : F �
   pub notes_are : notes ≡ note.Enter (record { 0 = before.time }) (kind_number kind) ∷ []
 
 -- the innermost open handler makes a step of its own, in which it may call the flash
-pub record OwnStep {F : Type 0} (made : F → Bank → Told → Kind → Did → F → Bank → Told → Type 0) (waits : F → Bool) (nest : Nest) (old : F) (stack : List Kind) (before : Bank) (flash : Told) (kind : Kind) (outer : List Kind) (did : Did) (notes : List Note) (new : F) (stack' : List Kind) (after : Bank) (flash' : Told) : Type 0 where
+pub record OwnStep {F : Type 0} (made : F → Bank → Told → Kind → Did → F → Bank → Told → Type 0) (waits : F → Bool) (nest : Nest) (old : F)
+    (stack : List Kind) (before : Bank) (flash : Told) (kind : Kind) (outer : List Kind) (did : Did) (notes : List Note) (new : F) (stack' : List Kind)
+    (after : Bank) (flash' : Told) : Type 0 where
   pub none_enters : before.masked ≡ false → next_entry nest stack (due_now (waits old) before) ≡ None
   pub innermost_is : stack ≡ kind ∷ outer
   pub stepped : made old before flash kind did new after flash'
@@ -51,7 +54,8 @@ pub record OwnStep {F : Type 0} (made : F → Bank → Told → Kind → Did →
   pub notes_are : notes ≡ own_notes before.hi before.lo after kind did
 
 -- an entry, which leaves the flash, or an own step
-abbrev pub Turn : {F : Type 0} → (F → Kind → F → Type 0) → (F → Bank → Told → Kind → Did → F → Bank → Told → Type 0) → (F → Bool) → Nest → F → List Kind → Bank → Told → List Note → F → List Kind → Bank → Told → Type 0
+abbrev pub Turn : {F : Type 0} → (F → Kind → F → Type 0) → (F → Bank → Told → Kind → Did → F → Bank → Told → Type 0) → (F → Bool) → Nest → F → List Kind
+    → Bank → Told → List Note → F → List Kind → Bank → Told → Type 0
 Turn {F} came made waits nest old stack before flash notes new stack' after flash' =
     ((kind : Kind) × Entry came waits nest old stack before kind notes new stack' after × (flash' ≡ flash))
     ⊎ ((kind : Kind) × (outer : List Kind) × (did : Did) × OwnStep made waits nest old stack before flash kind outer did notes new stack' after flash')

@@ -1,15 +1,13 @@
 ghost use Rattle.std.specs.Prelude.{◌≡◌, ◌≢◌, ◌+◌, ◌<◌, ◌≤◌, ◌^◌, ◌++◌, ℕ, Bool, true, false, if◌then◌else◌, List, [], ◌∷◌, Option, Some, None, All, length};
 ghost use Rattle.esc_base.specs.declared.kind.Kind.{Kind};
 ghost use Rattle.esc_base.specs.Range.{InRange};
-ghost use Rattle.esc_base.specs.Flash.{told};
-ghost use Rattle.interrupt_machine.specs.declared.firmware.Did.{Did};
-ghost use Rattle.timer_regs.specs.Bank.{Bank};
+ghost use Rattle.esc_base.specs.Flash.{Told, told};
 ghost use Rattle.interrupt_machine.specs.Did.{notes_of};
-ghost use Rattle.interrupt_machine.specs.Limits.{SpendsOwnSteps, SpendsMask};
 ghost use Rattle.interrupt_machine.specs.Open.{innermost, is_open, due_now, due_in, highest, next_entry, is_idle};
-ghost use Rattle.interrupt_machine.specs.Response.{Moment, Stepped, Passed, Responds};
+ghost use Rattle.interrupt_machine.specs.Response.{Moment, Passed, Responds};
 ghost use Rattle.timer_regs.specs.Effects.{advanced};
-ghost use Rattle.interrupt_machine.specs.Turn.{Turn, Entry, OwnStep, IsHeld, own_notes, leave_note, gate_note};
+ghost use Rattle.interrupt_machine.specs.Step.{MachineStepped};
+ghost use Rattle.interrupt_machine.specs.Turn.{IsHeld, leave_note, gate_note};
 
 use crate::stack::Stack;
 use crate::{Did, Firmware, Nest, Own};
@@ -25,8 +23,8 @@ pub type Notes = ArrayVec<Note, 6>;
 ///
 /// A due kind that isn't open waits a bounded time: it is entered after at most 8 masked steps and one further step,
 /// not counting entries and steps of higher kinds. With `Nest::One` only MAIN's own steps count, since an open handler
-/// above MAIN goes on to its return before any kind enters. The clauses named `response` promise this along any log:
-/// `new` begins one, and each step, and each time that passes, adds to it what was open and due before and after.
+/// above MAIN goes on to its return before any kind enters. `response` of a step and of passing time promises this along
+/// any log: `new` begins one, and each step, and each time that passes, adds to it what was open and due before and after.
 #[derive(Drop)]
 pub struct Machine<F: Firmware> {
     firmware: F,
@@ -47,26 +45,35 @@ impl<F: Firmware> Model for Machine<F> {
     ghost invariant = { λ m. (k : Kind) → is_open m.stack k ≡ true → 0 < F.left m.firmware k };
 }
 
+/// The kinds, the highest first.
+const BY_PRIORITY: [Kind; 7] = [
+    Kind::Comm,
+    Kind::Pwm,
+    Kind::Cmp,
+    Kind::Cap,
+    Kind::Tick,
+    Kind::Uart,
+    Kind::Main,
+];
+
 /// The highest due kind, where MAIN is due if the firmware waits.
 fn highest_due(due: KindSet, waiting: bool) -> Option<Kind>
     ensures { result ≡ highest (due_in waiting due) }
 {
-    if due.has(Kind::Comm) {
-        Some(Kind::Comm)
-    } else if due.has(Kind::Pwm) {
-        Some(Kind::Pwm)
-    } else if due.has(Kind::Cmp) {
-        Some(Kind::Cmp)
-    } else if due.has(Kind::Cap) {
-        Some(Kind::Cap)
-    } else if due.has(Kind::Tick) {
-        Some(Kind::Tick)
-    } else if due.has(Kind::Uart) {
-        Some(Kind::Uart)
-    } else if waiting {
-        Some(Kind::Main)
-    } else {
-        None
+    for kind in BY_PRIORITY {
+        if is_due(kind, due, waiting) {
+            return Some(kind);
+        }
+    }
+    None
+}
+
+fn is_due(kind: Kind, due: KindSet, waiting: bool) -> bool
+    ensures { result ≡ due_in waiting due kind }
+{
+    match kind {
+        Kind::Main => waiting,
+        _ => due.has(kind),
     }
 }
 
@@ -126,17 +133,7 @@ impl<F: Firmware> Machine<F> {
         requires busy { is_idle self.old.open_kinds (due_now (F.waits self.old.firmware) regs.old) ≡ false }
         requires mask { regs.old.masked ≡ true → IsHeld (F.hold self.old.firmware) self.old.open_kinds }
         requires count { regs.old.accesses < 2 ^ 63 }
-        ensures turn { Turn F.came F.made F.waits self.old.nest self.old.firmware self.old.open_kinds regs.old (told D.bytes D.faults dev.old) result.items self.new.firmware self.new.open_kinds regs.new (told D.bytes D.faults dev.new) }
-        ensures nest { self.new.nest ≡ self.old.nest }
-        ensures mask { regs.new.masked ≡ true → IsHeld (F.hold self.new.firmware) self.new.open_kinds }
-        ensures access { regs.new.accesses ≤ regs.old.accesses + 1 }
-        ensures in_range { All InRange result.items }
-        ensures own_steps { SpendsOwnSteps F.left self.old.firmware self.old.open_kinds self.new.firmware self.new.open_kinds }
-        ensures mask_spent { SpendsMask (F.hold self.old.firmware) regs.old.masked (F.hold self.new.firmware) regs.new.masked }
-        // along any log, no kind waits for more than 8 counted steps
-        ensures response { (log : List Moment) → Responds self.old.nest (F.hold self.old.firmware) regs.old.masked self.old.open_kinds (due_now (F.waits self.old.firmware) regs.old) log
-            → Responds self.old.nest (F.hold self.new.firmware) regs.new.masked self.new.open_kinds (due_now (F.waits self.new.firmware) regs.new)
-            (log ++ Stepped self.old.open_kinds (due_now (F.waits self.old.firmware) regs.old) self.new.open_kinds (due_now (F.waits self.new.firmware) regs.new) ∷ []) }
+        ensures { MachineStepped F.came F.made F.waits F.left F.hold self.old regs.old (told D.bytes D.faults dev.old) result.items self.new regs.new (told D.bytes D.faults dev.new) }
     {
         let mut notes = ArrayVec::new();
         self.step_into(regs, dev, &mut notes);
@@ -148,17 +145,7 @@ impl<F: Firmware> Machine<F> {
         requires busy { is_idle self.old.open_kinds (due_now (F.waits self.old.firmware) regs.old) ≡ false }
         requires mask { regs.old.masked ≡ true → IsHeld (F.hold self.old.firmware) self.old.open_kinds }
         requires count { regs.old.accesses < 2 ^ 63 }
-        ensures turn { Turn F.came F.made F.waits self.old.nest self.old.firmware self.old.open_kinds regs.old (told D.bytes D.faults dev.old) notes.new.items self.new.firmware self.new.open_kinds regs.new (told D.bytes D.faults dev.new) }
-        ensures nest { self.new.nest ≡ self.old.nest }
-        ensures mask { regs.new.masked ≡ true → IsHeld (F.hold self.new.firmware) self.new.open_kinds }
-        ensures access { regs.new.accesses ≤ regs.old.accesses + 1 }
-        ensures in_range { All InRange notes.new.items }
-        ensures own_steps { SpendsOwnSteps F.left self.old.firmware self.old.open_kinds self.new.firmware self.new.open_kinds }
-        ensures mask_spent { SpendsMask (F.hold self.old.firmware) regs.old.masked (F.hold self.new.firmware) regs.new.masked }
-        // along any log, no kind waits for more than 8 counted steps
-        ensures response { (log : List Moment) → Responds self.old.nest (F.hold self.old.firmware) regs.old.masked self.old.open_kinds (due_now (F.waits self.old.firmware) regs.old) log
-            → Responds self.old.nest (F.hold self.new.firmware) regs.new.masked self.new.open_kinds (due_now (F.waits self.new.firmware) regs.new)
-            (log ++ Stepped self.old.open_kinds (due_now (F.waits self.old.firmware) regs.old) self.new.open_kinds (due_now (F.waits self.new.firmware) regs.new) ∷ []) }
+        ensures { MachineStepped F.came F.made F.waits F.left F.hold self.old regs.old (told D.bytes D.faults dev.old) notes.new.items self.new regs.new (told D.bytes D.faults dev.new) }
     {
         notes.clear();
         match self.entry(regs) {
@@ -199,17 +186,7 @@ impl<F: Firmware> Machine<F> {
         requires unmasked { regs.old.masked ≡ false }
         requires chosen { next_entry self.old.nest self.old.open_kinds (due_now (F.waits self.old.firmware) regs.old) ≡ Some kind }
         requires empty { notes.old.items ≡ [] }
-        ensures entry { Entry F.came F.waits self.old.nest self.old.firmware self.old.open_kinds regs.old kind notes.new.items self.new.firmware self.new.open_kinds regs.new }
-        ensures nest { self.new.nest ≡ self.old.nest }
-        ensures unmasked { regs.new.masked ≡ false }
-        ensures access { regs.new.accesses ≡ regs.old.accesses }
-        ensures in_range { All InRange notes.new.items }
-        ensures own_steps { SpendsOwnSteps F.left self.old.firmware self.old.open_kinds self.new.firmware self.new.open_kinds }
-        ensures mask_spent { SpendsMask (F.hold self.old.firmware) regs.old.masked (F.hold self.new.firmware) regs.new.masked }
-        // along any log, no kind waits for more than 8 counted steps
-        ensures response { (log : List Moment) → Responds self.old.nest (F.hold self.old.firmware) regs.old.masked self.old.open_kinds (due_now (F.waits self.old.firmware) regs.old) log
-            → Responds self.old.nest (F.hold self.new.firmware) regs.new.masked self.new.open_kinds (due_now (F.waits self.new.firmware) regs.new)
-            (log ++ Stepped self.old.open_kinds (due_now (F.waits self.old.firmware) regs.old) self.new.open_kinds (due_now (F.waits self.new.firmware) regs.new) ∷ []) }
+        ensures { (flash : Told) → MachineStepped F.came F.made F.waits F.left F.hold self.old regs.old flash notes.new.items self.new regs.new flash }
     {
         notes.push(Note::Enter {
             t: regs.now(),
@@ -227,17 +204,7 @@ impl<F: Firmware> Machine<F> {
         requires held { regs.old.masked ≡ true → 0 < F.hold self.old.firmware }
         requires count { regs.old.accesses < 2 ^ 63 }
         requires empty { notes.old.items ≡ [] }
-        ensures own { (kind : Kind) × (outer : List Kind) × (did : Did) × OwnStep F.made F.waits self.old.nest self.old.firmware self.old.open_kinds regs.old (told D.bytes D.faults dev.old) kind outer did notes.new.items self.new.firmware self.new.open_kinds regs.new (told D.bytes D.faults dev.new) }
-        ensures nest { self.new.nest ≡ self.old.nest }
-        ensures mask { regs.new.masked ≡ true → IsHeld (F.hold self.new.firmware) self.new.open_kinds }
-        ensures access { regs.new.accesses ≤ regs.old.accesses + 1 }
-        ensures in_range { All InRange notes.new.items }
-        ensures own_steps { SpendsOwnSteps F.left self.old.firmware self.old.open_kinds self.new.firmware self.new.open_kinds }
-        ensures mask_spent { SpendsMask (F.hold self.old.firmware) regs.old.masked (F.hold self.new.firmware) regs.new.masked }
-        // along any log, no kind waits for more than 8 counted steps
-        ensures response { (log : List Moment) → Responds self.old.nest (F.hold self.old.firmware) regs.old.masked self.old.open_kinds (due_now (F.waits self.old.firmware) regs.old) log
-            → Responds self.old.nest (F.hold self.new.firmware) regs.new.masked self.new.open_kinds (due_now (F.waits self.new.firmware) regs.new)
-            (log ++ Stepped self.old.open_kinds (due_now (F.waits self.old.firmware) regs.old) self.new.open_kinds (due_now (F.waits self.new.firmware) regs.new) ∷ []) }
+        ensures { MachineStepped F.came F.made F.waits F.left F.hold self.old regs.old (told D.bytes D.faults dev.old) notes.new.items self.new regs.new (told D.bytes D.faults dev.new) }
     {
         let Some(kind) = self.stack.innermost() else {
             return;

@@ -48,7 +48,6 @@ read_by (Some fault) block = Err fault
 abbrev pub read_of : List ℕ → Result Settings BlockFault
 read_of block = read_by (fault_of block) block
 
-
 -- bytes written in order, each with its field
 abbrev pub written : List (Field × ℕ) → List ℕ → List ℕ
 written [] block = block

@@ -1,5 +1,7 @@
 -- The settings in memory.
-use Rattle.std.specs.Prelude.{◌≡◌, ℕ, true, ◌==◌, if◌then◌else◌, replicate}
+use Rattle.std.specs.Prelude.{◌≡◌, ◌<◌, ◌+◌, ◌*◌, ℕ, true, ◌==◌, min, if◌then◌else◌, replicate}
+use Rattle.std.proofs.Common.{arith}
+use Rattle.servo_input.specs.declared.servo.Servo.{Servo}
 use Rattle.servo_input.specs.declared.servo.InputKind.{InputKind}
 use Rattle.servo_input.specs.declared.servo.InputKind.TheVariants as input
 use Rattle.dshot_commands.specs.declared.act.Act.{Act}
@@ -40,6 +42,14 @@ default_settings = record {
   input = input_of INPUT.default;
   rest = record { 0 = replicate 48 0 };
 }
+
+-- The servo pulses that give the least and the greatest value, in microseconds, by the settings' two bytes. The low end by
+-- any byte is below the high end by any other, so its bound here changes nothing.
+pub ends_in_order : (low high : ℕ) → min (2 * low + 750) (2 * high + 1749) < 2 * high + 1750
+ends_in_order low high = omega arith
+
+abbrev pub servo_of : Settings → Servo
+servo_of s = record { low_us = min (2 * s.low + 750) (2 * s.high + 1749); high_us = 2 * s.high + 1750; in_order = ends_in_order s.low s.high }
 
 -- what a command changes
 abbrev pub applied : Settings → Act → Settings

@@ -1,7 +1,7 @@
 //! The settings in memory.
 ghost use Rattle.std.specs.Prelude.{◌≡◌, ◌+◌, ◌*◌, ◌<◌};
 ghost use Rattle.dshot_commands.specs.Act.{IsInRange as IsAct};
-ghost use Rattle.settings_block.specs.Settings.{applied, IsInRange};
+ghost use Rattle.settings_block.specs.Settings.{applied, servo_of, IsInRange};
 
 use dshot_commands::Act;
 use esc_base::Block48;
@@ -38,6 +38,7 @@ pub struct Settings {
 pub fn servo_of(s: &Settings) -> Servo
     ensures low { result.low_us ≡ 2 * s.now.low + 750 }
     ensures high { result.high_us ≡ 2 * s.now.high + 1750 }
+    ensures servo { result ≡ servo_of s.now }
 {
     Servo {
         low_us: 2 * s.low as u16 + 750,

@@ -1,19 +1,11 @@
--- The first tick at which some kind becomes due is the sooner one of the two kinds that can.
-use Rattle.std.proofs.Common.{◌≡◌, ℕ, ◌<◌, ◌≤◌, Bool, true, false, if◌then◌else◌, nat_lt, Option, Some, None, refl, arith}
+-- The first tick at which some kind becomes due is the sooner one of those of the kinds that can.
+use Rattle.std.proofs.Common.{◌≡◌, ℕ, ◌<◌, ◌≤◌, Bool, true, false, ◌||◌, if◌then◌else◌, nat_lt, Option, Some, None, refl, sym, ◌∙◌, arith}
+use Rattle.std.proofs.lemmas.Bool.{or_left, or_right}
 use Rattle.std.proofs.lemmas.Bool.Decides.{nat_tests}
 use Rattle.esc_base.specs.declared.kind.Kind.{Kind}
 use Rattle.esc_base.specs.declared.kind.Kind.TheVariants as kinds
 use Rattle.timer_regs.specs.Bank.{Bank}
-use Rattle.timer_regs.specs.NextDue.{becomes_due, IsFirst, IsFirstDue, IsNextDue, sooner}
-
-none_due : (b : Bank) (k : Kind) (u : ℕ) → becomes_due b kinds.Tick u ≡ false → becomes_due b kinds.Cap u ≡ false → becomes_due b k u ≡ false
-none_due b kinds.Tick u t c = t
-none_due b kinds.Cap u t c = c
-none_due b kinds.Main u t c = refl
-none_due b kinds.Uart u t c = refl
-none_due b kinds.Cmp u t c = refl
-none_due b kinds.Pwm u t c = refl
-none_due b kinds.Comm u t c = refl
+use Rattle.timer_regs.specs.NextDue.{becomes_due, IsFirst, IsFirstAfter, IsFirstDue, IsNextDue, sooner}
 
 lt_not : (x y : ℕ) → nat_lt y x ≡ false → x ≤ y
 lt_not x y e = grind (arith, nat_tests)
@@ -21,32 +13,78 @@ lt_not x y e = grind (arith, nat_tests)
 lt_is : (x y : ℕ) → nat_lt y x ≡ true → y < x
 lt_is x y e = grind (arith, nat_tests)
 
-of_both : (v : Bool) (b : Bank) (x y : ℕ) → nat_lt y x ≡ v → IsFirst b kinds.Tick x → IsFirst b kinds.Cap y → IsNextDue b (if v then Some y else Some x)
-of_both true b x y e t c = record {
-  later = c.later;
-  kind = kinds.Cap;
-  due = c.due;
-  none_before = λ k u lo hi. none_due b k u (t.none_before u lo (let l = lt_is x y e in omega arith)) (c.none_before u lo hi);
+neither : (a b : Bool) → a ≡ false → b ≡ false → (a || b) ≡ false
+neither a b e f = rw (e, f) refl
+
+abbrev either : (ℕ → Bool) → (ℕ → Bool) → ℕ → Bool
+either p q u = p u || q u
+
+of_both : (v : Bool) (now x y : ℕ) (p q : ℕ → Bool) → nat_lt y x ≡ v → IsFirst now p x → IsFirst now q y → IsFirstAfter now (either p q) (if v then Some y else Some x)
+of_both true now x y p q e f g = record {
+  later = g.later;
+  due = or_right (p y) (q y) g.due;
+  none_before = λ u lo hi. neither (p u) (q u) (f.none_before u lo (let l = lt_is x y e in omega arith)) (g.none_before u lo hi);
 }
-of_both false b x y e t c = record {
-  later = t.later;
-  kind = kinds.Tick;
-  due = t.due;
-  none_before = λ k u lo hi. none_due b k u (t.none_before u lo hi) (c.none_before u lo (let l = lt_not x y e in omega arith));
+of_both false now x y p q e f g = record {
+  later = f.later;
+  due = or_left (p x) (q x) f.due;
+  none_before = λ u lo hi. neither (p u) (q u) (f.none_before u lo hi) (g.none_before u lo (let l = lt_not x y e in omega arith));
 }
 
-pub soonest : (b : Bank) (x y : Option ℕ) → IsFirstDue b kinds.Tick x → IsFirstDue b kinds.Cap y → IsNextDue b (sooner x y)
-soonest b None None t c = λ k u lo. none_due b k u (t u lo) (c u lo)
-soonest b None (Some y) t c = record {
-  later = c.later;
-  kind = kinds.Cap;
-  due = c.due;
-  none_before = λ k u lo hi. none_due b k u (t u lo) (c.none_before u lo hi);
+-- the sooner of two is the first at which one of the two tests holds
+first_of_both : (now : ℕ) (p q : ℕ → Bool) (x y : Option ℕ) → IsFirstAfter now p x → IsFirstAfter now q y → IsFirstAfter now (either p q) (sooner x y)
+first_of_both now p q None None f g = λ u lo. neither (p u) (q u) (f u lo) (g u lo)
+first_of_both now p q None (Some y) f g = record {
+  later = g.later;
+  due = or_right (p y) (q y) g.due;
+  none_before = λ u lo hi. neither (p u) (q u) (f u lo) (g.none_before u lo hi);
 }
-soonest b (Some x) None t c = record {
-  later = t.later;
-  kind = kinds.Tick;
-  due = t.due;
-  none_before = λ k u lo hi. none_due b k u (t.none_before u lo hi) (c u lo);
+first_of_both now p q (Some x) None f g = record {
+  later = f.later;
+  due = or_left (p x) (q x) f.due;
+  none_before = λ u lo hi. neither (p u) (q u) (f.none_before u lo hi) (g u lo);
 }
-soonest b (Some x) (Some y) t c = of_both (nat_lt y x) b x y refl t c
+first_of_both now p q (Some x) (Some y) f g = of_both (nat_lt y x) now x y p q refl f g
+
+-- some kind becomes due
+abbrev some_due : Bank → ℕ → Bool
+some_due b u = either (either (becomes_due b kinds.Tick) (becomes_due b kinds.Cap)) (either (becomes_due b kinds.Pwm) (becomes_due b kinds.Comm)) u
+
+left_none : (a b : Bool) → (a || b) ≡ false → a ≡ false
+left_none true b e = e
+left_none false b e = refl
+
+right_none : (a b : Bool) → (a || b) ≡ false → b ≡ false
+right_none true b e = absurd (cc)
+right_none false b e = e
+
+none_due : (b : Bank) (k : Kind) (u : ℕ) → some_due b u ≡ false → becomes_due b k u ≡ false
+none_due b kinds.Tick u e = left_none _ _ (left_none _ _ e)
+none_due b kinds.Cap u e = right_none _ _ (left_none _ _ e)
+none_due b kinds.Pwm u e = left_none _ _ (right_none _ _ e)
+none_due b kinds.Comm u e = right_none _ _ (right_none _ _ e)
+none_due b kinds.Main u e = refl
+none_due b kinds.Uart u e = refl
+none_due b kinds.Cmp u e = refl
+
+which_due : (b : Bank) (u : ℕ) (t c p : Bool) → becomes_due b kinds.Tick u ≡ t → becomes_due b kinds.Cap u ≡ c → becomes_due b kinds.Pwm u ≡ p → ((t || c) || (p || becomes_due b kinds.Comm u)) ≡ true → (k : Kind) × (becomes_due b k u ≡ true)
+which_due b u true c p et ec ep e = (kinds.Tick, et)
+which_due b u false true p et ec ep e = (kinds.Cap, ec)
+which_due b u false false true et ec ep e = (kinds.Pwm, ep)
+which_due b u false false false et ec ep e = (kinds.Comm, e)
+
+next_of : (b : Bank) (at : Option ℕ) → IsFirstAfter b.time (some_due b) at → IsNextDue b at
+next_of b None f = λ k u lo. none_due b k u (f u lo)
+next_of b (Some t) f =
+    let which = which_due b t _ _ _ refl refl refl f.due in
+    record {
+      later = f.later;
+      kind = which.0;
+      due = which.1;
+      none_before = λ k u lo hi. none_due b k u (f.none_before u lo hi);
+    }
+
+pub soonest : (b : Bank) (t c p m : Option ℕ) → IsFirstDue b kinds.Tick t → IsFirstDue b kinds.Cap c → IsFirstDue b kinds.Pwm p → IsFirstDue b kinds.Comm m → IsNextDue b (sooner (sooner t c) (sooner p m))
+soonest b t c p m ft fc fp fm =
+    next_of b (sooner (sooner t c) (sooner p m))
+    (first_of_both b.time _ _ (sooner t c) (sooner p m) (first_of_both b.time _ _ t c ft fc) (first_of_both b.time _ _ p m fp fm))

@@ -11,6 +11,15 @@ pub record Bank : Type 0 where
   -- the switches that are on, bit 0 for leg A
   pub hi : ℕ
   pub lo : ℕ
+  -- the duty of the high switch, and whether a PWM event waits
+  pub duty : ℕ
+  pub flag : Bool
+  -- the present sector, 0 before the first
+  pub sector : ℕ
+  -- the tick for which the commutation timer is armed
+  pub comm : Option ℕ
+  -- the stuck mark
+  pub stuck : Bool
   -- the level of the signal line
   pub level : Bool
   -- the capture's window

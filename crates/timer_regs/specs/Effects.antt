@@ -1,20 +1,21 @@
 -- What reads, writes, time, entries and outside events do to the registers. A register that isn't named in a list isn't
 -- effective there, so one that becomes effective is a field of the bank and a line of each list that it changes.
-use Rattle.std.specs.Prelude.{◌≡◌, ℕ, ◌+◌, ◌/◌, ◌<◌, ◌≤◌, ◌^◌, Bool, false, not, ◌&&◌, ◌||◌, ◌==◌, if◌then◌else◌, nat_lt, nat_le, length, Option, Some, None}
+use Rattle.std.specs.Prelude.{◌≡◌, ℕ, ◌+◌, ◌-◌, ◌/◌, ◌%◌, ◌<◌, ◌≤◌, ◌^◌, bit_and, bit_or, Bool, false, not, ◌&&◌, ◌||◌, ◌==◌, if◌then◌else◌, nat_lt, nat_le, length, Option, Some, None}
 use Rattle.esc_base.specs.declared.kind.Kind.{Kind}
 use Rattle.esc_base.specs.declared.kind.Kind.TheVariants as kind
 use Rattle.esc_base.specs.declared.signal.Edge.{Edge}
 use Rattle.esc_base.specs.Numbers.{mode_of}
-use Rattle.esc_base.specs.Times.{is_reached}
+use Rattle.esc_base.specs.Times.{is_reached, pwm_period}
 use Rattle.esc_base.specs.Trace.{differ}
 use Rattle.edge_capture.specs.Edges.{edge_at}
 use Rattle.edge_capture.specs.Window.{unarmed, opened_in, after_edge, window_closed}
 use Rattle.timer_regs.specs.declared.regs.Reg.{Reg}
-use Rattle.timer_regs.specs.declared.regs.Reg.TheVariants.{GhSet, GlSet, GhClr, GlClr, Mask, Duty, Sector, Stuck, CmpEn, CapState, CapEdge, CapArm, CapAt, Reply, TickState, Txd, TxOn}
+use Rattle.timer_regs.specs.declared.regs.Reg.TheVariants.{GhSet, GlSet, GhClr, GlClr, Mask, Duty, PwmPos, Sector, CommAt, DriveOff, Stuck, CmpEn, CapState, CapEdge, CapArm, CapAt, Reply, TickState, Txd, TxOn}
 use Rattle.timer_regs.specs.Bank.{Bank}
+use Rattle.timer_regs.specs.Pwm.{has_edge}
 
 abbrev pub reset : Bank
-reset = record { time = 0; accesses = 0; masked = false; hi = 0; lo = 0; level = false; window = unarmed; taken = false; timer = None; number_read = 0 }
+reset = record { time = 0; accesses = 0; masked = false; hi = 0; lo = 0; duty = 0; flag = false; sector = 0; comm = None; stuck = false; level = false; window = unarmed; taken = false; timer = None; number_read = 0 }
 
 -- a closed window's edges are there to be read
 abbrev pub is_readable : Bank → Bool
@@ -35,6 +36,14 @@ edge_read b i = if nat_lt i (edges_read b) then shown_edge (edge_at b.window.edg
 abbrev pub number_at : ℕ → ℕ
 number_at t = t / 2400
 
+-- that number as it is read: 2^30 more with the stuck mark
+abbrev pub tick_state : Bank → ℕ
+tick_state b = if b.stuck then number_at b.time + 1073741824 else number_at b.time
+
+-- a word of switches with those of another one off
+abbrev pub without : ℕ → ℕ → ℕ
+without word off = bit_and word (7 - off)
+
 abbrev pub counted : Bank → Bank
 counted b = record b { accesses = b.accesses + 1 }
 
@@ -42,7 +51,10 @@ counted b = record b { accesses = b.accesses + 1 }
 abbrev pub read_value : Bank → Reg → ℕ
 read_value b CapState = edges_read b
 read_value b (CapEdge i) = edge_read b i
-read_value b TickState = number_at b.time
+read_value b TickState = tick_state b
+read_value b Duty = b.duty
+read_value b PwmPos = b.time % pwm_period
+read_value b Sector = b.sector
 read_value b r = 0
 
 -- the control tick's number counts as read
@@ -55,6 +67,15 @@ abbrev pub written : Bank → Reg → ℕ → Bank
 written b Mask v = record b { accesses = b.accesses + 1; masked = v == 1 }
 written b CapArm v = record b { accesses = b.accesses + 1; window = opened_in (mode_of v) b.time; taken = false }
 written b CapAt v = record b { accesses = b.accesses + 1; timer = Some v }
+written b GhSet v = record b { accesses = b.accesses + 1; hi = bit_or b.hi v }
+written b GlSet v = record b { accesses = b.accesses + 1; lo = bit_or b.lo v }
+written b GhClr v = record b { accesses = b.accesses + 1; hi = without b.hi v }
+written b GlClr v = record b { accesses = b.accesses + 1; lo = without b.lo v }
+written b Duty v = record b { accesses = b.accesses + 1; duty = v; flag = nat_lt 0 v }
+written b Sector v = record b { accesses = b.accesses + 1; sector = v }
+written b CommAt v = record b { accesses = b.accesses + 1; comm = Some v }
+written b DriveOff v = record b { accesses = b.accesses + 1; comm = None; stuck = false }
+written b Stuck v = record b { accesses = b.accesses + 1; stuck = b.stuck || (v == 1) }
 written b r v = counted b
 
 -- the values that a register takes
@@ -78,11 +99,15 @@ IsRange r v = v < 2 ^ 32
 abbrev pub IsSmall : Reg → ℕ → Type 0
 IsSmall CapState v = v ≤ 32
 IsSmall (CapEdge i) v = v < 2 ^ 32
-IsSmall TickState v = v < 2 ^ 30
+IsSmall TickState v = v < 2 ^ 31
+IsSmall Duty v = v ≤ 1900
+IsSmall PwmPos v = v < 2000
+IsSmall Sector v = v ≤ 6
 IsSmall r v = v ≡ 0
 
+-- time alone goes on, and a PWM event on the way sets the flag
 abbrev pub advanced : Bank → ℕ → Bank
-advanced b to = record b { time = to }
+advanced b to = record b { time = to; flag = b.flag || has_edge b.duty b.time to }
 
 -- the signal line has a level: where it is another one, the window is handed that edge
 abbrev pub after_line : Bank → Bool → Bank
@@ -95,9 +120,13 @@ after_line b level =
 abbrev pub is_due : Bank → Kind → Bool
 is_due b kind.Cap = (is_readable b && not b.taken) || is_reached b.timer b.time
 is_due b kind.Tick = not (number_at b.time == b.number_read)
+is_due b kind.Comm = is_reached b.comm b.time
+is_due b kind.Pwm = b.flag
 is_due b k = false
 
--- what entering a kind clears: CAP disarms its timer and takes the closed window, which stays readable
+-- what entering a kind clears: COMM disarms its timer, PWM takes the event, CAP disarms its timer and takes the closed window, which stays readable
 abbrev pub after_entry : Bank → Kind → Bank
 after_entry b kind.Cap = record b { taken = b.taken || is_readable b; timer = None }
+after_entry b kind.Comm = record b { comm = None }
+after_entry b kind.Pwm = record b { flag = false }
 after_entry b k = b

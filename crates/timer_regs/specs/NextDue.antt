@@ -13,15 +13,20 @@ tick_of (Some t) = Some t.0
 abbrev pub becomes_due : Bank → Kind → ℕ → Bool
 becomes_due b k t = not (is_due b k) && is_due (advanced b t) k
 
--- t is the first later tick at which this kind becomes due
-pub record IsFirst (b : Bank) (k : Kind) (t : ℕ) : Type 0 where
-  pub later : b.time < t
-  pub due : becomes_due b k t ≡ true
-  pub none_before : (u : ℕ) → b.time < u → u < t → becomes_due b k u ≡ false
+-- t is the first tick after now at which a test holds
+pub record IsFirst (now : ℕ) (holds : ℕ → Bool) (t : ℕ) : Type 0 where
+  pub later : now < t
+  pub due : holds t ≡ true
+  pub none_before : (u : ℕ) → now < u → u < t → holds u ≡ false
 
+-- the first such tick, if there is one
+abbrev pub IsFirstAfter : ℕ → (ℕ → Bool) → Option ℕ → Type 0
+IsFirstAfter now holds None = (t : ℕ) → now < t → holds t ≡ false
+IsFirstAfter now holds (Some t) = IsFirst now holds t
+
+-- the first later tick at which this kind becomes due
 abbrev pub IsFirstDue : Bank → Kind → Option ℕ → Type 0
-IsFirstDue b k None = (t : ℕ) → b.time < t → becomes_due b k t ≡ false
-IsFirstDue b k (Some t) = IsFirst b k t
+IsFirstDue b k at = IsFirstAfter b.time (becomes_due b k) at
 
 -- t is the first later tick at which some kind becomes due
 pub record IsNext (b : Bank) (t : ℕ) : Type 0 where

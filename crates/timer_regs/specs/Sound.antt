@@ -1,13 +1,21 @@
 -- What is true of the registers at all times.
-use Rattle.std.specs.Prelude.{◌/◌, ◌<◌, ◌≤◌, ◌^◌}
+use Rattle.std.specs.Prelude.{◌≡◌, ℕ, ◌/◌, ◌<◌, ◌≤◌, ◌^◌, Option}
 use Rattle.edge_capture.specs.Edges.{last_at}
 use Rattle.timer_regs.specs.Bank.{Bank}
+use Rattle.timer_regs.specs.Pwm.{edge_after}
 
 pub record IsSound (b : Bank) : Type 0 where
   pub small : b.time < 2 ^ 31
   pub high : b.hi ≤ 7
   pub low : b.lo ≤ 7
+  pub duty : b.duty ≤ 1900
+  pub sector : b.sector ≤ 6
   -- no later control tick was read
   pub read : b.number_read ≤ b.time / 2400
   -- no later edge was heard
   pub last : last_at b.window.edges ≤ b.time
+
+-- and of what is kept beside them: the next PWM event
+pub record IsKept (b : Bank) (next : Option ℕ) : Type 0 where
+  pub sound : IsSound b
+  pub edge : next ≡ edge_after b.duty b.time

@@ -1,10 +1,12 @@
-ghost use Rattle.std.specs.Prelude.{◌≡◌, ◌+◌, ◌<◌, ◌≤◌, ◌^◌, ℕ, true};
+ghost use Rattle.std.specs.Prelude.{◌≡◌, ◌+◌, ◌<◌, ◌≤◌, ◌^◌, bit_or, ℕ, true};
 ghost use Rattle.esc_base.specs.declared.kind.Kind.{Kind};
 ghost use Rattle.esc_base.specs.declared.kind.Kind.TheVariants as kinds;
 ghost use Rattle.esc_base.specs.Numbers.{mode_of};
+ghost use Rattle.esc_base.specs.Times.{is_reached as reached};
 ghost use Rattle.timer_regs.specs.Kinds.{has_kind};
 ghost use Rattle.timer_regs.specs.Sound.{IsSound};
-ghost use Rattle.timer_regs.specs.Effects.{reset, counted, read_value, IsSmall, after_read, IsRange, written, advanced, after_line, is_due, after_entry, edges_read, edge_read, shown_edge, is_reached as reached};
+ghost use Rattle.timer_regs.specs.Pwm.{edge_after};
+ghost use Rattle.timer_regs.specs.Effects.{reset, counted, read_value, IsSmall, after_read, IsRange, written, advanced, after_line, is_due, after_entry, edges_read, edge_read, shown_edge, number_at, tick_state as tick_state_of, without as word_without};
 ghost use Rattle.timer_regs.specs.NextDue.{tick_of, sooner as sooner_of, IsFirstDue, IsNextDue};
 
 use crate::KindSet;
@@ -26,15 +28,16 @@ pub enum Reg {
     GlClr,
     /// 1 raises the interrupt mask, 0 lowers it.
     Mask,
-    /// The duty of the high switch, 0 to 1900 ticks.
+    /// The duty of the high switch, 0 to 1900 ticks. A write of one above 0 is a PWM event; a write of 0 clears
+    /// the PWM flag.
     Duty,
-    /// The place in the PWM period of 2000 ticks.
+    /// The place in the PWM period of 2000 ticks. Periods begin at the multiples of 2000.
     PwmPos,
-    /// The present sector, 0 before the first.
+    /// The present sector, 1 to 6, or 0 before the first.
     Sector,
     /// Arms the commutation timer for that tick.
     CommAt,
-    /// Disarms the commutation and crossing timers.
+    /// Disarms the commutation and crossing timers, and clears the stuck mark.
     DriveOff,
     /// 1 sets the stuck mark.
     Stuck,
@@ -59,7 +62,8 @@ pub enum Reg {
     Reply,
     /// The sum of six gaps of sectors, 0 for none.
     Period,
-    /// The number of the control tick, which then counts as read. Control ticks are 2400 ticks apart.
+    /// The number of the control tick, which then counts as read, plus 2^30 with the stuck mark. Control ticks
+    /// are 2400 ticks apart.
     TickState,
     /// Bit 0: a received byte waits. Bit 1: the transmitter is idle.
     UartState,
@@ -80,6 +84,13 @@ pub struct Regs {
     accesses: u64,
     masked: bool,
     gates: GateWord,
+    duty: u16,
+    flag: bool,
+    /// The next PWM event, while the duty is above 0.
+    pwm_edge: Option<Tick>,
+    sector: u8,
+    comm: Option<Tick>,
+    stuck: bool,
     level: bool,
     window: Capture,
     taken: bool,
@@ -89,14 +100,14 @@ pub struct Regs {
 
 impl Model for Regs {
     ghost use Rattle.timer_regs.specs.Bank.{Bank};
-    ghost use Rattle.timer_regs.specs.Sound.{IsSound};
+    ghost use Rattle.timer_regs.specs.Sound.{IsKept};
     ghost use Rattle.timer_regs.specs.NextDue.{tick_of};
 
     ghost Value = { Bank };
 
-    ghost view = { λ r. record { time = r.time.0; accesses = r.accesses; masked = r.masked; hi = r.gates.hi; lo = r.gates.lo; level = r.level; window = r.window; taken = r.taken; timer = tick_of r.timer; number_read = r.number_read } };
+    ghost view = { λ r. record { time = r.time.0; accesses = r.accesses; masked = r.masked; hi = r.gates.hi; lo = r.gates.lo; duty = r.duty; flag = r.flag; sector = r.sector; comm = tick_of r.comm; stuck = r.stuck; level = r.level; window = r.window; taken = r.taken; timer = tick_of r.timer; number_read = r.number_read } };
 
-    ghost invariant = { λ r. IsSound (record { time = r.time.0; accesses = r.accesses; masked = r.masked; hi = r.gates.hi; lo = r.gates.lo; level = r.level; window = r.window; taken = r.taken; timer = tick_of r.timer; number_read = r.number_read }) };
+    ghost invariant = { λ r. IsKept (record { time = r.time.0; accesses = r.accesses; masked = r.masked; hi = r.gates.hi; lo = r.gates.lo; duty = r.duty; flag = r.flag; sector = r.sector; comm = tick_of r.comm; stuck = r.stuck; level = r.level; window = r.window; taken = r.taken; timer = tick_of r.timer; number_read = r.number_read }) (tick_of r.pwm_edge) };
 }
 
 impl Regs {
@@ -109,6 +120,12 @@ impl Regs {
             accesses: 0,
             masked: false,
             gates: GateWord { hi: 0, lo: 0 },
+            duty: 0,
+            flag: false,
+            pwm_edge: None,
+            sector: 0,
+            comm: None,
+            stuck: false,
             level: false,
             window: Capture::new(),
             taken: false,
@@ -160,11 +177,10 @@ impl Regs {
         match r {
             Reg::CapState => self.closed_len(),
             Reg::CapEdge(i) => self.closed_edge(i),
-            Reg::TickState => {
-                let number = (self.time.0 / 2400) as u32;
-                self.number_read = number;
-                number
-            }
+            Reg::TickState => self.tick_state(),
+            Reg::Duty => self.duty as u32,
+            Reg::PwmPos => (self.time.0 % 2000) as u32,
+            Reg::Sector => self.sector as u32,
             _ => 0,
         }
     }
@@ -178,7 +194,23 @@ impl Regs {
     {
         self.count();
         match r {
+            Reg::GhSet => self.gates.hi = with(self.gates.hi, v),
+            Reg::GlSet => self.gates.lo = with(self.gates.lo, v),
+            Reg::GhClr => self.gates.hi = without(self.gates.hi, v),
+            Reg::GlClr => self.gates.lo = without(self.gates.lo, v),
             Reg::Mask => self.masked = v == 1,
+            Reg::Duty => {
+                self.duty = v as u16;
+                self.flag = v > 0;
+                self.pwm_edge = next_edge(self.duty, self.time);
+            }
+            Reg::Sector => self.sector = v as u8,
+            Reg::CommAt => self.comm = Some(Tick(v as u64)),
+            Reg::DriveOff => {
+                self.comm = None;
+                self.stuck = false;
+            }
+            Reg::Stuck => self.stuck = self.stuck || v == 1,
             Reg::CapArm => {
                 self.window.arm(mode_numbered(v), self.time);
                 self.taken = false;
@@ -189,7 +221,7 @@ impl Regs {
     }
 
     /// Time goes on to a tick that isn't before now. What the hardware does by then stands: timers are
-    /// reached, and a window closes by its idle limit.
+    /// reached, a PWM event sets its flag, and a window closes by its idle limit.
     pub fn advance(&mut self, to: Tick)
         requires later { self.old.time ≤ to.0 }
         requires small { to.0 < 2 ^ 31 }
@@ -197,6 +229,10 @@ impl Regs {
         ensures due { (k : Kind) → is_due self.old k ≡ true → is_due self.new k ≡ true }
     {
         self.time = to;
+        if is_reached(self.pwm_edge, to) {
+            self.flag = true;
+            self.pwm_edge = next_edge(self.duty, to);
+        }
     }
 
     /// The first later tick at which a kind that isn't due now becomes due, if nothing but `advance` is
@@ -204,7 +240,9 @@ impl Regs {
     pub fn next_due(&self) -> Option<Tick>
         ensures { IsNextDue self.now (tick_of result) }
     {
-        sooner(self.next_tick(), self.next_cap())
+        let lower = sooner(self.next_tick(), self.next_cap());
+        let upper = sooner(self.next_pwm(), self.next_comm());
+        sooner(lower, upper)
     }
 
     /// The kinds that are due, without MAIN, which only the firmware knows of.
@@ -214,15 +252,23 @@ impl Regs {
         KindSet::none()
             .with(Kind::Tick, self.tick_due())
             .with(Kind::Cap, self.cap_due())
+            .with(Kind::Pwm, self.flag)
+            .with(Kind::Comm, self.comm_due())
     }
 
-    /// A kind is entered: what made it due is cleared. A closed window counts as taken and stays readable.
+    /// A kind is entered: what made it due is cleared. A closed window counts as taken and stays readable; the
+    /// control tick is due until its number is read.
     pub fn entered(&mut self, kind: Kind)
         ensures { self.new ≡ after_entry self.old kind }
     {
-        if kind == Kind::Cap {
-            self.taken = self.taken || self.window.closed(self.time);
-            self.timer = None;
+        match kind {
+            Kind::Cap => {
+                self.taken = self.taken || self.window.closed(self.time);
+                self.timer = None;
+            }
+            Kind::Pwm => self.flag = false,
+            Kind::Comm => self.comm = None,
+            _ => {}
         }
     }
 
@@ -264,6 +310,20 @@ impl Regs {
         self.accesses += 1;
     }
 
+    fn tick_state(&mut self) -> u32
+        ensures value { result ≡ tick_state_of self.old }
+        ensures small { result < 2 ^ 31 }
+        ensures regs { self.new ≡ record self.old { number_read = number_at self.old.time } }
+    {
+        let number = (self.time.0 / 2400) as u32;
+        self.number_read = number;
+        if self.stuck {
+            number + 0x4000_0000
+        } else {
+            number
+        }
+    }
+
     fn closed_len(&self) -> u32
         ensures len { result ≡ edges_read self.now }
         ensures most { result ≤ 32 }
@@ -288,13 +348,19 @@ impl Regs {
     fn tick_due(&self) -> bool
         ensures { result ≡ is_due self.now kinds.Tick }
     {
-        self.time.0 / 2400 != self.number_read as u64
+        (self.number_read as u64 + 1) * 2400 <= self.time.0
     }
 
     fn cap_due(&self) -> bool
         ensures { result ≡ is_due self.now kinds.Cap }
     {
         (self.window.closed(self.time) && !self.taken) || is_reached(self.timer, self.time)
+    }
+
+    fn comm_due(&self) -> bool
+        ensures { result ≡ is_due self.now kinds.Comm }
+    {
+        is_reached(self.comm, self.time)
     }
 
     fn next_tick(&self) -> Option<Tick>
@@ -319,6 +385,53 @@ impl Regs {
         };
         sooner(closes, self.timer)
     }
+
+    fn next_pwm(&self) -> Option<Tick>
+        ensures { IsFirstDue self.now kinds.Pwm (tick_of result) }
+    {
+        if self.flag { None } else { self.pwm_edge }
+    }
+
+    fn next_comm(&self) -> Option<Tick>
+        ensures { IsFirstDue self.now kinds.Comm (tick_of result) }
+    {
+        if self.comm_due() { None } else { self.comm }
+    }
+}
+
+/// A word of switches with these on too.
+fn with(word: u8, on: u32) -> u8
+    requires word { word ≤ 7 }
+    requires on { on ≤ 7 }
+    ensures value { result ≡ bit_or word on }
+    ensures small { result ≤ 7 }
+{
+    word | on as u8
+}
+
+/// A word of switches with these off.
+fn without(word: u8, off: u32) -> u8
+    requires word { word ≤ 7 }
+    requires off { off ≤ 7 }
+    ensures value { result ≡ word_without word off }
+    ensures small { result ≤ 7 }
+{
+    word & (7 - off as u8)
+}
+
+/// The first PWM event after a tick: the end of the duty in its period, or the start of the next one.
+fn next_edge(duty: u16, after: Tick) -> Option<Tick>
+    requires duty { duty ≤ 1900 }
+    requires small { after.0 < 2 ^ 31 }
+    ensures { tick_of result ≡ edge_after duty after.0 }
+{
+    if duty == 0 {
+        return None;
+    }
+    let position = after.0 % 2000;
+    let duty = duty as u64;
+    let from_start = if position < duty { duty } else { 2000 };
+    Some(Tick(after.0 - position + from_start))
 }
 
 fn shown(edge: Edge) -> u32

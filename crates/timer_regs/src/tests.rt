@@ -1,5 +1,5 @@
 use crate::{KindSet, Reg, Regs};
-use esc_base::{Arrived, Kind, Tick};
+use esc_base::{Arrived, GateWord, Kind, Tick};
 
 #[test]
 fn control_tick_comes_due(rt: HostRuntime) {
@@ -53,4 +53,59 @@ fn window_timer_and_mask(rt: HostRuntime) {
     regs.trip();
     assert_eq!(rt; regs.serial(7), Arrived::Kept);
     assert_eq!(rt; regs.accesses(), 2);
+}
+
+#[test]
+fn switches_and_sector(rt: HostRuntime) {
+    let mut regs = Regs::new();
+    regs.write(Reg::GhSet, 5);
+    regs.write(Reg::GlSet, 2);
+    assert_eq!(rt; regs.gates(), GateWord { hi: 5, lo: 2 });
+    regs.write(Reg::GhClr, 4);
+    regs.write(Reg::GlClr, 7);
+    assert_eq!(rt; regs.gates(), GateWord { hi: 1, lo: 0 });
+    assert_eq!(rt; regs.read(Reg::Sector), 0);
+    regs.write(Reg::Sector, 3);
+    assert_eq!(rt; regs.read(Reg::Sector), 3);
+}
+
+#[test]
+fn pwm_events(rt: HostRuntime) {
+    let mut regs = Regs::new();
+    regs.write(Reg::Duty, 300);
+    assert_eq!(rt; regs.due(), KindSet::only(Kind::Pwm));
+    regs.entered(Kind::Pwm);
+    assert_eq!(rt; regs.next_due(), Some(Tick(300)));
+    regs.advance(Tick(299));
+    assert_eq!(rt; regs.due(), KindSet::none());
+    regs.advance(Tick(300));
+    assert!(rt; regs.due().has(Kind::Pwm));
+    regs.entered(Kind::Pwm);
+    assert_eq!(rt; regs.next_due(), Some(Tick(2000)));
+    regs.advance(Tick(2299));
+    assert_eq!(rt; regs.read(Reg::PwmPos), 299);
+    assert!(rt; regs.due().has(Kind::Pwm));
+    regs.write(Reg::Duty, 0);
+    assert_eq!(rt; regs.due(), KindSet::none());
+    assert_eq!(rt; regs.next_due(), Some(Tick(2400)));
+}
+
+#[test]
+fn commutation_timer_and_stuck_mark(rt: HostRuntime) {
+    let mut regs = Regs::new();
+    regs.write(Reg::CommAt, 500);
+    assert_eq!(rt; regs.next_due(), Some(Tick(500)));
+    regs.advance(Tick(499));
+    assert_eq!(rt; regs.due(), KindSet::none());
+    regs.advance(Tick(500));
+    assert_eq!(rt; regs.due(), KindSet::only(Kind::Comm));
+    regs.entered(Kind::Comm);
+    assert_eq!(rt; regs.due(), KindSet::none());
+    regs.write(Reg::CommAt, 400);
+    assert!(rt; regs.due().has(Kind::Comm));
+    regs.write(Reg::Stuck, 1);
+    assert_eq!(rt; regs.read(Reg::TickState), 0x4000_0000);
+    regs.write(Reg::DriveOff, 0);
+    assert_eq!(rt; regs.due(), KindSet::none());
+    assert_eq!(rt; regs.read(Reg::TickState), 0);
 }

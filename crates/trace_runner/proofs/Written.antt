@@ -8,7 +8,8 @@ use Rattle.esc_base.specs.Outside.{AppendsFront}
 use Rattle.trace_text.specs.Text.{note_bytes, Text}
 use Rattle.trace_runner.specs.Lines.{TookLines, BrokeLines}
 
-TookLines-push : {K : Type 0} (took : K → List ℕ → K → Type 0) (notes : List Note) (n : Note) (a b c : K) → TookLines took a notes b → took b (note_bytes n) c → TookLines took a (notes ++ n ∷ []) c
+TookLines-push : {K : Type 0} (took : K → List ℕ → K → Type 0) (notes : List Note) (n : Note) (a b c : K) → TookLines took a notes b → took b (note_bytes n) c
+    → TookLines took a (notes ++ n ∷ []) c
 TookLines-push {K} took [] n a b c e p = (c, subst (λ (x : K). took x (note_bytes n) c) e p, refl)
 TookLines-push {K} took (m ∷ notes) n a b c e p = (e.0, e.1, TookLines-push took notes n e.0 b c e.2 p)
 
@@ -21,13 +22,20 @@ append_known-twice None xs ys = refl
 
 -- ---- a loop's step
 
-pub lines_more : {K : Type 0} (took : K → List ℕ → K → Type 0) (xs : List Note) (i : ℕ) (d : Note) (bytes : List ℕ) (a b c : K) → i < length xs → TookLines took a (take i xs) b → bytes ≡ note_bytes (get_or xs i d) → took b bytes c → TookLines took a (take (i + 1) xs) c
-lines_more {K} took xs i d bytes a b c lt e n p = rw (take_more xs i d lt) (TookLines-push took (take i xs) (get_or xs i d) a b c e (subst (λ (y : List ℕ). took b y c) n p))
+pub lines_more : {K : Type 0} (took : K → List ℕ → K → Type 0) (xs : List Note) (i : ℕ) (d : Note) (bytes : List ℕ) (a b c : K) → i < length xs
+    → TookLines took a (take i xs) b → bytes ≡ note_bytes (get_or xs i d) → took b bytes c → TookLines took a (take (i + 1) xs) c
+lines_more {K} took xs i d bytes a b c lt e n p =
+    rw (take_more xs i d lt) (TookLines-push took (take i xs) (get_or xs i d) a b c e (subst (λ (y : List ℕ). took b y c) n p))
 
-pub given_more : (xs : List Note) (i : ℕ) (d : Note) (bytes : List ℕ) (x y z : Option (List ℕ)) → i < length xs → y ≡ append_known x (Text (take i xs)) → bytes ≡ note_bytes (get_or xs i d) → z ≡ append_known y bytes → z ≡ append_known x (Text (take (i + 1) xs))
-given_more xs i d bytes x y z lt e n p = rw (take_more xs i d lt, Text-push (take i xs) (get_or xs i d), append_known-twice x (Text (take i xs)) (note_bytes (get_or xs i d)), ← e, ← n) p
+pub given_more : (xs : List Note) (i : ℕ) (d : Note) (bytes : List ℕ) (x y z : Option (List ℕ)) → i < length xs → y ≡ append_known x (Text (take i xs))
+    → bytes ≡ note_bytes (get_or xs i d) → z ≡ append_known y bytes → z ≡ append_known x (Text (take (i + 1) xs))
+given_more xs i d bytes x y z lt e n p =
+    rw (take_more xs i d lt, Text-push (take i xs) (get_or xs i d), append_known-twice x (Text (take i xs)) (note_bytes (get_or xs i d)), ← e, ← n) p
 
-pub broke_at : {K : Type 0} (given : K → Option (List ℕ)) (took broke : K → List ℕ → K → Type 0) (xs : List Note) (i : ℕ) (d : Note) (bytes : List ℕ) (a b c : K) → i < length xs → TookLines took a (take i xs) b → given b ≡ append_known (given a) (Text (take i xs)) → bytes ≡ note_bytes (get_or xs i d) → broke b bytes c → AppendsFront (given b) bytes (given c) → BrokeLines given took broke a xs c
+pub broke_at : {K : Type 0} (given : K → Option (List ℕ)) (took broke : K → List ℕ → K → Type 0) (xs : List Note) (i : ℕ) (d : Note) (bytes : List ℕ)
+    (a b c : K)
+    → i < length xs → TookLines took a (take i xs) b → given b ≡ append_known (given a) (Text (take i xs)) → bytes ≡ note_bytes (get_or xs i d)
+    → broke b bytes c → AppendsFront (given b) bytes (given c) → BrokeLines given took broke a xs c
 broke_at {K} given took broke xs i d bytes a b c lt e g n p f = record {
   done = take i xs;
   last = get_or xs i d;

@@ -1,12 +1,12 @@
 -- For which trace and which log of steps a runner stands, and how its calls go on from there.
-use Rattle.std.specs.Prelude.{◌≡◌, ◌<◌, ◌≤◌, ◌+◌, ℕ, List, [], ◌∷◌, ◌++◌, Option, All, length}
+use Rattle.std.specs.Prelude.{◌≡◌, ◌<◌, ◌≤◌, ◌+◌, ℕ, List, [], ◌∷◌, ◌++◌, Option, Result, OnOk, OnErr, All, length}
 use Rattle.std.specs.Io.KnownBytes.{append_known}
 use Rattle.esc_base.specs.declared.event.Event.{Event}
 use Rattle.esc_base.specs.declared.note.Note.{Note}
 use Rattle.esc_base.specs.Flash.{Told}
 use Rattle.esc_base.specs.Journal.{time_of}
 use Rattle.esc_base.specs.Range.{InRange}
-use Rattle.esc_base.specs.Outside.{AppendsFront}
+use Rattle.esc_base.specs.Outside.{AppendsFront, Rose}
 use Rattle.trace_text.specs.Text.{note_bytes, Text}
 use Rattle.settings_block.specs.declared.stored.Loaded.{Loaded}
 use Rattle.interrupt_machine.specs.declared.nest.Nest.{Nest}
@@ -68,7 +68,8 @@ pub record LeftBelow (o : Outset) (now : Told) (nest : Nest) (cost until : ℕ) 
 
 -- The call made some steps: what stood for a trace and steps stands for the trace with these events and for the steps
 -- with those at their end, and the sink took the lines of the notes, in order.
-pub record GoesOn {K : Type 0} (given : K → Option (List ℕ)) (took : K → List ℕ → K → Type 0) (old new : List Event → List Turned → Type 0) (events : List Event) (before after : K) : Type 0 where
+pub record GoesOn {K : Type 0} (given : K → Option (List ℕ)) (took : K → List ℕ → K → Type 0) (old new : List Event → List Turned → Type 0)
+    (events : List Event) (before after : K) : Type 0 where
   pub log : List Turned
   pub stands : (trace : List Event) (steps : List Turned) → old trace steps → new (trace ++ events) (steps ++ log)
   pub given_is : given after ≡ append_known (given before) (Text (notes_in log))
@@ -76,7 +77,8 @@ pub record GoesOn {K : Type 0} (given : K → Option (List ℕ)) (took : K → L
 
 -- The call wrote some notes, and the sink refused the line of the next one. With this one, the journal of what stood
 -- before is as it may be left.
-pub record BreaksOff {K : Type 0} (given : K → Option (List ℕ)) (took broke : K → List ℕ → K → Type 0) (loaded : Loaded) (old : List Event → List Turned → Type 0) (leaves : List Event → List Note → Type 0) (before after : K) : Type 0 where
+pub record BreaksOff {K : Type 0} (given : K → Option (List ℕ)) (took broke : K → List ℕ → K → Type 0) (loaded : Loaded)
+    (old : List Event → List Turned → Type 0) (leaves : List Event → List Note → Type 0) (before after : K) : Type 0 where
   pub notes : List Note
   pub last : Note
   pub left_as : (trace : List Event) (steps : List Turned) → old trace steps → leaves trace (journal loaded steps ++ (notes ++ last ∷ []))
@@ -85,3 +87,20 @@ pub record BreaksOff {K : Type 0} (given : K → Option (List ℕ)) (took broke 
   pub given_is : given mid ≡ append_known (given before) (Text notes)
   pub refused : broke mid (note_bytes last) after
   pub appended : AppendsFront (given mid) (note_bytes last) (given after)
+
+-- ---- what each call inside of a run keeps
+
+-- the newest event, the nesting and the cost
+pub record Kept (old new : Runner) : Type 0 where
+  pub limit : new.limit ≡ old.limit
+  pub nest : nest_of new ≡ nest_of old
+  pub cost : cost_of new ≡ cost_of old
+
+-- the run went on from what it was, or a write failed; the flash told these two before and after
+pub record RunsOn {K T E : Type 0} (given : K → Option (List ℕ)) (took broke : K → List ℕ → K → Type 0) (faults : K → ℕ) (old new : Runner)
+    (flash flash' : Told) (result : Result T E) (before after : K) : Type 0 where
+  pub goes : OnOk result ((o : Outset) → GoesOn given took (Runs old o flash) (Runs new o flash') [] before after)
+  pub breaks : OnErr result ((o : Outset) → BreaksOff given took broke o.loaded (Runs old o flash)
+      (LeftBelow o flash' (nest_of old) (cost_of old) (newest new)) before after)
+  pub failed : OnErr result (Rose (faults before) (faults after))
+  pub no_fewer : faults before ≤ faults after

@@ -9,7 +9,7 @@ ghost use Rattle.interrupt_machine.specs.Open.{due_now, is_idle};
 ghost use Rattle.esc_laws.specs.Steps.{Turned, journal};
 ghost use Rattle.esc_laws.specs.Legal.{Legal};
 ghost use Rattle.esc_laws.specs.Saves.{FlashFits};
-ghost use Rattle.trace_runner.specs.Run.{Outset, Runs, StandsFor, StepBound, LeftBelow, GoesOn, BreaksOff, nest_of, cost_of, newest};
+ghost use Rattle.trace_runner.specs.Run.{Outset, Runs, StandsFor, StepBound, LeftBelow, GoesOn, BreaksOff, RunsOn, Kept, nest_of, cost_of, newest};
 
 use crate::lines::put_notes;
 use crate::{Runner, WriteFault};
@@ -97,28 +97,12 @@ impl Runner {
         requires small { limit.0 ≤ 1073741824 }
         requires later { self.old.limit.0 ≤ limit.0 }
         ensures reached { OnOk result (self.new.limit.0 ≤ self.new.next.0) }
-        ensures goes { OnOk result ((o : Outset) → GoesOn K.given K.took (Runs self.old o (told D.bytes D.faults dev.old)) (Runs self.new o (told D.bytes D.faults dev.new)) [] out.old out.new) }
-        ensures breaks { OnErr result ((o : Outset) → BreaksOff K.given K.took K.broke o.loaded (Runs self.old o (told D.bytes D.faults dev.old)) (LeftBelow o (told D.bytes D.faults dev.new) (nest_of self.old) (cost_of self.old) (newest self.new)) out.old out.new) }
-        ensures failed { OnErr result (Rose (K.faults out.old) (K.faults out.new)) }
-        ensures no_fewer { K.faults out.old ≤ K.faults out.new }
+        ensures run { RunsOn K.given K.took K.broke K.faults self.old self.new (told D.bytes D.faults dev.old) (told D.bytes D.faults dev.new) result out.old out.new }
         ensures limit { self.new.limit ≡ limit }
         ensures nest { nest_of self.new ≡ nest_of self.old }
         ensures cost { cost_of self.new ≡ cost_of self.old }
     {
         self.limit = limit;
-        self.run_on(out, dev)
-    }
-
-    fn run_on<K: Sink, D: FlashDev>(&mut self, out: &mut K, dev: &mut D) -> Result<(), WriteFault>
-        ensures reached { OnOk result (self.new.limit.0 ≤ self.new.next.0) }
-        ensures goes { OnOk result ((o : Outset) → GoesOn K.given K.took (Runs self.old o (told D.bytes D.faults dev.old)) (Runs self.new o (told D.bytes D.faults dev.new)) [] out.old out.new) }
-        ensures breaks { OnErr result ((o : Outset) → BreaksOff K.given K.took K.broke o.loaded (Runs self.old o (told D.bytes D.faults dev.old)) (LeftBelow o (told D.bytes D.faults dev.new) (nest_of self.old) (cost_of self.old) (newest self.new)) out.old out.new) }
-        ensures failed { OnErr result (Rose (K.faults out.old) (K.faults out.new)) }
-        ensures no_fewer { K.faults out.old ≤ K.faults out.new }
-        ensures limit { self.new.limit ≡ self.old.limit }
-        ensures nest { nest_of self.new ≡ nest_of self.old }
-        ensures cost { cost_of self.new ≡ cost_of self.old }
-    {
         while self.next.0 < self.limit.0 {
             self.go_on(out, dev)?;
         }
@@ -129,13 +113,8 @@ impl Runner {
     fn go_on<K: Sink, D: FlashDev>(&mut self, out: &mut K, dev: &mut D) -> Result<(), WriteFault>
         requires { self.old.next.0 < self.old.limit.0 }
         ensures later { OnOk result (self.old.next.0 < self.new.next.0) }
-        ensures goes { OnOk result ((o : Outset) → GoesOn K.given K.took (Runs self.old o (told D.bytes D.faults dev.old)) (Runs self.new o (told D.bytes D.faults dev.new)) [] out.old out.new) }
-        ensures breaks { OnErr result ((o : Outset) → BreaksOff K.given K.took K.broke o.loaded (Runs self.old o (told D.bytes D.faults dev.old)) (LeftBelow o (told D.bytes D.faults dev.new) (nest_of self.old) (cost_of self.old) (newest self.new)) out.old out.new) }
-        ensures failed { OnErr result (Rose (K.faults out.old) (K.faults out.new)) }
-        ensures no_fewer { K.faults out.old ≤ K.faults out.new }
-        ensures limit { self.new.limit ≡ self.old.limit }
-        ensures nest { nest_of self.new ≡ nest_of self.old }
-        ensures cost { cost_of self.new ≡ cost_of self.old }
+        ensures run { RunsOn K.given K.took K.broke K.faults self.old self.new (told D.bytes D.faults dev.old) (told D.bytes D.faults dev.new) result out.old out.new }
+        ensures kept { Kept self.old self.new }
     {
         self.pass();
         if self.machine.idle(&self.regs) {
@@ -152,9 +131,7 @@ impl Runner {
         ensures now { self.new.regs.time ≡ self.new.next.0 }
         ensures runs { (o : Outset) (now : Told) (trace : List AnEvent) (steps : List Turned) → Runs self.old o now trace steps → Runs self.new o now trace steps }
         ensures next { self.new.next ≡ self.old.next }
-        ensures limit { self.new.limit ≡ self.old.limit }
-        ensures nest { nest_of self.new ≡ nest_of self.old }
-        ensures cost { cost_of self.new ≡ cost_of self.old }
+        ensures kept { Kept self.old self.new }
     {
         self.regs.advance(self.next);
     }
@@ -166,9 +143,7 @@ impl Runner {
         requires below { self.old.next.0 < self.old.limit.0 }
         ensures later { self.old.next.0 < self.new.next.0 }
         ensures runs { (o : Outset) (now : Told) (trace : List AnEvent) (steps : List Turned) → Runs self.old o now trace steps → Runs self.new o now trace steps }
-        ensures limit { self.new.limit ≡ self.old.limit }
-        ensures nest { nest_of self.new ≡ nest_of self.old }
-        ensures cost { cost_of self.new ≡ cost_of self.old }
+        ensures kept { Kept self.old self.new }
     {
         let to = match self.regs.next_due() {
             Some(due) if due.0 < self.limit.0 => due,
@@ -184,13 +159,8 @@ impl Runner {
         requires busy { is_idle self.old.machine.open_kinds (due_now self.old.machine.firmware.orders.save_asked self.old.regs) ≡ false }
         requires below { self.old.next.0 < self.old.limit.0 }
         ensures next { self.new.next.0 ≡ self.old.next.0 + self.old.cost }
-        ensures goes { OnOk result ((o : Outset) → GoesOn K.given K.took (Runs self.old o (told D.bytes D.faults dev.old)) (Runs self.new o (told D.bytes D.faults dev.new)) [] out.old out.new) }
-        ensures breaks { OnErr result ((o : Outset) → BreaksOff K.given K.took K.broke o.loaded (Runs self.old o (told D.bytes D.faults dev.old)) (LeftBelow o (told D.bytes D.faults dev.new) (nest_of self.old) (cost_of self.old) (newest self.new)) out.old out.new) }
-        ensures failed { OnErr result (Rose (K.faults out.old) (K.faults out.new)) }
-        ensures no_fewer { K.faults out.old ≤ K.faults out.new }
-        ensures limit { self.new.limit ≡ self.old.limit }
-        ensures nest { nest_of self.new ≡ nest_of self.old }
-        ensures cost { cost_of self.new ≡ cost_of self.old }
+        ensures run { RunsOn K.given K.took K.broke K.faults self.old self.new (told D.bytes D.faults dev.old) (told D.bytes D.faults dev.new) result out.old out.new }
+        ensures kept { Kept self.old self.new }
     {
         self.machine.step_into(&mut self.regs, dev, &mut self.notes);
         self.next = Tick(self.next.0 + self.cost as u64);
@@ -204,9 +174,7 @@ impl Runner {
         requires stall { StallFits e }
         ensures reached { self.new.limit.0 ≤ self.new.next.0 }
         ensures runs { (o : Outset) (now : Told) (trace : List AnEvent) (steps : List Turned) → Runs self.old o now trace steps → Runs self.new o now (trace ++ e ∷ []) steps }
-        ensures limit { self.new.limit ≡ self.old.limit }
-        ensures nest { nest_of self.new ≡ nest_of self.old }
-        ensures cost { cost_of self.new ≡ cost_of self.old }
+        ensures kept { Kept self.old self.new }
     {
         self.regs.advance(self.limit);
         match e {

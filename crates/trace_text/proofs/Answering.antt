@@ -18,9 +18,10 @@ use Rattle.trace_text.specs.declared.parse.Entry.{Entry}
 use Rattle.trace_text.specs.declared.parse.Entry.TheVariants as entry
 use Rattle.trace_text.specs.declared.reader.Lines.{Lines}
 use Rattle.trace_text.specs.Line.{said, after_event}
-use Rattle.trace_text.specs.Read.{Reading, Trace, Refused, with_event, read_from, start}
-use Rattle.trace_text.specs.Ahead.{unread, place, ahead, with_events, HasRead, InTime, Follows, IfEvent, IsOfLine, EntryFits, lines_looked_at, Says, next_line, Answers, AnswersWhole, NoLineFeed, IsLine}
+use Rattle.trace_text.specs.Read.{Reading, Trace, Refused, with_event, read_from, read_line, Read, events_of, TakenEvents, start}
+use Rattle.trace_text.specs.Ahead.{unread, place, ahead, with_events, HasRead, NoEvent, ReadsAs, InTime, Follows, IfEvent, IfEnd, IfRefused, OnStop, IsOfLine, EntryFits, lines_looked_at, Says, next_line, Answers, AnswersWhole, NoLineFeed, IsLine}
 use Rattle.trace_text.proofs.Fields.{no_place}
+use Rattle.trace_text.proofs.Taking.{prepend_both}
 use Rattle.trace_text.proofs.Cut.{read_whole, read_none, read_long, read_many, read_nothing, all_read, more_left, no_feed_before}
 
 -- ---- the next line, or that there is none
@@ -96,8 +97,21 @@ too_many p held left a b le e some =
     ap (read_from p) (is.2 ∙ ap (λ (l : List ℕ). l ++ is.0) first.2) ∙ read_many p first.0 (first.1 ++ is.0) le)
 
 pub faulted : (p : Place) (a b : Option (List ℕ)) → Answers p a item.Fault (next_line p) b
-faulted p None b = record { says = tt; line = refl; follows = tt; goes_on = tt; in_time = tt }
-faulted p (Some text) b = record { says = tt; line = refl; follows = tt; goes_on = tt; in_time = tt }
+faulted p a b = record { says = tt; line = refl; follows = tt; goes_on = tt; in_time = tt }
+
+-- ---- nothing that was taken holds an event
+
+-- no line is ended
+pub none_ended : (p : Place) (held : List ℕ) (left a : Option (List ℕ)) → p.line < 16777216 → prepend_known held left ≡ a → NoLineFeed (take 41 held) → length held ≤ 40 → NoEvent p a left
+none_ended p held left a lt e none short = record {
+  bytes = held;
+  is_front = sym e;
+  none = ap events_of (read_none p held lt (subst (λ (l : List ℕ). NoLineFeed l) (take_all 41 held (omega arith)) none) short);
+}
+
+-- no byte is held
+pub none_held : (p : Place) (held : List ℕ) (left a : Option (List ℕ)) → prepend_known held left ≡ a → held ≡ [] → NoEvent p a left
+none_held p held left a e none = record { bytes = held; is_front = sym e; none = ap events_of (ap (read_from p) none ∙ read_nothing p) }
 
 -- ---- a whole line
 
@@ -131,10 +145,21 @@ module _ (p : Place) (held : List ℕ) (n : ℕ) (is : IsLine n held) where
   whole : (rest : List ℕ) → held ++ rest ≡ take n held ++ 10 ∷ (drop (n + 1) held ++ rest)
   whole rest = ap (λ (l : List ℕ). l ++ rest) is.cut ∙ append_assoc (take n held) (10 ∷ drop (n + 1) held) rest
 
+  ahead_cut : (left : Option (List ℕ)) → prepend_known held left ≡ prepend_known (take n held ++ 10 ∷ []) (prepend_known (drop (n + 1) held) left)
+  ahead_cut left = ap (λ (l : List ℕ). prepend_known l left) (is.cut ∙ sym (append_assoc (take n held) (10 ∷ []) (drop (n + 1) held))) ∙ sym (prepend_both (take n held ++ 10 ∷ []) (drop (n + 1) held) left)
+
+  -- what holds behind the line holds with the line before it
+  pub none_whole : (r : Item) (old left : Option (List ℕ)) (rest : List ℕ) → rest ≡ drop (n + 1) held → OnStop r (NoEvent p (prepend_known (take n held ++ 10 ∷ []) (prepend_known rest old)) left) → OnStop r (NoEvent p (prepend_known held old) left)
+  none_whole r old left rest behind h =
+      subst (λ (a : Option (List ℕ)). OnStop r (NoEvent p a left)) (sym (ahead_cut old)) (subst (λ (xs : List ℕ). OnStop r (NoEvent p (prepend_known (take n held ++ 10 ∷ []) (prepend_known xs old)) left)) behind h)
+
   pub says_event : (left : Option (List ℕ)) (e : Event) → said p (take n held) ≡ Ok (entry.Event e) → Follows p e → Answers p (prepend_known held left) (item.Event e) (after_event p e) (prepend_known (drop (n + 1) held) left)
-  says_event None e s f = record { says = tt; line = next_number p e; follows = f; goes_on = refl; in_time = tt }
-  says_event (Some rest) e s f = record {
-    says = ap (read_from p) (whole rest) ∙ rw (read_whole p (take n held) (drop (n + 1) held ++ rest) is.one, s) refl;
+  says_event left e s f = record {
+    says = record {
+      line = take n held ++ 10 ∷ [];
+      is_front = ahead_cut left;
+      goes_on = λ more. ap (read_from p) (append_assoc (take n held) (10 ∷ []) more) ∙ rw (read_whole p (take n held) more is.one, s) refl;
+    };
     line = next_number p e;
     follows = f;
     goes_on = refl;
@@ -161,6 +186,13 @@ module _ (p : Place) (held : List ℕ) (n : ℕ) (is : IsLine n held) where
 
 -- ---- behind the END line
 module _ (p : Place) (t : Tick) (line : List ℕ) (no_feed : NoLineFeed line) (end : said p line ≡ Ok (entry.End t)) where
+  pub none_behind : (held : List ℕ) (left a : Option (List ℕ)) → prepend_known held left ≡ a → held ≡ [] → NoEvent p (prepend_known (line ++ 10 ∷ []) a) left
+  none_behind held left a e none = record {
+    bytes = (line ++ 10 ∷ []) ++ held;
+    is_front = ap (λ (o : Option (List ℕ)). prepend_known (line ++ 10 ∷ []) o) (sym e) ∙ prepend_both (line ++ 10 ∷ []) held left;
+    none = ap (λ (l : List ℕ). events_of (read_from p ((line ++ 10 ∷ []) ++ l))) none ∙ ap (λ (l : List ℕ). events_of (read_from p l)) (append-nil (line ++ 10 ∷ [])) ∙ rw (read_whole p line [] no_feed, end, all_read) refl;
+  }
+
   pub ends : (held : List ℕ) (left a b : Option (List ℕ)) → InTime p t.0 → prepend_known held left ≡ a → held ≡ [] → IsAtEnd left → AnswersWhole p line a (item.End t) (next_line p) b
   ends held left None b f e none h = record { says = tt; line = refl; follows = tt; goes_on = tt; in_time = f }
   ends held left (Some text) b f e none h =
@@ -198,38 +230,96 @@ no_events : (r : Reading) → with_events [] r ≡ r
 no_events (Trace events end) = refl
 no_events (Refused events line kind) = refl
 
-pub nothing_read : (l : Lines) (text : List ℕ) → unread l.held ≡ [] → place l ≡ start → HasRead l (Some text) text []
-nothing_read l text none first = record {
-  rest = text;
-  is_ahead = ap (λ (xs : List ℕ). Some (xs ++ text)) none;
-  goes_on = sym (no_events (read_from (place l) text) ∙ ap (λ (p : Place). read_from p text) first);
+prepend_none : (a : Option (List ℕ)) → prepend_known [] a ≡ a
+prepend_none None = refl
+prepend_none (Some text) = refl
+
+pub nothing_read : (l : Lines) (left : Option (List ℕ)) → unread l.held ≡ [] → place l ≡ start → HasRead l left left []
+nothing_read l left none first = record {
+  seen = [];
+  is_ahead = sym (prepend_none (ahead l.held left) ∙ ap (λ (xs : List ℕ). prepend_known xs left) none ∙ prepend_none left);
+  goes_on = λ more. sym (no_events (read_from (place l) more) ∙ ap (λ (p : Place). read_from p more) first);
 }
 
 one_more : (events : List Event) (e : Event) (r : Reading) → with_events events (with_event e r) ≡ with_events (events ++ e ∷ []) r
 one_more events e (Trace more end) = ap (λ (es : List Event). Trace es end) (sym (append_assoc events (e ∷ []) more))
 one_more events e (Refused more line kind) = ap (λ (es : List Event). Refused es line kind) (sym (append_assoc events (e ∷ []) more))
 
-goes_on_at : (p q : Place) (a b : Option (List ℕ)) (e : Event) (rest : List ℕ) → Says p a (item.Event e) q b → a ≡ Some rest → (more : List ℕ) × (b ≡ Some more) × (read_from p rest ≡ with_event e (read_from q more))
-goes_on_at p q None b e rest s is = cc
-goes_on_at p q (Some text) None e rest s is = absurd s
-goes_on_at p q (Some text) (Some more) e rest s is = (more, refl, ap (read_from p) (cc) ∙ s)
-
 -- one event more was read
-pub read_more : (l m : Lines) (left after : Option (List ℕ)) (e : Event) → Says (place l) (ahead l.held left) (item.Event e) (place m) (ahead m.held after) → (text : List ℕ) (events : List Event) → HasRead l left text events → HasRead m after text (events ++ e ∷ [])
-read_more l m left after e s text events h =
-    let on = goes_on_at (place l) (place m) (ahead l.held left) (ahead m.held after) e h.rest s h.is_ahead in
-    record {
-      rest = on.0;
-      is_ahead = on.1;
-      goes_on = h.goes_on ∙ ap (with_events events) on.2 ∙ one_more events e (read_from (place m) on.0);
-    }
+pub read_more : (l m : Lines) (left after : Option (List ℕ)) (e : Event) → Says (place l) (ahead l.held left) (item.Event e) (place m) (ahead m.held after) → (first : Option (List ℕ)) (events : List Event) → HasRead l first left events → HasRead m first after (events ++ e ∷ [])
+read_more l m left after e s first events h = record {
+  seen = h.seen ++ s.line;
+  is_ahead = h.is_ahead ∙ ap (λ (o : Option (List ℕ)). prepend_known h.seen o) s.is_front ∙ prepend_both h.seen s.line (ahead m.held after);
+  goes_on = λ more. ap (λ (l : List ℕ). Read l) (append_assoc h.seen s.line more) ∙ h.goes_on (s.line ++ more) ∙ ap (with_events events) (s.goes_on more) ∙ one_more events e (read_from (place m) more);
+}
 
 -- the same, whatever the answer is
-pub read_more_if : (l m : Lines) (left after : Option (List ℕ)) (r : Item) → Answers (place l) (ahead l.held left) r (place m) (ahead m.held after) → IfEvent r (λ e. (text : List ℕ) (events : List Event) → HasRead l left text events → HasRead m after text (events ++ e ∷ []))
+pub read_more_if : (l m : Lines) (left after : Option (List ℕ)) (r : Item) → Answers (place l) (ahead l.held left) r (place m) (ahead m.held after)
+    → IfEvent r (λ e. (first : Option (List ℕ)) (events : List Event) → HasRead l first left events → HasRead m first after (events ++ e ∷ []))
 read_more_if l m left after (item.Event e) a = read_more l m left after e a.says
 read_more_if l m left after (item.End t) a = tt
 read_more_if l m left after item.Fault a = tt
 read_more_if l m left after (item.Refused kind) a = tt
+
+-- where the whole text is told, so is what is ahead
+text_ahead : (l : Lines) (left : Option (List ℕ)) (text : List ℕ) (events : List Event) → HasRead l (Some text) left events → (rest : List ℕ) × (ahead l.held left ≡ Some rest) × (Read text ≡ with_events events (read_from (place l) rest))
+text_ahead l left text events h =
+    let is = ahead_is h.seen (ahead l.held left) (Some text) text (sym h.is_ahead) refl in
+    (is.0, is.1, ap (λ (t : List ℕ). Read t) is.2 ∙ h.goes_on is.0)
+
+reads_as : (p : Place) (a : Option (List ℕ)) (rest : List ℕ) (r : Reading) → a ≡ Some rest → ReadsAs p a r → read_from p rest ≡ r
+reads_as p None rest r is s = cc
+reads_as p (Some text) rest r is s = ap (read_from p) (cc) ∙ s
+
+-- no event more, and so the text says what the last answer says
+reads_whole : (l : Lines) (left : Option (List ℕ)) (text : List ℕ) (events : List Event) (r : Reading) → HasRead l (Some text) left events → ReadsAs (place l) (ahead l.held left) r → Read text ≡ with_events events r
+reads_whole l left text events r h s =
+    let at = text_ahead l left text events h in
+    at.2 ∙ ap (with_events events) (reads_as (place l) (ahead l.held left) at.0 r at.1 s)
+
+pub reads_end_if : (l : Lines) (left : Option (List ℕ)) (r : Item) (q : Place) (b : Option (List ℕ)) → Answers (place l) (ahead l.held left) r q b → IfEnd r (λ t. (text : List ℕ) (events : List Event) → HasRead l (Some text) left events → Read text ≡ Trace events t.0)
+reads_end_if l left (item.Event e) q b a = tt
+reads_end_if l left (item.End t) q b a = λ text events h. reads_whole l left text events (Trace [] t.0) h a.says ∙ ap (λ (es : List Event). Trace es t.0) (append-nil events)
+reads_end_if l left item.Fault q b a = tt
+reads_end_if l left (item.Refused kind) q b a = tt
+
+pub reads_refused_if : (l : Lines) (left : Option (List ℕ)) (r : Item) (q : Place) (b : Option (List ℕ)) → Answers (place l) (ahead l.held left) r q b → IfRefused r (λ kind. (text : List ℕ) (events : List Event) → HasRead l (Some text) left events → Read text ≡ Refused events q.line kind)
+reads_refused_if l left (item.Event e) q b a = tt
+reads_refused_if l left (item.End t) q b a = tt
+reads_refused_if l left item.Fault q b a = tt
+reads_refused_if l left (item.Refused kind) q b a = λ text events h. reads_whole l left text events (Refused [] q.line kind) h a.says ∙ ap (λ (es : List Event). Refused es q.line kind) (append-nil events)
+
+events-with_events : (events : List Event) (r : Reading) → events_of (with_events events r) ≡ events ++ events_of r
+events-with_events events (Trace more end) = refl
+events-with_events events (Refused more line kind) = refl
+
+-- the events of what was taken are those that were read, and those of the lines that are held
+pub taken_held : (l : Lines) (first left : Option (List ℕ)) (events : List Event) → HasRead l first left events → TakenEvents first left (events ++ events_of (read_from (place l) (unread l.held)))
+taken_held l first left events h = record {
+  taken = h.seen ++ unread l.held;
+  is_front = h.is_ahead ∙ prepend_both h.seen (unread l.held) left;
+  of_lines = ap events_of (h.goes_on (unread l.held)) ∙ events-with_events events (read_from (place l) (unread l.held));
+}
+
+-- nothing was taken
+pub none_taken : (left : Option (List ℕ)) → TakenEvents left left []
+none_taken left = record { taken = []; is_front = sym (prepend_none left); of_lines = ap events_of (read_nothing start) }
+
+taken_all : (l : Lines) (first before left : Option (List ℕ)) (events : List Event) → NoEvent (place l) (ahead l.held before) left → HasRead l first before events → TakenEvents first left events
+taken_all l first before left events n h = record {
+  taken = h.seen ++ n.bytes;
+  is_front = h.is_ahead ∙ ap (λ (o : Option (List ℕ)). prepend_known h.seen o) n.is_front ∙ prepend_both h.seen n.bytes left;
+  of_lines = ap events_of (h.goes_on n.bytes) ∙ events-with_events events (read_from (place l) n.bytes) ∙ ap (λ (es : List Event). events ++ es) n.none ∙ append-nil events;
+}
+
+pub taken_if : (l : Lines) (before left : Option (List ℕ)) (r : Item) → OnStop r (NoEvent (place l) (ahead l.held before) left) → OnStop r ((first : Option (List ℕ)) (events : List Event) → HasRead l first before events → TakenEvents first left events)
+taken_if l before left (item.Event e) n = tt
+taken_if l before left (item.End t) n = λ first events h. taken_all l first before left events n h
+taken_if l before left item.Fault n = λ first events h. taken_all l first before left events n h
+taken_if l before left (item.Refused kind) n = tt
+
+pub same_none : (p p' : Place) (a a' left : Option (List ℕ)) (r : Item) → p' ≡ p → a' ≡ a → OnStop r (NoEvent p' a' left) → OnStop r (NoEvent p a left)
+same_none p p' a a' left r e f h = subst (λ (x : Place). OnStop r (NoEvent x a left)) e (subst (λ (x : Option (List ℕ)). OnStop r (NoEvent p' x left)) f h)
 
 pub same_answers : (p p' q q' : Place) (a a' b : Option (List ℕ)) (r : Item) → p' ≡ p → a' ≡ a → q' ≡ q → Answers p' a' r q' b → Answers p a r q b
 same_answers p p' q q' a a' b r e f g h = subst (λ (x : Place). Answers p a r x b) g (subst (λ (x : Option (List ℕ)). Answers p x r q' b) f (subst (λ (x : Place). Answers x a' r q' b) e h))

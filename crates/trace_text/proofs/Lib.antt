@@ -5,5 +5,6 @@ pub mod Saying
 pub mod Cut
 pub mod Taking
 pub mod Answering
+pub mod InTime
 pub mod NoteBack
 pub mod OneText

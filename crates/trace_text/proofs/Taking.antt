@@ -11,7 +11,7 @@ pub at_end_after : (a b : Option (List ℕ)) → a ≡ prepend_known [] b → Is
 at_end_after a None e h = tt
 at_end_after a (Some ys) e h = subst (λ (o : Option (List ℕ)). IsAtEnd o) e h
 
-prepend_both : (xs ys : List ℕ) (b : Option (List ℕ)) → prepend_known xs (prepend_known ys b) ≡ prepend_known (xs ++ ys) b
+pub prepend_both : (xs ys : List ℕ) (b : Option (List ℕ)) → prepend_known xs (prepend_known ys b) ≡ prepend_known (xs ++ ys) b
 prepend_both xs ys None = refl
 prepend_both xs ys (Some zs) = ap (λ (l : List ℕ). Some l) (sym (append_assoc xs ys zs))
 

@@ -15,7 +15,7 @@ use Rattle.trace_text.specs.declared.reader.Lines.{Lines}
 use Rattle.trace_text.specs.declared.parse.Entry.{Entry}
 use Rattle.trace_text.specs.declared.parse.Entry.TheVariants as entry
 use Rattle.trace_text.specs.Line.{after_event}
-use Rattle.trace_text.specs.Read.{Reading, Trace, Refused, with_event, read_from, Read}
+use Rattle.trace_text.specs.Read.{Reading, Trace, Refused, with_event, read_from, Read, events_of}
 
 -- the bytes that are held and weren't read
 abbrev pub unread : Held → List ℕ
@@ -34,20 +34,12 @@ abbrev pub with_events : List Event → Reading → Reading
 with_events events (Trace more end) = Trace (events ++ more) end
 with_events events (Refused more line kind) = Refused (events ++ more) line kind
 
--- these events were read of this text, and the text ahead goes on from there
-pub record HasRead (l : Lines) (left : Option (List ℕ)) (text : List ℕ) (events : List Event) : Type 0 where
-  pub rest : List ℕ
-  pub is_ahead : ahead l.held left ≡ Some rest
-  pub goes_on : Read text ≡ with_events events (read_from (place l) rest)
-
-abbrev pub events_of : Reading → List Event
-events_of (Trace events end) = events
-events_of (Refused events line kind) = events
-
--- a reading begins with these events
-pub record BeginsWith (r : Reading) (events : List Event) : Type 0 where
-  pub more : List Event
-  pub is : events_of r ≡ events ++ more
+-- Of what a source had left at first these bytes were read, and then comes what is ahead. Their events are these, and
+-- whatever stands behind them is read from the place at which the reader is.
+pub record HasRead (l : Lines) (first left : Option (List ℕ)) (events : List Event) : Type 0 where
+  pub seen : List ℕ
+  pub is_ahead : first ≡ prepend_known seen (ahead l.held left)
+  pub goes_on : (more : List ℕ) → Read (seen ++ more) ≡ with_events events (read_from (place l) more)
 
 -- ---- what an event's place asks of it
 
@@ -123,16 +115,38 @@ SourceEnded left item.Fault = Unit {0}
 SourceEnded left (item.Refused refusal.NoEnd) = IsAtEnd left
 SourceEnded left (item.Refused kind) = Unit {0}
 
+-- facts of an answer that ends the reading without a refusal
+abbrev pub OnStop : Item → Type 0 → Type 0
+OnStop (item.Event e) P = Unit {0}
+OnStop (item.End t) P = P
+OnStop item.Fault P = P
+OnStop (item.Refused kind) P = Unit {0}
+
 -- ---- one answer
+
+-- where the text ahead is told, it reads as this
+abbrev pub ReadsAs : Place → Option (List ℕ) → Reading → Type 0
+ReadsAs p None r = Unit {0}
+ReadsAs p (Some text) r = read_from p text ≡ r
+
+-- An event's line, with its line feed, stands before what is ahead now. Whatever stands behind it is read from the next place.
+pub record PassesLine (p : Place) (before : Option (List ℕ)) (e : Event) (q : Place) (after : Option (List ℕ)) : Type 0 where
+  pub line : List ℕ
+  pub is_front : before ≡ prepend_known line after
+  pub goes_on : (more : List ℕ) → read_from p (line ++ more) ≡ with_event e (read_from q more)
+
+-- all bytes up to what the source has left were looked at, and no whole line among them is an event's
+pub record NoEvent (p : Place) (before left : Option (List ℕ)) : Type 0 where
+  pub bytes : List ℕ
+  pub is_front : before ≡ prepend_known bytes left
+  pub none : events_of (read_from p bytes) ≡ []
 
 -- what an answer says of the text ahead at a place, and of the text and the place after it
 abbrev pub Says : Place → Option (List ℕ) → Item → Place → Option (List ℕ) → Type 0
-Says p None r q after = Unit {0}
-Says p (Some text) item.Fault q after = Unit {0}
-Says p (Some text) (item.End t) q after = read_from p text ≡ Trace [] t.0
-Says p (Some text) (item.Refused kind) q after = read_from p text ≡ Refused [] q.line kind
-Says p (Some text) (item.Event e) q None = ⊥
-Says p (Some text) (item.Event e) q (Some rest) = read_from p text ≡ with_event e (read_from q rest)
+Says p before (item.Event e) q after = PassesLine p before e q after
+Says p before (item.End t) q after = ReadsAs p before (Trace [] t.0)
+Says p before item.Fault q after = Unit {0}
+Says p before (item.Refused kind) q after = ReadsAs p before (Refused [] q.line kind)
 
 -- the place after a line that was only looked at
 abbrev pub next_line : Place → Place

@@ -1,5 +1,6 @@
 -- What a whole text says: a trace, or the first refusal and the events before it.
-use Rattle.std.specs.Prelude.{ℕ, ◌+◌, Bool, true, false, ◌==◌, nat_lt, nat_le, if◌then◌else◌, List, [], ◌∷◌, ◌++◌, length, Result, Ok, Err, None}
+use Rattle.std.specs.Prelude.{◌≡◌, ℕ, ◌+◌, Bool, true, false, ◌==◌, nat_lt, nat_le, if◌then◌else◌, List, [], ◌∷◌, ◌++◌, length, Option, Result, Ok, Err, None}
+use Rattle.std.specs.Io.KnownBytes.{prepend_known}
 use Rattle.esc_base.specs.declared.event.Event.{Event}
 use Rattle.trace_text.specs.declared.item.Place.{Place}
 use Rattle.trace_text.specs.declared.item.Refusal.{Refusal}
@@ -73,3 +74,15 @@ start = record { line = 0; time = record { 0 = 0 }; serial = None }
 -- what a whole text says
 abbrev pub Read : List ℕ → Reading
 Read text = read_from start text
+
+-- the events that a reading has
+abbrev pub events_of : Reading → List Event
+events_of (Trace events end) = events
+events_of (Refused events line kind) = events
+
+-- A source gave some bytes, by what it had left at first and has left now, and these events are those of the whole lines
+-- among them, up to the first faulty one.
+pub record TakenEvents (first left : Option (List ℕ)) (events : List Event) : Type 0 where
+  pub taken : List ℕ
+  pub is_front : first ≡ prepend_known taken left
+  pub of_lines : events_of (Read taken) ≡ events

@@ -21,7 +21,8 @@ fn take_behind<S: Source>(src: &mut S, buffer: &mut [u8], at: usize) -> Result<u
     ensures fits { IfOk result (λ n. at + n ≤ length buffer.old) }
     ensures gives { IfOk result (λ n. prepend_known (take at buffer.old) (S.left src.old) ≡ prepend_known (take (at + n) buffer.new) (S.left src.new)) }
     ensures end { IfOk result (λ n. n ≡ 0 → IsAtEnd (S.left src.new)) }
-    ensures front { OnOk result (take at buffer.new ≡ take at buffer.old) }
+    ensures untaken { OnErr result (S.left src.new ≡ S.left src.old) }
+    ensures front { take at buffer.new ≡ take at buffer.old }
     ensures no_fewer { S.faults src.old ≤ S.faults src.new }
     ensures failed { OnErr result (Rose (S.faults src.old) (S.faults src.new)) }
 {
@@ -55,9 +56,10 @@ impl Held {
     /// Takes more bytes behind those that are held, and answers whether there were any.
     pub fn fill<S: Source>(&mut self, src: &mut S) -> Result<bool, Failed>
         requires { length (unread self.old) ≤ 40 }
-        ensures ahead { OnOk result (ahead self.new (S.left src.new) ≡ ahead self.old (S.left src.old)) }
+        ensures ahead { ahead self.new (S.left src.new) ≡ ahead self.old (S.left src.old) }
         ensures more { IfOk result (λ more. IsTrue more → length (unread self.old) < length (unread self.new)) }
         ensures none { IfOk result (λ more. IsFalse more → unread self.new ≡ unread self.old) }
+        ensures kept { OnErr result (unread self.new ≡ unread self.old) }
         ensures end { IfOk result (λ more. IsFalse more → IsAtEnd (S.left src.new)) }
         ensures no_fewer { S.faults src.old ≤ S.faults src.new }
         ensures failed { OnErr result (Rose (S.faults src.old) (S.faults src.new)) }
@@ -70,9 +72,10 @@ impl Held {
 
     /// Whether a byte is ahead; it is held then.
     pub fn has_more<S: Source>(&mut self, src: &mut S) -> Result<bool, Failed>
-        ensures ahead { OnOk result (ahead self.new (S.left src.new) ≡ ahead self.old (S.left src.old)) }
+        ensures ahead { ahead self.new (S.left src.new) ≡ ahead self.old (S.left src.old) }
         ensures more { IfOk result (λ more. IsTrue more → 0 < length (unread self.new)) }
         ensures none { IfOk result (λ more. IsFalse more → unread self.new ≡ []) }
+        ensures kept { OnErr result (unread self.new ≡ []) }
         ensures end { IfOk result (λ more. IsFalse more → IsAtEnd (S.left src.new)) }
         ensures no_fewer { S.faults src.old ≤ S.faults src.new }
         ensures failed { OnErr result (Rose (S.faults src.old) (S.faults src.new)) }

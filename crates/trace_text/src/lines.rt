@@ -1,10 +1,11 @@
-ghost use Rattle.std.specs.Prelude.{◌≡◌, ◌≤◌, ◌<◌, ◌+◌, ◌∷◌, ◌++◌, [], ℕ, List, Some, None, IfOk, IfErr, Ok, OnOk};
+ghost use Rattle.std.specs.Prelude.{◌≡◌, ◌≤◌, ◌<◌, ◌+◌, ◌∷◌, ◌++◌, [], ℕ, List, Option, Some, None, IfOk, IfErr, Ok};
+ghost use Rattle.std.specs.Io.KnownBytes.{prepend_known};
 ghost use Rattle.esc_base.specs.Outside.{Rose};
 ghost use Rattle.esc_base.specs.declared.event.Event.{Event as AnEvent};
 ghost use Rattle.trace_text.specs.Line.{said, after_event};
-ghost use Rattle.trace_text.specs.Read.{Read, Trace};
+ghost use Rattle.trace_text.specs.Read.{Read, Trace, TakenEvents};
 ghost use Rattle.trace_text.specs.Read.{Refused as IsRefused};
-ghost use Rattle.trace_text.specs.Ahead.{unread, place, ahead, HasRead, BeginsWith, Follows, InTime, IfEvent, IfEnd, OnFault, IfRefused, lines_looked_at, IsLine, NoLineFeed, next_line, Answers, AnswersWhole, SourceEnded};
+ghost use Rattle.trace_text.specs.Ahead.{unread, place, ahead, HasRead, NoEvent, Follows, InTime, IfEvent, IfEnd, OnFault, OnStop, IfRefused, lines_looked_at, IsLine, NoLineFeed, next_line, Answers, AnswersWhole, SourceEnded};
 ghost use Rattle.trace_text.specs.declared.parse.Entry.TheVariants.{End as IsEnd};
 
 use crate::parse::Entry;
@@ -21,7 +22,7 @@ const MOST_LINES: u64 = 16777216;
 impl Lines {
     /// A reader before the first line.
     pub fn new() -> Lines
-        ensures begins { (text : List ℕ) → HasRead result (Some text) text [] }
+        ensures begins { (left : Option (List ℕ)) → HasRead result left left [] }
         ensures line { (place result).line ≡ 0 }
         ensures time { (place result).time.0 ≡ 0 }
         ensures serial { (place result).serial ≡ None }
@@ -46,9 +47,10 @@ impl Lines {
     /// The length of the next line, which is then held with its line feed.
     fn find_line<S: Source>(&mut self, src: &mut S) -> Result<usize, Item>
         requires { (place self.old).line < 16777216 }
-        ensures ahead { OnOk result (ahead self.new.held (S.left src.new) ≡ ahead self.old.held (S.left src.old)) }
+        ensures ahead { ahead self.new.held (S.left src.new) ≡ ahead self.old.held (S.left src.old) }
         ensures found { IfOk result (λ n. IsLine n (unread self.new.held)) }
         ensures answers { IfErr result (λ item. Answers (place self.old) (ahead self.old.held (S.left src.old)) item (next_line (place self.old)) (ahead self.new.held (S.left src.new))) }
+        ensures no_event { IfErr result (λ item. OnStop item (NoEvent (place self.old) (ahead self.old.held (S.left src.old)) (S.left src.new))) }
         ensures place { place self.new ≡ place self.old }
         ensures end { IfErr result (SourceEnded (S.left src.new)) }
         ensures fault { IfErr result (λ item. OnFault item (Rose (S.faults src.old) (S.faults src.new))) }
@@ -73,7 +75,8 @@ impl Lines {
     fn past_last<S: Source>(&mut self, src: &mut S) -> Item
         requires { (place self.old).line ≡ 16777216 }
         ensures answers { Answers (place self.old) (ahead self.old.held (S.left src.old)) result (place self.new) (ahead self.new.held (S.left src.new)) }
-        ensures no_event { IfEvent result (λ e. ⊥) }
+        ensures no_line { IfEvent result (λ e. ⊥) }
+        ensures no_event { OnStop result (NoEvent (place self.old) (ahead self.old.held (S.left src.old)) (S.left src.new)) }
         ensures end { SourceEnded (S.left src.new) result }
         ensures fault { OnFault result (Rose (S.faults src.old) (S.faults src.new)) }
         ensures no_fewer { S.faults src.old ≤ S.faults src.new }
@@ -91,6 +94,7 @@ impl Lines {
         requires few { (place self.old).line < 16777216 }
         requires in_time { InTime (place self.old) t.0 }
         ensures answers { (line : List ℕ) → NoLineFeed line → said (place self.old) line ≡ Ok (IsEnd t) → AnswersWhole (place self.old) line (ahead self.old.held (S.left src.old)) result (place self.new) (ahead self.new.held (S.left src.new)) }
+        ensures no_event { (line : List ℕ) → NoLineFeed line → said (place self.old) line ≡ Ok (IsEnd t) → OnStop result (NoEvent (place self.old) (prepend_known (line ++ 10 ∷ []) (ahead self.old.held (S.left src.old))) (S.left src.new)) }
         ensures end { SourceEnded (S.left src.new) result }
         ensures fault { OnFault result (Rose (S.faults src.old) (S.faults src.new)) }
         ensures no_fewer { S.faults src.old ≤ S.faults src.new }
@@ -111,6 +115,7 @@ impl Lines {
         requires few { (place self.old).line < 16777216 }
         requires found { IsLine n (unread self.old.held) }
         ensures answers { Answers (place self.old) (ahead self.old.held (S.left src.old)) result (place self.new) (ahead self.new.held (S.left src.new)) }
+        ensures no_event { OnStop result (NoEvent (place self.old) (ahead self.old.held (S.left src.old)) (S.left src.new)) }
         ensures end { SourceEnded (S.left src.new) result }
         ensures fault { OnFault result (Rose (S.faults src.old) (S.faults src.new)) }
         ensures no_fewer { S.faults src.old ≤ S.faults src.new }
@@ -137,11 +142,15 @@ impl Lines {
     pub fn next<S: Source>(&mut self, src: &mut S) -> Item
         requires { (place self.old).line ≤ 16777216 }
 
-        // Where the source tells what is left, the answer is what the whole text says.
-        ensures event { IfEvent result (λ e. (text : List ℕ) (events : List AnEvent) → HasRead self.old (S.left src.old) text events → HasRead self.new (S.left src.new) text (events ++ e ∷ [])) }
-        ensures end { IfEnd result (λ t. (text : List ℕ) (events : List AnEvent) → HasRead self.old (S.left src.old) text events → Read text ≡ Trace events t.0) }
-        ensures refused { IfRefused result (λ kind. (text : List ℕ) (events : List AnEvent) → HasRead self.old (S.left src.old) text events → Read text ≡ IsRefused events (place self.new).line kind) }
-        ensures front { OnFault result ((text : List ℕ) (events : List AnEvent) → HasRead self.old (S.left src.old) text events → BeginsWith (Read text) events) }
+        // The events so far are those of the lines that were read, whether the source tells what is left or not.
+        ensures event { IfEvent result (λ e. (first : Option (List ℕ)) (events : List AnEvent) → HasRead self.old first (S.left src.old) events → HasRead self.new first (S.left src.new) (events ++ e ∷ [])) }
+
+        // At the end and at a fault no event more is in the bytes that were taken.
+        ensures taken { OnStop result ((first : Option (List ℕ)) (events : List AnEvent) → HasRead self.old first (S.left src.old) events → TakenEvents first (S.left src.new) events) }
+
+        // Where the source tells what is left, the last answer is what the whole text says.
+        ensures end { IfEnd result (λ t. (text : List ℕ) (events : List AnEvent) → HasRead self.old (Some text) (S.left src.old) events → Read text ≡ Trace events t.0) }
+        ensures refused { IfRefused result (λ kind. (text : List ℕ) (events : List AnEvent) → HasRead self.old (Some text) (S.left src.old) events → Read text ≡ IsRefused events (place self.new).line kind) }
         ensures no_end { SourceEnded (S.left src.new) result }
 
         // Whatever it tells.

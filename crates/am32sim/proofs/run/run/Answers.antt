@@ -34,13 +34,13 @@ pub returns-in_err-feed-in-Event-clause-err : goal.returns-in_err-feed-in-Event-
 returns-in_err-feed-in-Event-clause-err g c =
     on_err c.from_residual-in_err-feed-in-Event.result (broken_event g.K.Sink.given g.K.Sink.took g.K.Sink.broke (record { loaded = c.args.loaded; flash = told g.F.FlashDev.bytes g.F.FlashDev.faults c.args.flash.now }) _ _ c.loop-event.runner c.loop-event.lines c.next.new.self _
     (g.S.Source.left c.args.src.now) (g.S.Source.left c.loop-event.src) (g.S.Source.left c.next.new.src) (g.K.Sink.given c.args.out.now) c.loop-event.out c.feed.new.out c.in-Event.event
-    c.loop-event.invariant.so_far c.feed.ensures.newest c.in-Event.ensures.event (c.in_err-feed-in-Event.ensures.breaks _))
+    c.loop-event.invariant.so_far c.feed.ensures.newest c.in-Event.ensures.goes_on c.in-Event.ensures.event (c.in_err-feed-in-Event.ensures.breaks _))
 
 pub returns-in_err-end-in-End-clause-err : goal.returns-in_err-end-in-End-clause-err
 returns-in_err-end-in-End-clause-err g c =
     on_err c.from_residual-in_err-end-in-End.result (broken_end g.K.Sink.given g.K.Sink.took g.K.Sink.broke (record { loaded = c.args.loaded; flash = told g.F.FlashDev.bytes g.F.FlashDev.faults c.args.flash.now }) _ _ c.loop-event.runner c.loop-event.lines _
-    (g.S.Source.left c.args.src.now) (g.S.Source.left c.loop-event.src) (g.K.Sink.given c.args.out.now) c.loop-event.out c.end.new.out
-    c.loop-event.invariant.so_far (c.in_err-end-in-End.ensures.breaks _))
+    (g.S.Source.left c.args.src.now) (g.S.Source.left c.loop-event.src) (g.S.Source.left c.next.new.src) (g.K.Sink.given c.args.out.now) c.loop-event.out c.end.new.out
+    c.loop-event.invariant.so_far c.in-End.ensures.taken (c.in_err-end-in-End.ensures.breaks _))
 
 pub returns-in-End-clause-ok : goal.returns-in-End-clause-ok
 returns-in-End-clause-ok g c =
@@ -50,8 +50,8 @@ returns-in-End-clause-ok g c =
 
 pub returns-in-Fault-clause-ok : goal.returns-in-Fault-clause-ok
 returns-in-Fault-clause-ok g c =
-    faulted (record { loaded = c.args.loaded; flash = told g.F.FlashDev.bytes g.F.FlashDev.faults c.args.flash.now }) _ c.loop-event.runner c.loop-event.lines (g.S.Source.left c.args.src.now) (g.S.Source.left c.loop-event.src) (g.K.Sink.given c.args.out.now) (g.K.Sink.given c.loop-event.out)
-    c.loop-event.invariant.so_far c.in-Fault.ensures.front
+    faulted (record { loaded = c.args.loaded; flash = told g.F.FlashDev.bytes g.F.FlashDev.faults c.args.flash.now }) _ c.loop-event.runner c.loop-event.lines (g.S.Source.left c.args.src.now) (g.S.Source.left c.loop-event.src) (g.S.Source.left c.next.new.src) (g.K.Sink.given c.args.out.now) (g.K.Sink.given c.loop-event.out)
+    c.loop-event.invariant.so_far c.in-Fault.ensures.taken
 
 pub returns-in-Refused-clause-ok : goal.returns-in-Refused-clause-ok
 returns-in-Refused-clause-ok g c =

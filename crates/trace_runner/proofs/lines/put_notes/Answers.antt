@@ -27,4 +27,5 @@ returns-in_err-put-clause-broke g c =
     let inv = c.loop-note.invariant in
     let lt : i < length xs = omega arith in
     let n = c.as_bytes.ensures.value ∙ c.as_str.ensures.value ∙ c.note_text-line.ensures in
-    on_err c.from_residual.result (broke_at g.K.Sink.given g.K.Sink.took g.K.Sink.broke xs i blank _ _ _ _ lt inv.took inv.given n c.in_err-put.ensures.broke c.in_err-put.ensures.front)
+    on_err c.from_residual.result
+    (broke_at g.K.Sink.given g.K.Sink.took g.K.Sink.broke xs i blank _ _ _ _ lt inv.took inv.given n c.in_err-put.ensures.broke c.in_err-put.ensures.front)

@@ -5,7 +5,9 @@ use Rattle.esc_core.proofs.firmware.CoreFirmware.step.Goals as goal
 pub returns : goal.returns
 returns g c =
     let small : c.args.self.now.hold ≤ 8 = rw (← c.self.view_is) c.self.invariant in
-    let k = keeps c.args.kind c.core_step.ensures.made.saved c.args.self.now c.args.regs.now c.core_step.result c.core_step.new.self c.core_step.new.regs c.requires.open small c.requires.held c.core_step.ensures.made.stepped in
+    let k =
+    keeps c.args.kind c.core_step.ensures.made.answers c.args.self.now c.args.regs.now c.core_step.result c.core_step.new.self c.core_step.new.regs
+    c.requires.open small c.core_step.ensures.made.stepped in
     record {
       made = c.core_step.ensures.made;
       less = k.less;

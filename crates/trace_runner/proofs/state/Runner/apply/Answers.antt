@@ -12,7 +12,9 @@ pub returns-in-Edge-clause-runs : goal.returns-in-Edge-clause-runs
 returns-in-Edge-clause-runs c = λ o now trace steps st.
     let bank = c.edge.ensures ∙ ap (λ (b : Bank). after_line b c.in-Edge.level) c.advance.ensures.regs in
     record {
-      logged = event_later c.args.self.now c.args.e (event.Edge c.in-Edge.t c.in-Edge.level) c.edge.new.self c.args.self.now.next.0 c.requires.at c.requires.reached c.in-Edge.is bank refl o now trace steps st;
+      logged = event_later c.args.self.now c.args.e
+          (event.Edge c.in-Edge.t c.in-Edge.level) c.edge.new.self c.args.self.now.next.0 c.requires.at c.requires.reached c.in-Edge.is bank refl o now trace
+          steps st;
       bound = st.bound;
       spaced = st.spaced;
       in_range = st.in_range;
@@ -23,7 +25,9 @@ pub returns-in-Comp-clause-runs : goal.returns-in-Comp-clause-runs
 returns-in-Comp-clause-runs c = λ o now trace steps st.
     let bank = c.comp.ensures ∙ c.advance.ensures.regs in
     record {
-      logged = event_later c.args.self.now c.args.e (event.Comp c.in-Comp.t c.in-Comp.level) c.comp.new.self c.args.self.now.next.0 c.requires.at c.requires.reached c.in-Comp.is bank refl o now trace steps st;
+      logged = event_later c.args.self.now c.args.e
+          (event.Comp c.in-Comp.t c.in-Comp.level) c.comp.new.self c.args.self.now.next.0 c.requires.at c.requires.reached c.in-Comp.is bank refl o now trace
+          steps st;
       bound = st.bound;
       spaced = st.spaced;
       in_range = st.in_range;
@@ -34,7 +38,9 @@ pub returns-in-Serial-clause-runs : goal.returns-in-Serial-clause-runs
 returns-in-Serial-clause-runs c = λ o now trace steps st.
     let bank = c.serial.ensures.same ∙ c.advance.ensures.regs in
     record {
-      logged = event_later c.args.self.now c.args.e (event.Serial c.in-Serial.t c.in-Serial.byte) c.serial.new.self c.args.self.now.next.0 c.requires.at c.requires.reached c.in-Serial.is bank refl o now trace steps st;
+      logged = event_later c.args.self.now c.args.e
+          (event.Serial c.in-Serial.t c.in-Serial.byte) c.serial.new.self c.args.self.now.next.0 c.requires.at c.requires.reached c.in-Serial.is bank refl o
+          now trace steps st;
       bound = st.bound;
       spaced = st.spaced;
       in_range = st.in_range;
@@ -49,7 +55,9 @@ returns-in-Stall-clause-runs c = λ o now trace steps st.
     let at : r.limit.0 ≡ c.in-Stall.t.0 = subst (λ (x : Event). r.limit.0 ≡ tick_of x) c.in-Stall.is c.requires.at in
     let put_off = stall_max c.in-Stall.t.0 c.in-Stall.n r.next.0 (rw (← at) c.requires.reached) in
     record {
-      logged = event_later r c.args.e (event.Stall c.in-Stall.t c.in-Stall.n) c.advance.new.self c.max.result c.requires.at c.requires.reached c.in-Stall.is c.advance.ensures.regs (m ∙ put_off) o now trace steps st;
+      logged = event_later r c.args.e
+          (event.Stall c.in-Stall.t c.in-Stall.n) c.advance.new.self c.max.result c.requires.at c.requires.reached c.in-Stall.is c.advance.ensures.regs
+          (m ∙ put_off) o now trace steps st;
       bound = st.bound;
       spaced = spaced_later r.cost r.next.0 c.max.result steps le st.spaced;
       in_range = st.in_range;

@@ -11,7 +11,8 @@ returns-clause-runs c = λ o now trace steps st.
     let below : r.next.0 < r.limit.0 = c.requires in
     let small : r.next.0 < 2147483648 = omega arith in
     record {
-      logged = rw c.advance.ensures.regs (time_logged o.loaded r.machine.nest r.cost trace r.next.0 r.machine.firmware r.regs r.machine.open_kinds steps r.next.0 r.passed le small st.logged);
+      logged = rw c.advance.ensures.regs
+          (time_logged o.loaded r.machine.nest r.cost trace r.next.0 r.machine.firmware r.regs r.machine.open_kinds steps r.next.0 r.passed le small st.logged);
       bound = st.bound;
       spaced = st.spaced;
       in_range = st.in_range;

@@ -1,0 +1,4 @@
+pub mod TurnList
+pub mod TimedNotes
+pub mod Limits
+pub mod Order

@@ -1,0 +1,54 @@
+-- A drive at a place of a journal, from the notes before that place, the newest first. Nothing is kept: each definition looks back.
+use Rattle.std.specs.Prelude.{◌≡◌, ℕ, Bool, true, false, ◌&&◌, ◌==◌, nat_lt, if◌then◌else◌, List, [], ◌∷◌, take, Option, None}
+use Rattle.esc_base.specs.declared.note.Note.{Note}
+use Rattle.esc_base.specs.declared.note.Note.TheVariants as note
+use Rattle.commutation.specs.Pace.{first_pace, paced, wait_of, Pace}
+use Rattle.commutation.specs.Turns.{period_of}
+use Rattle.commutation.specs.Kept.{Kept}
+
+-- no drive: the newest K has demand 0, or there is none
+abbrev pub rests_at : List Note → Bool
+rests_at [] = true
+rests_at (note.Control t n s d ∷ back) = d == 0
+rests_at (n ∷ back) = rests_at back
+
+-- a K with this demand starts a drive here
+abbrev pub starts : ℕ → List Note → Bool
+starts d back = nat_lt 0 d && rests_at back
+
+-- the interval, and the newest crossing since the start
+abbrev pub pace_at : List Note → Pace
+pace_at [] = first_pace
+pace_at (note.Control t n s d ∷ back) = if starts d back then first_pace else pace_at back
+pace_at (note.Cross t ∷ back) = paced (pace_at back) t
+pace_at (n ∷ back) = pace_at back
+
+abbrev pub interval_at : List Note → ℕ
+interval_at back = (pace_at back).interval
+
+abbrev pub wait_at : ℕ → List Note → ℕ
+wait_at advance back = wait_of advance (interval_at back)
+
+-- the ticks of all Q since the start, the newest first
+abbrev pub turns_at : List Note → List ℕ
+turns_at [] = []
+turns_at (note.Control t n s d ∷ back) = if starts d back then [] else turns_at back
+turns_at (note.Step t s ∷ back) = t.0 ∷ turns_at back
+turns_at (n ∷ back) = turns_at back
+
+-- the electrical period in microseconds: the newest Q's tick less that of the sixth before it; none outside a drive, and none
+-- with fewer than seven Q since its start
+abbrev pub period_at : List Note → Option ℕ
+period_at back = if rests_at back then None else period_of (turns_at back)
+
+-- a timing stands for these notes: what it keeps is what they say
+pub record Timed (c : Kept) (back : List Note) : Type 0 where
+  pub pace_is : c.pace ≡ pace_at back
+  pub turns_are : c.turns ≡ take 7 (turns_at back)
+
+-- a note of which a timing has to be told
+abbrev pub changes_timing : Note → List Note → Bool
+changes_timing (note.Control t n s d) back = starts d back
+changes_timing (note.Cross t) back = true
+changes_timing (note.Step t s) back = true
+changes_timing n back = false

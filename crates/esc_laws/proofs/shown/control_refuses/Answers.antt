@@ -1,0 +1,5 @@
+use Rattle.esc_laws.proofs.Refused.{control_refuses}
+use Rattle.esc_laws.proofs.shown.control_refuses.Goals as goal
+
+pub returns : goal.returns
+returns c = control_refuses

@@ -1,0 +1,5 @@
+use Rattle.esc_laws.proofs.Refused.{windows_refuse}
+use Rattle.esc_laws.proofs.shown.windows_refuse.Goals as goal
+
+pub returns : goal.returns
+returns c = windows_refuse

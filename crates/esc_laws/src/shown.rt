@@ -1,0 +1,28 @@
+//! What the laws refuse, and what they don't.
+ghost use Rattle.esc_laws.specs.Allowed.{SomeAreLegal};
+ghost use Rattle.esc_laws.specs.Refused.{ControlRefuses, NestingRefuses, StepsRefuse, WindowsRefuse};
+
+/// The rules of control refuse each of these small journals.
+pub fn control_refuses()
+    ensures { ControlRefuses }
+{}
+
+/// The rules of windows and their verdicts refuse each of these.
+pub fn windows_refuse()
+    ensures { WindowsRefuse }
+{}
+
+/// The rules of which note stands in which activation refuse each of these.
+pub fn nesting_refuses()
+    ensures { NestingRefuses }
+{}
+
+/// The rules of steps and their ticks refuse each of these.
+pub fn steps_refuse()
+    ensures { StepsRefuse }
+{}
+
+/// Some whole journals are legal.
+pub fn some_are_legal()
+    ensures { SomeAreLegal }
+{}

@@ -1,0 +1,4 @@
+pub mod Division
+pub mod Reading
+pub mod Cutting
+pub mod OneMore

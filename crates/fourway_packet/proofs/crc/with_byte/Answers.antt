@@ -1,0 +1,5 @@
+use Rattle.fourway_packet.proofs.Division.{next_bit}
+use Rattle.fourway_packet.proofs.crc.with_byte.Goals as goal
+
+pub loop-i-preserved : goal.loop-i-preserved
+loop-i-preserved c = next_bit c.loop-i.so_far c.with_bit-so_far.result c.args.byte c.loop-i.i _ c.loop-i-test.true c.with_bit-so_far.ensures c.loop-i.invariant

@@ -1,0 +1,4 @@
+pub mod Bits
+pub mod OffTimes
+pub mod DeadTime
+pub mod Programs

@@ -1,0 +1,6 @@
+pub mod Gated
+pub mod DeadSafe
+pub mod Acted
+pub mod AllOff
+pub mod Chop
+pub mod Change

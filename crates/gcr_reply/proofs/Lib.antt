@@ -1,0 +1,5 @@
+pub mod Bits
+pub mod Table
+pub mod Lines
+pub mod Periods
+pub mod Replies
