@@ -18,7 +18,9 @@ for trace in "$here"/*.trace; do
         error=/dev/null
         expected=0
     fi
-    "$program" run <"$trace" >"$work/journal" 2>"$work/error"
+    # The options stand in NAME.options, words between spaces.
+    # shellcheck disable=SC2046
+    "$program" run $(cat "$sample.options" 2>/dev/null) <"$trace" >"$work/journal" 2>"$work/error"
     status=$?
     if [ "$status" -ne "$expected" ] || ! cmp -s "$work/journal" "$sample.journal" ||
         ! cmp -s "$work/error" "$error"; then

@@ -5,11 +5,14 @@
 #   make.sh journals    the traces, then NAME.journal (standard output) for each, and NAME.error (standard error) where
 #                       the program refuses the trace
 #
+# NAME.options, where it is there, has the options of that run.
+#
 # Times are in ticks of 48 MHz. AM32SIM names another program than the repository's own.
 here=$(cd "$(dirname "$0")" && pwd) || exit 1
 program=${AM32SIM:-$here/../am32sim}
 
-# What each sample is made of. A line level is written by edge(), a whole DShot frame by frame():
+# What each sample is made of. A line level is written by edge(), where its tick is 0 or more: so a signal that begins
+# earlier is joined in its middle. A whole DShot frame is written by frame():
 #   start   the tick of its first edge
 #   value   0 to 2047
 #   bit     ticks from bit to bit: 80 at DShot600, 160 at DShot300
@@ -27,7 +30,7 @@ sample() {
             if (int(a / w) % 2 != int(b / w) % 2) r += w
         return r
     }
-    function edge(t, level) { print t " E " level }
+    function edge(t, level) { if (t >= 0) print t " E " level }
     function shaped(start, value, bit, low, wrong, edges, spacing, wide,   upper, sum, word, i, t, n) {
         upper = value * 2
         sum = xor4(xor4(upper % 16, int(upper / 16) % 16), int(upper / 256) % 16)
@@ -79,8 +82,8 @@ sample dshot300_inverted <<'EOF'
     frame(1000, 0, 160, 1, 0, 32); frame(9000, 300, 160, 1, 0, 32); frame(18000, 2047, 160, 1, 0, 32); end(27000)
 EOF
 
-# A wrong checksum is followed by a pause: the frame that begins inside it is not heard from its start and is bad too.
-# After the next pause a frame is read again.
+# A wrong checksum is followed by a pause: the frame that begins inside it isn't heard, and the next window opens when the
+# line has rested behind it. The frame after that is read again.
 sample bad_checksum <<'EOF'
     good(1000, 0); good(5000, 700); frame(9000, 700, 80, 0, 1, 32); good(10700, 701); good(16000, 702); end(20000)
 EOF
@@ -115,6 +118,27 @@ EOF
 sample servo <<'EOF'
     pulse(1000, 1500); pulse(200000, 1000); pulse(400000, 1500); pulse(600000, 2010); pulse(800000, 2300)
     pulse(1000000, 1100); end(1060000)
+EOF
+
+# A servo at 400 pulses a second, switched on in the middle of a pulse: nothing is detected in the first windows, the line
+# rests, and a window that opens then hears a pulse from its rise.
+sample servo_from_the_middle <<'EOF'
+    edge(0, 1); edge(24000, 0); for (i = 0; i < 6; i++) pulse(96000 + i * 120000, 1000)
+    end(800000)
+EOF
+
+# DShot600 every 114 us, switched on in the middle of a frame: the part of it that is heard isn't detected, and the window
+# after it opens when the line has rested, so between two frames.
+sample dshot600_from_the_middle <<'EOF'
+    for (i = 0; i < 10; i++) good(i * 5472 - 610, 0)
+    end(50000)
+EOF
+
+# DShot600 frames as close as they can be, 31.25 us apart, with one wrong checksum: the next window opens in the gap
+# before the frame after the next one.
+sample bad_frame_between_close_ones <<'EOF'
+    for (i = 0; i < 30; i++) frame(1000 + i * 1500, 48 + i, 80, 0, i == 10, 32)
+    end(47000)
 EOF
 
 # Edges that no mode makes sense of: nothing is detected, and a window opens again after each pause.
@@ -164,6 +188,12 @@ sample stall <<'EOF'
     good(1000, 0); stall(4000, 8000); good(5000, 500); good(13000, 501); end(17000)
 EOF
 
+# At a step cost of 16 a control tick takes long enough for a frame to end in it: CAP enters between two steps of TICK.
+sample nested <<'EOF'
+    good(1190, 0); good(5000, 48); good(8390, 49); end(12000)
+EOF
+echo "--nest 7 --cost 16" >"$here/nested.options"
+
 # A trace whose second frame has an impossible level: the journal ends before it.
 sample refused <<'EOF'
     good(1000, 0); good(5000, 48); print "9000 E 2"; end(12000)
@@ -174,6 +204,8 @@ EOF
 echo "0 END" | "$program" run >/dev/null || exit 1
 for trace in "$here"/*.trace; do
     name=${trace%.trace}
-    "$program" run <"$trace" >"$name.journal" 2>"$name.error"
+    # The options stand in NAME.options, words between spaces.
+    # shellcheck disable=SC2046
+    "$program" run $(cat "$name.options" 2>/dev/null) <"$trace" >"$name.journal" 2>"$name.error"
     [ -s "$name.error" ] || rm "$name.error"
 done

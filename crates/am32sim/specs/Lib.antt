@@ -1,2 +1,5 @@
+pub mod Words
+pub mod Options
 pub mod Run
+pub mod Show
 pub mod Status

@@ -1,18 +1,25 @@
 //! `am32sim`: a motor speed controller's control core, run on a trace of outside events.
 #![tactic(auto)]
 
+mod options;
 mod run;
+mod show;
 mod status;
 #[cfg(test)]
 mod tests;
+mod usage;
 mod words;
+#[cfg(test)]
+mod words_tests;
 
 use esc_base::{FileFlash, InSource, OutSink, Sink, Source};
+pub use options::{Command, Options};
 pub use run::sim_main;
 pub use status::{Status, status_text};
 use std::process::ExitCode;
 use std::{env, io};
-pub use words::Words;
+use usage::usage_text;
+pub use words::{Asked, Words};
 
 /// The words behind the program's name. A word that isn't text is in no command.
 fn words_of(rt: &HostRuntime) -> Result<Words, Status> {
@@ -30,7 +37,7 @@ fn words_of(rt: &HostRuntime) -> Result<Words, Status> {
     Ok(words)
 }
 
-/// Runs the command of the program's words, with a blank flash that is memory of its own.
+/// Runs the command of the program's words. Where they name no image, the flash is blank memory of its own.
 fn command<S: Source, K: Sink>(rt: &HostRuntime, src: &mut S, out: &mut K) -> Status {
     let words = match words_of(rt) {
         Ok(words) => words,
@@ -50,5 +57,10 @@ fn main(rt: HostRuntime) -> ExitCode {
         status = Status::WriteFault;
     }
     let _ = rt.eprint(status_text(&status).as_str());
+    if status == Status::Usage
+        && let Ok(usage) = usage_text(rt.alloc())
+    {
+        let _ = rt.eprint(usage.as_str());
+    }
     ExitCode::from(status.exit_number())
 }

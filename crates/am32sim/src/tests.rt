@@ -347,27 +347,6 @@ fn a_refused_save_is_told_and_can_be_asked_for_again(rt: HostRuntime) -> Result<
 }
 
 #[test]
-fn other_words_are_refused(rt: HostRuntime) -> Result<(), Fail> {
-    let mut flash = MemFlash::new(rt.alloc())?;
-    flash.fail(FlashOp::Attach, 1)?;
-    let mut src = MemSource::new(rt.alloc(), b"0 END\n", 7, &[])?;
-    let mut out = MemSink::new(rt.alloc(), 4096, &[])?;
-    let mut words = Words::new(rt.alloc());
-    assert_eq!(rt;
-        sim_main(&words, &mut src, &mut out, &mut flash),
-        Status::Usage
-    );
-    words.push("run")?;
-    words.push("fly")?;
-    assert_eq!(rt;
-        sim_main(&words, &mut src, &mut out, &mut flash),
-        Status::Usage
-    );
-    assert!(rt; out.given().is_empty());
-    Ok(())
-}
-
-#[test]
 fn each_status_has_its_text(rt: HostRuntime) {
     let back = Status::Refused {
         line: 7,

@@ -30,7 +30,7 @@ shut_out false b true e = refl
 shut_out a b false e = cc
 
 pub closed_at : (m : Mode) (heard : List Edge) (c t : ℕ) → close_of m heard ≡ Some c → c ≤ t → is_closed m heard t ≡ true
-closed_at m heard c t h le = closed_from t (length heard) (last_at heard + wait m (length heard)) c h le
+closed_at m heard c t h le = closed_from t (length heard) (last_at heard + wait m heard) c h le
 
 pub deaf : (m : Mode) (w : ℕ) (heard : List Edge) (e : Edge) → is_closed m heard e.t.0 ≡ true → hears m w heard e ≡ false
 deaf m w heard e h = shut_out (nat_lt w e.t.0) (not (comes_early m heard e)) (is_closed m heard e.t.0) h
@@ -43,7 +43,7 @@ still_closed : (n l t u : ℕ) → t ≤ u → (not (n == 0) && nat_le l t) ≡ 
 still_closed n l t u le e = grind (arith, nat_tests)
 
 pub closed_later : (m : Mode) (heard : List Edge) (t u : ℕ) → t ≤ u → is_closed m heard t ≡ true → is_closed m heard u ≡ true
-closed_later m heard t u le e = still_closed (length heard) (last_at heard + wait m (length heard)) t u le e
+closed_later m heard t u le e = still_closed (length heard) (last_at heard + wait m heard) t u le e
 
 -- ---- edges up to the opening aren't heard
 

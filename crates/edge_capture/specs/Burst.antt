@@ -6,19 +6,19 @@ use Rattle.esc_base.specs.declared.signal.Mode.{Mode}
 use Rattle.edge_capture.specs.Modes.{numbers, most, limit}
 use Rattle.edge_capture.specs.Edges.{last_at}
 
--- How long a window that has heard so many edges waits for a further one: the idle limit, or not at all after the last
+-- How long a window that has heard these edges waits for a further one: the idle limit, or not at all after the last
 -- edge allowed.
-abbrev pub wait : Mode → ℕ → ℕ
-wait m heard = if nat_le (most m) heard then 0 else limit m heard
+abbrev pub wait : Mode → List Edge → ℕ
+wait m heard = if nat_le (most m) (length heard) then 0 else limit m heard
 
 -- The tick at which a window of this mode that has heard these edges closes: that of the last edge allowed, or the last
 -- heard edge's plus the idle limit. A window without an edge doesn't close.
 abbrev pub close_of : Mode → List Edge → Option ℕ
-close_of m heard = if length heard == 0 then None else Some (last_at heard + wait m (length heard))
+close_of m heard = if length heard == 0 then None else Some (last_at heard + wait m heard)
 
 -- it is closed at t
 abbrev pub is_closed : Mode → List Edge → ℕ → Bool
-is_closed m heard t = not (length heard == 0) && nat_le (last_at heard + wait m (length heard)) t
+is_closed m heard t = not (length heard == 0) && nat_le (last_at heard + wait m heard) t
 
 -- a falling edge before the first rising one, in a mode that waits for that
 abbrev pub comes_early : Mode → List Edge → Edge → Bool

@@ -1,5 +1,5 @@
 -- Lists of edges.
-use Rattle.std.specs.Prelude.{ℕ, ◌-◌, ◌<◌, ◌≤◌, false, List, length, slice_index_or}
+use Rattle.std.specs.Prelude.{ℕ, ◌-◌, ◌<◌, ◌≤◌, Bool, false, List, length, slice_index_or}
 use Rattle.esc_base.specs.declared.signal.Edge.{Edge}
 
 abbrev pub blank : Edge
@@ -11,6 +11,10 @@ edge_at edges i = slice_index_or edges i blank
 -- the tick of the last edge, or 0 where there is none
 abbrev pub last_at : List Edge → ℕ
 last_at edges = (edge_at edges (length edges - 1)).t.0
+
+-- the last edge rises
+abbrev pub last_rose : List Edge → Bool
+last_rose edges = (edge_at edges (length edges - 1)).level
 
 -- the ticks don't fall
 abbrev pub IsInOrder : List Edge → Type 0

@@ -31,12 +31,17 @@ after_edge w e = if window_hears w e then record w { edges = w.edges ++ e ∷ []
 abbrev pub window_closed : Window → ℕ → Bool
 window_closed w t = w.armed && is_closed w.mode w.edges t
 
+-- a tick that may be there
+abbrev pub number_of : Option Tick → Option ℕ
+number_of None = None
+number_of (Some t) = Some t.0
+
 -- the tick at which the idle limit closes it, if no edge comes; none where it isn't armed, has no edge or is full
 abbrev pub idle_at : Window → Option Tick
 idle_at w =
     if not w.armed || (length w.edges == 0) || nat_le (most w.mode) (length w.edges)
     then None
-    else Some (record { 0 = last_at w.edges + limit w.mode (length w.edges) })
+    else Some (record { 0 = last_at w.edges + limit w.mode w.edges })
 
 -- the window is open or closed on the line that has had these edges
 pub record IsHanded (w : Window) (edges : List Edge) : Type 0 where

@@ -2,8 +2,8 @@ ghost use Rattle.std.specs.Prelude.{◌≡◌, ◌<◌, ◌≤◌, ◌+◌, ◌^
 ghost use Rattle.std.specs.List.{All};
 ghost use Rattle.esc_base.specs.declared.signal.Edge.{Edge};
 ghost use Rattle.edge_capture.specs.Edges.{last_at};
-ghost use Rattle.edge_capture.specs.Burst.{is_closed, comes_early, wait};
-ghost use Rattle.edge_capture.specs.Modes.{limit};
+ghost use Rattle.edge_capture.specs.Burst.{close_of, is_closed, comes_early, wait};
+ghost use Rattle.edge_capture.specs.Modes.{limit, may_be_high as is_high};
 ghost use Rattle.edge_capture.specs.Literal.{until_deaf, Rising};
 ghost use Rattle.edge_capture.specs.Window.{Window, unarmed, opened_in, window_hears, after_edge, window_closed, idle_at, IsHanded};
 ghost use Rattle.edge_capture.specs.Heard.{heard_of};
@@ -26,62 +26,60 @@ pub struct Capture {
     mode: Mode,
     opened: Tick,
     burst: Burst,
+    // when it closes, if it hears no further edge; kept, since it is asked for far more often than an edge is heard
+    closes: Option<Tick>,
 }
 
 impl Model for Capture {
-    ghost use Rattle.std.specs.Prelude.{◌≤◌, length};
-    ghost use Rattle.edge_capture.specs.Window.{Window};
+    ghost use Rattle.std.specs.Prelude.{◌≡◌, ◌≤◌, length};
+    ghost use Rattle.edge_capture.specs.Window.{Window, number_of};
     ghost use Rattle.edge_capture.specs.Modes.{most};
+    ghost use Rattle.edge_capture.specs.Burst.{close_of};
 
     ghost Value = { Window };
 
     ghost view = { λ c. record { armed = c.armed; mode = c.mode; opened = c.opened.0; edges = c.burst } };
 
-    ghost invariant = { λ c. length c.burst ≤ most c.mode };
+    ghost invariant = { λ c. (length c.burst ≤ most c.mode) × (number_of c.closes ≡ close_of c.mode c.burst) };
 }
 
-fn idle_limit(mode: Mode, heard: usize) -> u64
-    ensures limit { result ≡ limit mode heard }
+fn may_be_high(burst: &Burst) -> bool
+    ensures { result ≡ is_high burst.now }
+{
+    burst.len() % 2 == 1 && burst.at(burst.len() - 1).level
+}
+
+fn idle_limit(mode: Mode, burst: &Burst) -> u64
+    ensures limit { result ≡ limit mode burst.now }
     ensures small { result ≤ 120000 }
 {
     let numbers = mode_numbers(mode);
-    if heard % 2 == 1 {
-        numbers.idle_after_odd as u64
+    if may_be_high(burst) {
+        numbers.idle_while_high as u64
     } else {
-        numbers.idle_after_even as u64
+        numbers.idle as u64
     }
 }
 
-fn last_of(burst: &Burst) -> u64
-    requires { 0 < length burst.now }
-    ensures last { result ≡ last_at burst.now }
-    ensures small { result < 2 ^ 31 }
-{
-    burst.at(burst.len() - 1).t.0
-}
-
-fn wait_for(mode: Mode, heard: usize) -> u64
-    ensures wait { result ≡ wait mode heard }
+fn wait_for(mode: Mode, burst: &Burst) -> u64
+    ensures wait { result ≡ wait mode burst.now }
     ensures small { result ≤ 120000 }
 {
-    if heard < mode_numbers(mode).most_edges {
-        idle_limit(mode, heard)
+    if burst.len() < mode_numbers(mode).most_edges {
+        idle_limit(mode, burst)
     } else {
         0
     }
 }
 
-fn is_over(mode: Mode, burst: &Burst, t: Tick) -> bool
-    ensures { result ≡ is_closed mode burst.now t.0 }
+// The tick at which a window that has heard these edges, the last of them at `last`, closes.
+fn closing_tick(mode: Mode, burst: &Burst, last: Tick) -> Tick
+    requires some { 0 < length burst.now }
+    requires last { last.0 ≡ last_at burst.now }
+    requires small { last.0 < 2 ^ 31 }
+    ensures { Some result.0 ≡ close_of mode burst.now }
 {
-    let heard = burst.len();
-    heard != 0 && last_of(burst) + wait_for(mode, heard) <= t.0
-}
-
-fn is_early(mode: Mode, burst: &Burst, edge: Edge) -> bool
-    ensures { result ≡ comes_early mode burst.now edge }
-{
-    burst.len() == 0 && !mode_numbers(mode).falling_first && !edge.level
+    Tick(last.0 + wait_for(mode, burst))
 }
 
 impl Capture {
@@ -94,6 +92,7 @@ impl Capture {
             mode: Mode::Unknown,
             opened: Tick(0),
             burst: Burst::new(),
+            closes: None,
         }
     }
 
@@ -106,6 +105,7 @@ impl Capture {
         self.mode = mode;
         self.opened = at;
         self.burst.clear();
+        self.closes = None;
     }
 
     /// The line changes to a level. Ticks that are handed in don't fall.
@@ -120,6 +120,7 @@ impl Capture {
         let edge = Edge { t, level };
         if self.hears(edge) {
             self.burst.push(edge);
+            self.closes = Some(closing_tick(self.mode, &self.burst, t));
             Heard::Taken
         } else {
             Heard::Unheard
@@ -129,10 +130,24 @@ impl Capture {
     fn hears(&self, edge: Edge) -> bool
         ensures { result ≡ window_hears self.now edge }
     {
-        self.armed
-            && self.opened.0 < edge.t.0
-            && !is_over(self.mode, &self.burst, edge.t)
-            && !is_early(self.mode, &self.burst, edge)
+        self.armed && self.opened.0 < edge.t.0 && !self.is_over(edge.t) && !self.is_early(edge)
+    }
+
+    // It has heard the last edge allowed by this tick, or the idle limit has passed.
+    fn is_over(&self, t: Tick) -> bool
+        ensures { result ≡ is_closed self.now.mode self.now.edges t.0 }
+    {
+        match self.closes {
+            Some(at) => at.0 <= t.0,
+            None => false,
+        }
+    }
+
+    // A falling edge before the first rising one, in a mode that waits for that.
+    fn is_early(&self, edge: Edge) -> bool
+        ensures { result ≡ comes_early self.now.mode self.now.edges edge }
+    {
+        self.burst.is_empty() && !mode_numbers(self.mode).falling_first && !edge.level
     }
 
     /// The tick at which the idle limit closes the window, if it hears no further edge. None where it
@@ -140,11 +155,10 @@ impl Capture {
     pub fn idle_at(&self) -> Option<Tick>
         ensures idle { result ≡ idle_at self.now }
     {
-        let heard = self.burst.len();
-        if !self.armed || heard == 0 || heard >= mode_numbers(self.mode).most_edges {
+        if !self.armed || self.burst.len() >= mode_numbers(self.mode).most_edges {
             return None;
         }
-        Some(Tick(last_of(&self.burst) + idle_limit(self.mode, heard)))
+        self.closes
     }
 
     /// Whether the window is closed at this tick: it has heard the last edge allowed, or the idle limit
@@ -153,7 +167,7 @@ impl Capture {
         ensures closed { result ≡ window_closed self.now t.0 }
         ensures settled { (handed : List Edge) (e : Edge) → IsHanded self.now handed → result ≡ true → t.0 ≤ e.t.0 → IsHanded self.now (handed ++ e ∷ []) }
     {
-        self.armed && is_over(self.mode, &self.burst, t)
+        self.armed && self.is_over(t)
     }
 
     /// The edges that the window has heard.

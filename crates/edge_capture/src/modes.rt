@@ -10,10 +10,11 @@ pub struct ModeNumbers {
     pub bit: u32,
     /// Whether a bit's active level is low.
     pub inverted: bool,
-    /// How long a window waits after an odd number of heard edges.
-    pub idle_after_odd: u32,
-    /// The same after an even number of them.
-    pub idle_after_even: u32,
+    /// How long a window waits where a pulse may be high: after an odd number of heard edges, the last of
+    /// which rises.
+    pub idle_while_high: u32,
+    /// How long it waits elsewhere.
+    pub idle: u32,
     /// The edge at which a window closes.
     pub most_edges: usize,
     /// Whether a window hears falling edges before its first rising one.
@@ -25,15 +26,15 @@ pub struct ModeNumbers {
 pub fn mode_numbers(mode: Mode) -> ModeNumbers
     ensures table { result ≡ numbers mode }
     ensures room { result.most_edges ≤ 32 }
-    ensures odd { result.idle_after_odd ≤ 120000 }
-    ensures even { result.idle_after_even ≤ 120000 }
+    ensures high { result.idle_while_high ≤ 120000 }
+    ensures elsewhere { result.idle ≤ 120000 }
 {
     match mode {
         Mode::Unknown => ModeNumbers {
             bit: 0,
             inverted: false,
-            idle_after_odd: 120000,
-            idle_after_even: 4000,
+            idle_while_high: 120000,
+            idle: 4000,
             most_edges: 32,
             falling_first: true,
         },
@@ -44,8 +45,8 @@ pub fn mode_numbers(mode: Mode) -> ModeNumbers
         Mode::Servo => ModeNumbers {
             bit: 0,
             inverted: false,
-            idle_after_odd: 120000,
-            idle_after_even: 120000,
+            idle_while_high: 120000,
+            idle: 120000,
             most_edges: 2,
             falling_first: false,
         },
@@ -60,8 +61,8 @@ fn dshot(bit: u32, inverted: bool) -> ModeNumbers
     ModeNumbers {
         bit,
         inverted,
-        idle_after_odd: 2 * bit,
-        idle_after_even: 2 * bit,
+        idle_while_high: 2 * bit,
+        idle: 2 * bit,
         most_edges: 32,
         falling_first: true,
     }

@@ -36,6 +36,7 @@ fn closes_at(rt: &impl Abort, mode: Mode, count: u64, last: u64, closes: u64)
 fn windows_close(rt: HostRuntime) {
     closes_at(&rt, Mode::Unknown, 1, 10000, 130000);
     closes_at(&rt, Mode::Unknown, 2, 10040, 14040);
+    closes_at(&rt, Mode::Unknown, 3, 10080, 130080);
     closes_at(&rt, Mode::D300, 31, 11200, 11520);
     closes_at(&rt, Mode::D300Inv, 4, 10120, 10440);
     // 31 edges of a frame at 600,000 bits a second
@@ -44,6 +45,14 @@ fn windows_close(rt: HostRuntime) {
     closes_at(&rt, Mode::D600, 40, 11240, 11240);
     closes_at(&rt, Mode::Servo, 1, 10000, 130000);
     closes_at(&rt, Mode::Servo, 3, 10040, 10040);
+}
+
+#[test]
+fn falling_edge_first(rt: HostRuntime) {
+    let mut capture = Capture::new();
+    capture.arm(Mode::Unknown, Tick(0));
+    assert_eq!(rt; capture.edge(Tick(100), false), Heard::Taken);
+    assert_eq!(rt; capture.idle_at(), Some(Tick(4100)));
 }
 
 #[test]

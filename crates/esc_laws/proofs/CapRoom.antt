@@ -2,7 +2,9 @@
 use Rattle.std.proofs.Common.{◌≡◌, ◌≤◌, ◌<◌, ◌+◌, ℕ, Bool, true, false, if◌then◌else◌, List, [], ◌∷◌, ◌++◌, length, Option, Some, None, refl, sym, ◌∙◌, ap, subst, arith, ◌⊎◌, inl, inr}
 use Rattle.esc_base.specs.declared.kind.Kind.{Kind}
 use Rattle.esc_base.specs.declared.kind.Kind.TheVariants as kind
+use Rattle.esc_base.specs.declared.signal.Edge.{Edge}
 use Rattle.esc_base.specs.declared.signal.Frame.{Frame}
+use Rattle.esc_base.specs.Times.{least_pause}
 use Rattle.esc_base.specs.declared.signal.Mode.{Mode}
 use Rattle.esc_base.specs.declared.signal.Mode.TheVariants as mode
 use Rattle.esc_base.specs.declared.event.Event.{Event}
@@ -14,6 +16,7 @@ use Rattle.esc_base.specs.Trace.{Line, line, tick_of, differ}
 use Rattle.esc_base.proofs.TraceLaws.{line-push}
 use Rattle.edge_capture.specs.Modes.{most}
 use Rattle.timer_regs.specs.Bank.{Bank}
+use Rattle.timer_regs.specs.Rest.{rests_from, put_off}
 use Rattle.timer_regs.specs.Effects.{after_line, read_value}
 use Rattle.timer_regs.specs.declared.regs.Reg.TheVariants as reg
 use Rattle.interrupt_machine.specs.Did.{NoAccess, Reads}
@@ -41,15 +44,16 @@ use Rattle.esc_core.specs.Cap.{act_in, after_edges, after_copy, command_note, ju
 use Rattle.esc_core.specs.Firmware.{cap_left}
 use Rattle.esc_laws.specs.Place.{Signal, Listens, Judged, Rests}
 use Rattle.esc_laws.specs.Windowed.{verdict_note, Answers, AnswersAt, OpensAt}
-use Rattle.esc_laws.specs.Tied.{cap_view, IsClosing, IsCopying, IsJudged, SignalTied, WindowSound, MainTied}
+use Rattle.esc_laws.specs.Tied.{cap_view, IsClosing, IsCopying, IsJudged, SignalTied, TimerTied, WindowSound, MainTied}
 use Rattle.esc_laws.specs.World.{World, so_far, at_time, after_outside}
 use Rattle.esc_laws.specs.Rooms.{Ground, cap_seen, CapTie, StepKeeps}
 use Rattle.esc_laws.proofs.Pushes.{All-later}
 use Rattle.esc_laws.proofs.Facts.{cap_shut}
 use Rattle.esc_laws.proofs.Saves.{input_kept, servo_kept, acting_named, obeyed_tied, orders_other}
-use Rattle.esc_laws.proofs.CapTies.{start_tied, copy_goes, copy_tied, good_tied, opens_tied, pause_tied, back_tied, back_done, back_may}
+use Rattle.esc_laws.proofs.CapTies.{start_tied, copy_goes, copy_tied, good_tied, opens_tied, pause_tied, back_tied, back_timer, timer_off, timer_grows, back_done, back_may}
 use Rattle.esc_laws.proofs.Lines.{plain_follows, edge_now, edge_bank, edge_follows, edge_sound, line_changes, line_same}
 use Rattle.esc_laws.proofs.Dues.{cap_called, cap_entered, signal_follows, time_follows}
+use Rattle.esc_laws.proofs.Rests.{set_now}
 use Rattle.esc_laws.proofs.Law.{HandlerLaw}
 use Rattle.esc_laws.proofs.RoomSteps.{ground_noted, inside, popped, if_true, if_false}
 
@@ -69,7 +73,7 @@ begins x outer w m g sound e k on = record {
   gate = λ word moved. absurd (moved refl refl);
   fits = tt;
   ground = g;
-  tie = (start_tied x.trace x.core x.bank (so_far x) w m e (few x.bank sound) k, sound);
+  tie = (start_tied x.trace x.core x.bank (so_far x) w m e (few x.bank sound) k, sound, rw e tt);
   others = elim [ kind.Cap ↦ λ ne t. absurd (ne refl) | j ↦ λ ne t. t ];
   stack_is = on;
 }
@@ -84,7 +88,7 @@ copies true x outer w m left v g sound e k on = record {
   gate = λ word moved. absurd (moved refl refl);
   fits = tt;
   ground = g;
-  tie = (copy_tied x.trace x.core x.bank (so_far x) w m left e sound g.small k, sound);
+  tie = (copy_tied x.trace x.core x.bank (so_far x) w m left e sound g.small k, sound, rw e tt);
   others = elim [ kind.Cap ↦ λ ne t. absurd (ne refl) | j ↦ λ ne t. t ];
   stack_is = on;
 }
@@ -92,7 +96,7 @@ copies false x outer w m left v g sound e k on = cc
 
 -- ---- it opens a window, or sets the timer
 
-open_window : (x : World) (outer : List Kind) (s : Signal) → Ground x → (so_far x).signal ≡ s → OpensAt s x.bank.time → x.bank.timer ≡ None
+open_window : (x : World) (outer : List Kind) (s : Signal) → Ground x → (so_far x).signal ≡ s → OpensAt x.trace s (so_far x).cap_entered x.bank.time → x.bank.timer ≡ None
     → ((so_far x).verdicts ≡ 1) ⊎ (((so_far x).verdicts ≡ 0) × ((so_far x).windows ≡ 0)) → (so_far x).stack ≡ kind.Cap ∷ outer
     → StepKeeps kind.Cap outer x (opens x.core x.bank)
 open_window x outer s g e may none done on = record {
@@ -102,19 +106,24 @@ open_window x outer s g e may none done on = record {
   tie = (
     opens_tied x.trace x.core x.bank (so_far x) g.edges none done,
     record { past = λ k d l. absurd (omega arith); order = λ a b le l. absurd (omega arith); few = omega arith },
+    tt,
   );
   others = elim [ kind.Cap ↦ λ ne t. absurd (ne refl) | j ↦ λ ne t. t ];
   stack_is = on;
 }
 
 pauses : (x : World) (outer : List Kind) (f at : ℕ) (opens_next : Bool) → Ground x → WindowSound x.bank.window x.bank.time
-    → (so_far x).signal ≡ Judged f opens_next → IsJudged (cap_seen x) → opens_next ≡ false → at ≡ f + 600
+    → (so_far x).signal ≡ Judged f opens_next → IsJudged (cap_seen x) → opens_next ≡ false → at ≡ f + least_pause
     → (so_far x).stack ≡ kind.Cap ∷ outer → StepKeeps kind.Cap outer x (cap_step (cap.Pause at) x.core x.bank)
 pauses x outer f at opens_next g sound e k shut is on = record {
   gate = λ word moved. absurd (moved refl refl);
   fits = tt;
   ground = g;
-  tie = (pause_tied x.trace x.core x.bank (so_far x) f at opens_next e k shut is, sound);
+  tie = (
+    pause_tied x.trace x.core x.bank (so_far x) f at opens_next e k shut,
+    sound,
+    rw (e, is) (set_now (line x.trace).edges f x.bank.time (rests_from x.bank.changed) g.edges g.rested),
+  );
   others = elim [ kind.Cap ↦ λ ne t. absurd (ne refl) | j ↦ λ ne t. t ];
   stack_is = on;
 }
@@ -171,9 +180,10 @@ good None x outer frame w m g sound k answers on named st = record {
     orders = orders_other x.loaded x.core.orders (note.Good (as_tick x.bank.time) frame.value (bit_of frame.telemetry)) x.back refl g.orders;
     level = g.level;
     edges = g.edges;
+    rested = g.rested;
     small = g.small;
   };
-  tie = (good_tied None frame x.trace x.core x.bank (so_far x) w m k, sound);
+  tie = (good_tied None frame x.trace x.core x.bank (so_far x) w m k, sound, tt);
   others = elim [ kind.Cap ↦ λ ne t. absurd (ne refl) | j ↦ λ ne t. t ];
   stack_is = on;
 }
@@ -189,9 +199,10 @@ good (Some act) x outer frame w m g sound k answers on named st =
             (orders_other x.loaded x.core.orders n x.back refl g.orders);
         level = g.level;
         edges = g.edges;
+        rested = g.rested;
         small = g.small;
       };
-      tie = (good_tied (Some act) frame x.trace x.core x.bank (so_far x) w m k, sound);
+      tie = (good_tied (Some act) frame x.trace x.core x.bank (so_far x) w m k, sound, tt);
       others = elim [
         | kind.Cap ↦ λ ne t. absurd (ne refl)
         | kind.Main ↦ λ ne t. still_asked x.core.main_at x.core.orders (Some act) (so_far x).saves t
@@ -215,6 +226,7 @@ judges (Bad why) x outer w m g sound k answers on = record {
   tie = (
     (record { verdict = ap (λ (n : ℕ). n + 1) k.no_verdict; taken = k.taken; running = k.hears.running; no_timer = k.hears.no_timer }, (refl, refl)),
     sound,
+    tt,
   );
   others = elim [ kind.Cap ↦ λ ne t. absurd (ne refl) | j ↦ λ ne t. t ];
   stack_is = on;
@@ -227,9 +239,10 @@ judges (Found mode) x outer w m g sound k answers on = record {
     orders = orders_other x.loaded x.core.orders (note.Detected (as_tick x.bank.time) (mode_number mode)) x.back refl g.orders;
     level = g.level;
     edges = g.edges;
+    rested = g.rested;
     small = g.small;
   };
-  tie = ((record { verdict = ap (λ (n : ℕ). n + 1) k.no_verdict; taken = k.taken; running = k.hears.running; no_timer = k.hears.no_timer }, refl), sound);
+  tie = ((record { verdict = ap (λ (n : ℕ). n + 1) k.no_verdict; taken = k.taken; running = k.hears.running; no_timer = k.hears.no_timer }, refl), sound, tt);
   others = elim [ kind.Cap ↦ λ ne t. absurd (ne refl) | j ↦ λ ne t. t ];
   stack_is = on;
 }
@@ -240,6 +253,7 @@ judges Nothing x outer w m g sound k answers on = record {
   tie = (
     (record { verdict = ap (λ (n : ℕ). n + 1) k.no_verdict; taken = k.taken; running = k.hears.running; no_timer = k.hears.no_timer }, (refl, refl)),
     sound,
+    tt,
   );
   others = elim [ kind.Cap ↦ λ ne t. absurd (ne refl) | j ↦ λ ne t. t ];
   stack_is = on;
@@ -248,9 +262,10 @@ judges Nothing x outer w m g sound k answers on = record {
 -- ---- it returns
 
 returns : (x : World) (outer : List Kind) → Ground x → SignalTied (so_far x).signal cap.Back (cap_seen x)
-    → WindowSound x.bank.window x.bank.time → (so_far x).stack ≡ kind.Cap ∷ outer
+    → WindowSound x.bank.window x.bank.time → TimerTied (so_far x).signal cap.Back (line x.trace).edges x.cap_since x.bank.timer
+    → x.cap_since ≤ x.bank.time → (so_far x).stack ≡ kind.Cap ∷ outer
     → StepKeeps kind.Cap outer x (cap_step cap.Back x.core x.bank)
-returns x outer g tied sound on = record {
+returns x outer g tied sound timer past on = record {
   gate = λ word moved. absurd (moved refl refl);
   fits = (
     record {
@@ -262,7 +277,11 @@ returns x outer g tied sound on = record {
     tt,
   );
   ground = ground_noted x (note.Leave (as_tick x.bank.time) 3) refl refl tt refl g;
-  tie = (back_tied x.trace x.core x.bank (so_far x) (so_far x).signal x.bank.time refl tied, sound);
+  tie = (
+    back_tied x.trace x.core x.bank (so_far x) (so_far x).signal x.bank.time refl tied,
+    sound,
+    back_timer (so_far x).signal (cap_seen x) (line x.trace).edges x.cap_since x.bank.time x.bank.timer tied past timer,
+  );
   others = elim [ kind.Cap ↦ λ ne t. absurd (ne refl) | j ↦ λ ne t. t ];
   stack_is = popped (so_far x).stack kind.Cap outer on;
 }
@@ -274,28 +293,34 @@ answered : (x : World) (s : Signal) (w m t : ℕ) (n : Note) → s ≡ Listens w
 answered x s w m t n e a = rw e a
 
 steps : (s : Signal) (at : CapAt) (x : World) (outer : List Kind) → Ground x → WindowSound x.bank.window x.bank.time → (so_far x).signal ≡ s
-    → SignalTied s at (cap_seen x) → (so_far x).stack ≡ kind.Cap ∷ outer → 0 < cap_left at
+    → SignalTied s at (cap_seen x) → TimerTied s at (line x.trace).edges x.cap_since x.bank.timer → x.cap_since ≤ x.bank.time
+    → (so_far x).stack ≡ kind.Cap ∷ outer → 0 < cap_left at
     → StepKeeps kind.Cap outer x (cap_step at x.core x.bank)
-steps s cap.Shut x outer g sound e k on left = absurd (omega arith)
-steps s cap.Back x outer g sound e k on left =
-    returns x outer g (subst (λ (r : Signal). SignalTied r cap.Back (cap_seen x)) (sym e) k) sound on
-steps (Listens w m) cap.Start x outer g sound e k on left = if_false x.core.paused kind.Cap outer x _ _ k.hears.running (begins x outer w m g sound e k on)
-steps (Listens w m) (cap.Copy rest) x outer g sound e k on left =
+steps s cap.Shut x outer g sound e k timer past on left = absurd (omega arith)
+steps s cap.Back x outer g sound e k timer past on left =
+    returns x outer g (subst (λ (r : Signal). SignalTied r cap.Back (cap_seen x)) (sym e) k) sound
+    (subst (λ (r : Signal). TimerTied r cap.Back (line x.trace).edges x.cap_since x.bank.timer) (sym e) timer) past on
+steps (Listens w m) cap.Start x outer g sound e k timer past on left = if_false x.core.paused kind.Cap outer x _ _ k.hears.running (begins x outer w m g sound e k on)
+steps (Listens w m) (cap.Copy rest) x outer g sound e k timer past on left =
     copies (takes x.core.burst (next_edge x.core x.bank)) x outer w m rest
     (copy_goes x.trace x.core x.bank (so_far x) w m rest (few x.bank sound) sound g.small k) g sound e k on
-steps (Listens w m) cap.Judge x outer g sound e k on left =
+steps (Listens w m) cap.Judge x outer g sound e k timer past on left =
     judges (judged x.core.window x.core.burst x.core.orders.settings.input (servo_of x.core.orders.settings)) x outer w m g sound k.0
     (answered x (so_far x).signal w m x.bank.time _ e (answers_is x w m g k.0 k.1)) on
-steps (Judged f opens_next) cap.Open x outer g sound e k on left = open_window x outer (Judged f opens_next) g e k.1 k.0.no_timer (inl k.0.verdict) on
-steps (Judged f opens_next) (cap.Pause at) x outer g sound e k on left = pauses x outer f at opens_next g sound e k.0 k.1.0 k.1.1 on
-steps (Rests f r) cap.Start x outer g sound e k on left =
-    if_true x.core.paused kind.Cap outer x _ _ k.paused (open_window x outer (Rests f r) g e k.reached k.no_timer (inr (k.no_verdict, k.no_window)) on)
-steps s at x outer g sound e k on left = absurd k
+steps (Judged f opens_next) cap.Open x outer g sound e k timer past on left = open_window x outer (Judged f opens_next) g e k.1 k.0.no_timer (inl k.0.verdict) on
+steps (Judged f opens_next) (cap.Pause at) x outer g sound e k timer past on left = pauses x outer f at opens_next g sound e k.0 k.1.0 k.1.1 on
+steps (Rests f r) cap.Start x outer g sound e k timer past on left =
+    if_true x.core.paused kind.Cap outer x _ _ k.paused (open_window x outer (Rests f r) g e (record { rested = k.rested; entered_before = k.entered }) k.no_timer (inr (k.no_verdict, k.no_window)) on)
+steps s at x outer g sound e k timer past on left = absurd k
 
 -- ---- it is called and entered
 
 shut_tie : (w : World) → CapTie w → cap_left w.core.cap_at ≡ 0 → SignalTied (so_far w).signal cap.Shut (cap_seen w)
 shut_tie w t none = subst (λ (at : CapAt). SignalTied (so_far w).signal at (cap_seen w)) (cap_shut w.core.cap_at none) t.0
+
+shut_timer : (w : World) → CapTie w → cap_left w.core.cap_at ≡ 0 → TimerTied (so_far w).signal cap.Shut (line w.trace).edges w.cap_since w.bank.timer
+shut_timer w t none =
+    subst (λ (at : CapAt). TimerTied (so_far w).signal at (line w.trace).edges w.cap_since w.bank.timer) (cap_shut w.core.cap_at none) t.2
 
 -- ---- time goes on, and events come
 
@@ -304,6 +329,7 @@ later w u from t = (
   signal_follows (so_far w).signal w.core.cap_at (cap_seen w) (cap_view w.trace w.core (at_time w u).bank (so_far w))
       (time_follows (cap_seen w) u from) t.0,
   record { past = All-later (λ e. e.t.0) w.bank.window.edges w.bank.time u from t.1.past; order = t.1.order; few = t.1.few },
+  t.2,
 )
 
 plain : (w : World) (e : Event) → line (w.trace ++ e ∷ []) ≡ line w.trace → w.bank.time ≤ tick_of e → CapTie w → CapTie (record w { trace = w.trace ++ e ∷ [] })
@@ -311,16 +337,20 @@ plain w e same le t = (
   signal_follows (so_far w).signal w.core.cap_at (cap_seen w) (cap_view (w.trace ++ e ∷ []) w.core w.bank (so_far w))
       (plain_follows w.trace e w.core w.bank (so_far w) same le) t.0,
   t.1,
+  rw same t.2,
 )
 
 edge : (v : Bool) (w : World) (level : Bool) → differ w.bank.level level ≡ v → Ground w → CapTie w
-    → CapTie (record w { trace = w.trace ++ event.Edge (as_tick w.bank.time) level ∷ []; bank = record w.bank { level = (if v then edge_bank w.bank level else w.bank).level; window = (if v then edge_bank w.bank level else w.bank).window } })
+    → CapTie (record w { trace = w.trace ++ event.Edge (as_tick w.bank.time) level ∷ []; bank = record w.bank { level = (if v then edge_bank w.bank level else w.bank).level; window = (if v then edge_bank w.bank level else w.bank).window; timer = (if v then edge_bank w.bank level else w.bank).timer; changed = (if v then edge_bank w.bank level else w.bank).changed } })
 edge true w level d g t = (
   signal_follows (so_far w).signal w.core.cap_at (cap_seen w)
       (cap_view (w.trace ++ event.Edge (as_tick w.bank.time) level ∷ []) w.core (edge_bank w.bank level) (so_far w))
       (edge_follows w.trace w.core w.bank (so_far w) level
       (ap (λ (l : Line). l.edges) (line_changes w.trace w.bank level (subst (λ (l : Bool). differ l level ≡ true) g.level d)))) t.0,
   edge_sound w.bank.window (edge_now w.bank level) t.1,
+  subst (λ (edges : List Edge). TimerTied (so_far w).signal w.core.cap_at edges w.cap_since (put_off w.bank.timer w.bank.time))
+      (sym (ap (λ (l : Line). l.edges) (line_changes w.trace w.bank level (subst (λ (l : Bool). differ l level ≡ true) g.level d))))
+      (timer_grows (so_far w).signal w.core.cap_at (line w.trace).edges (edge_now w.bank level) w.cap_since w.bank.timer g.edges t.2),
 )
 edge false w level d g t =
     plain w (event.Edge (as_tick w.bank.time) level) (line_same w.trace w.bank level (subst (λ (l : Bool). differ l level ≡ false) g.level d)) (omega arith) t
@@ -328,7 +358,7 @@ edge false w level d g t =
 outside : (w : World) (e : Event) → tick_of e ≡ w.bank.time → Ground w → CapTie w → CapTie (after_outside w e)
 outside w (event.Edge at level) is g t =
     subst
-    (λ (n : ℕ). CapTie (record w { trace = w.trace ++ event.Edge (as_tick n) level ∷ []; bank = record w.bank { level = (after_line w.bank level).level; window = (after_line w.bank level).window } }))
+    (λ (n : ℕ). CapTie (record w { trace = w.trace ++ event.Edge (as_tick n) level ∷ []; bank = record w.bank { level = (after_line w.bank level).level; window = (after_line w.bank level).window; timer = (after_line w.bank level).timer; changed = (after_line w.bank level).changed } }))
     (sym is)
     (edge (differ w.bank.level level) w level refl g t)
 outside w (event.Comp at level) is g t = plain w (event.Comp at level) (line-push w.trace (event.Comp at level)) (omega arith) t
@@ -337,11 +367,18 @@ outside w (event.Stall at n) is g t = plain w (event.Stall at n) (line-push w.tr
 
 pub cap_law : HandlerLaw kind.Cap
 cap_law = record {
-  called = λ w g t none s. cap_called w.core.orders.save_asked (so_far w).signal w.trace w.core w.bank (so_far w) (shut_tie w (t kind.Cap) none) s;
+  called = λ w g t none s. cap_called w.core.orders.save_asked (so_far w).signal w.trace w.core w.bank (so_far w) w.cap_since (shut_tie w (t kind.Cap) none)
+      (shut_timer w (t kind.Cap) none) s;
   built = λ w t due. tt;
-  entered = λ w g t none due. (cap_entered w.core.orders.save_asked (so_far w).signal w.trace w.core w.bank (so_far w) refl (shut_tie w (t kind.Cap) none) due, (t kind.Cap).1);
+  entered = λ w g t none due. (
+    cap_entered w.core.orders.save_asked (so_far w).signal w.trace w.core w.bank (so_far w) w.cap_since refl (shut_tie w (t kind.Cap) none)
+        (shut_timer w (t kind.Cap) none) due,
+    (t kind.Cap).1,
+    timer_off (so_far w).signal (line w.trace).edges w.cap_since None,
+  );
   beside = λ w. elim [ kind.Cap ↦ λ ne t. absurd (ne refl) | j ↦ λ ne t. t ];
-  steps = λ w answers outer g t above on left. steps (so_far w).signal w.core.cap_at w outer g (t kind.Cap).1 refl (t kind.Cap).0 on left;
+  steps = λ w answers outer g t above past on left.
+      steps (so_far w).signal w.core.cap_at w outer g (t kind.Cap).1 refl (t kind.Cap).0 (t kind.Cap).2 past on left;
   later = λ w u from small g t. later w u from (t kind.Cap);
   outside = λ w e at g t. outside w e at g (t kind.Cap);
 }

@@ -14,12 +14,14 @@ use Rattle.edge_capture.specs.Edges.{edge_at, last_at, blank, IsInOrder}
 use Rattle.edge_capture.specs.Burst.{burst, is_closed}
 use Rattle.edge_capture.specs.Window.{window_closed}
 use Rattle.timer_regs.specs.Bank.{Bank}
+use Rattle.timer_regs.specs.Rest.{put_off}
 use Rattle.timer_regs.specs.Effects.{read_value, edges_read, edge_read, is_readable, shown_edge}
 use Rattle.timer_regs.specs.declared.regs.Reg.TheVariants as reg
 use Rattle.interrupt_machine.specs.Did.{NoAccess, Reads, Writes, accessed}
 use Rattle.esc_base.specs.declared.signal.Frame.{Frame}
 use Rattle.dshot_commands.specs.declared.act.Act.{Act}
 use Rattle.arming.specs.Kept.{after_frame}
+use Rattle.esc_core.specs.declared.state.CapAt.{CapAt}
 use Rattle.esc_core.specs.declared.state.CapAt.TheVariants as cap
 use Rattle.input_detect.specs.declared.window.Judgement.{Judgement}
 use Rattle.input_detect.specs.declared.window.Judgement.TheVariants.{Good, Bad, Found, Nothing}
@@ -27,10 +29,11 @@ use Rattle.esc_core.specs.Brain.{Brain}
 use Rattle.esc_core.specs.Orders.{obeyed_if}
 use Rattle.esc_core.specs.Stepped.{Stepped, goes_on}
 use Rattle.esc_core.specs.Cap.{act_in, after_edges, after_copy, command_note, edge_of, judge_step, next_edge, opens, takes}
-use Rattle.esc_laws.specs.Place.{Signal, Silent, Listens, Judged, Rests, Place, next}
+use Rattle.esc_laws.specs.Place.{Signal, Silent, Listens, Judged, Rests, Place, next, rested}
 use Rattle.esc_laws.specs.Windowed.{MayReturn}
-use Rattle.esc_laws.specs.Tied.{CapView, cap_view, Hears, IsClosing, IsCopying, IsListening, IsJudged, IsPaused, SignalTied, WindowSound}
+use Rattle.esc_laws.specs.Tied.{CapView, cap_view, Hears, IsClosing, IsCopying, IsListening, IsJudged, IsPaused, SignalTied, TimerTied, WindowSound}
 use Rattle.esc_laws.proofs.Facts.{edge_of-shown, mode_of-number}
+use Rattle.esc_laws.proofs.Rests.{set_later, set_grows}
 use Rattle.edge_capture.proofs.Stable.{closed_at, burst_before}
 
 -- ---- a window that CAP reads is closed
@@ -236,10 +239,9 @@ opens_tied trace c b p past none done =
     one_window p (inr n) = inr (n.0, ap (λ (x : ℕ). x + 1) n.1)
 
 -- it sets the window timer
-pub pause_tied : (trace : List Event) (c : Brain) (b : Bank) (p : Place) (f at : ℕ) (opens_next : Bool) → p.signal ≡ Judged f opens_next → IsJudged (cap_view trace c b p) → opens_next ≡ false → at ≡ f + 600
+pub pause_tied : (trace : List Event) (c : Brain) (b : Bank) (p : Place) (f at : ℕ) (opens_next : Bool) → p.signal ≡ Judged f opens_next → IsJudged (cap_view trace c b p) → opens_next ≡ false
     → TiedAfter trace b p (record { core = record c { cap_at = cap.Back; paused = true }; access = Writes reg.CapAt at; notes = []; over = false })
-pause_tied trace c b p f at opens_next e i shuts is =
-    rw e (record { taken = i.taken; paused = refl; timer = ap Some is }, (shuts, i.verdict))
+pause_tied trace c b p f at opens_next e i shuts = rw e (record { taken = i.taken; paused = refl }, (shuts, i.verdict))
 
 -- it returns
 pub back_tied : (trace : List Event) (c : Brain) (b : Bank) (p : Place) (s : Signal) (t : ℕ) → p.signal ≡ s → SignalTied s cap.Back (cap_view trace c b p)
@@ -249,9 +251,27 @@ back_tied trace c b p (Listens w m) t e i =
     let k : IsListening (cap_view trace c b p) w m = i.0 in
     rw e (record { hears = record { armed = k.hears.armed; mode = k.hears.mode; opened = k.hears.opened; edges = k.hears.edges; core_mode = k.hears.core_mode; running = k.hears.running; no_timer = k.hears.no_timer }; untaken = k.untaken })
 back_tied trace c b p (Judged f opens_next) t e i =
-    let k : IsPaused (cap_view trace c b p) f = i.0 in
-    rw e (record { taken = k.taken; paused = k.paused; timer = k.timer })
+    let k : IsPaused (cap_view trace c b p) = i.0 in
+    rw e (record { taken = k.taken; paused = k.paused })
 back_tied trace c b p (Rests f r) t e i = absurd i
+
+-- the window timer while it is set
+pub back_timer : (s : Signal) (v : CapView) (edges : List Edge) (since t : ℕ) (timer : Option ℕ) → SignalTied s cap.Back v → since ≤ t → TimerTied s cap.Back edges since timer → TimerTied (rested s t) cap.Shut edges (t + 1) timer
+back_timer Silent v edges since t timer i le k = absurd i
+back_timer (Listens w m) v edges since t timer i le k = tt
+back_timer (Judged f opens_next) v edges since t timer i le k = set_later edges f since t timer le k
+back_timer (Rests f r) v edges since t timer i le k = absurd i
+
+pub timer_off : (s : Signal) (edges : List Edge) (since : ℕ) (timer : Option ℕ) → TimerTied s cap.Start edges since timer
+timer_off Silent edges since timer = tt
+timer_off (Listens w m) edges since timer = tt
+timer_off (Judged f opens_next) edges since timer = tt
+timer_off (Rests f r) edges since timer = tt
+
+pub timer_grows : (s : Signal) (at : CapAt) (edges : List Edge) (x : Edge) (since : ℕ) (timer : Option ℕ) → All (λ e. e.t.0 ≤ x.t.0) edges → TimerTied s at edges since timer → TimerTied s at (edges ++ x ∷ []) since (put_off timer x.t.0)
+timer_grows (Judged f opens_next) cap.Back edges x since timer until k = set_grows edges x f since timer until k
+timer_grows (Rests f r) cap.Shut edges x since timer until k = set_grows edges x f r timer until k
+timer_grows s at edges x since timer until k = k
 
 -- what it has done by then
 pub back_done : (trace : List Event) (c : Brain) (b : Bank) (p : Place) (s : Signal) → SignalTied s cap.Back (cap_view trace c b p) → (p.verdicts ≡ 1) ⊎ ((p.verdicts ≡ 0) × (p.windows ≡ 1))

@@ -105,6 +105,7 @@ time_logged loaded nest cost trace next c b stack log t later le small l = recor
   reached_by = l.reached_by;
   fits = l.fits;
   past = l.past;
+  cap_past = l.cap_past;
   awaits = l.awaits;
   time = le;
   put_off = λ u from. l.put_off u (omega arith);
@@ -180,6 +181,7 @@ jump_logged loaded nest cost trace c b stack log due t idle is later small le l 
       reached_by = l.reached_by;
       fits = l.fits;
       past = (let p = l.past in omega arith);
+      cap_past = (let p = l.cap_past in omega arith);
       awaits = record {
         open_step = λ o. absurd (o open_none);
         idle = λ o u from below f k. elim (cases_lt u b.time) [
@@ -238,6 +240,7 @@ module _ (loaded : Loaded) (nest : Nest) (cost : ℕ) (trace : List Event) (e : 
             rw (uses_before cost trace e (steps_since k log) (entered_at k log) (l.reached_by k o (tick_of e) before)) (l.reached_by k o t b);
         fits = fits_grow loaded nest cost trace e log before l.fits;
         past = rw (after_grows cost trace e log) (past_more e (after cost trace log) next l.past);
+        cap_past = (let p = l.cap_past in omega arith);
         awaits = awaits_grow;
         time = (let t = l.time in let s = event_time b e in omega arith);
         put_off = λ u from. none_now u (let s = event_time b e in omega arith);

@@ -7,6 +7,7 @@ use Rattle.esc_base.specs.declared.signal.Edge.{Edge}
 use Rattle.esc_base.specs.declared.signal.Mode.{Mode}
 use Rattle.esc_base.specs.declared.event.Event.{Event}
 use Rattle.esc_base.specs.Trace.{line}
+use Rattle.esc_base.specs.Times.{least_pause, most_pause}
 use Rattle.edge_capture.specs.Edges.{last_at}
 use Rattle.edge_capture.specs.Burst.{burst, close, close_of, is_closed, wait}
 use Rattle.edge_capture.specs.Window.{window_closed}
@@ -20,10 +21,12 @@ use Rattle.esc_core.specs.Firmware.{entered_core}
 use Rattle.esc_base.specs.declared.note.Note.TheVariants as note
 use Rattle.esc_base.specs.Numbers.{mode_of, as_tick}
 use Rattle.esc_laws.specs.Place.{Signal, Silent, Listens, Judged, Rests, Place, next}
+use Rattle.esc_laws.specs.Rested.{first_rested}
 use Rattle.esc_laws.specs.Seen.{calls_cap}
-use Rattle.esc_laws.specs.Tied.{CapView, cap_view, Hears, IsClosing, IsListening, IsJudged, IsPaused, IsOver, SignalTied}
+use Rattle.esc_laws.specs.Tied.{CapView, cap_view, Hears, IsClosing, IsListening, IsJudged, IsPaused, IsOver, SignalTied, TimerTied}
 use Rattle.esc_laws.proofs.Facts.{due_window, due_timer, cap_due_window, cap_due_timer}
 use Rattle.esc_laws.proofs.Growth.{reached_closed}
+use Rattle.esc_laws.proofs.Rests.{first_by}
 
 -- ---- a window that is closed by the trace is closed by the registers, and back
 
@@ -33,18 +36,17 @@ heard_closed v w m h c = rw (h.armed, h.mode, h.edges) c
 closed_heard : (v : CapView) (w m : ℕ) → Hears v w m → window_closed v.window v.time ≡ true → is_closed (mode_of m) (burst (line v.trace).edges w (mode_of m)) v.time ≡ true
 closed_heard v w m h c = rw (h.armed, h.mode, h.edges) at c
 
-rested_by : (f r t : ℕ) → nat_le (max (f + 1200) r) t ≡ true → f + 600 ≤ t
-rested_by f r t e = let l = leb-true (max (f + 1200) r) t e in omega arith
-
 -- a CAP that the notes call for is due
-pub cap_called : (due : Bool) (s : Signal) (trace : List Event) (c : Brain) (b : Bank) (p : Place) → SignalTied s cap.Shut (cap_view trace c b p) → calls_cap trace s b.time ≡ true → due_now due b kind.Cap ≡ true
-cap_called due Silent trace c b p i e = absurd i
-cap_called due (Listens w m) trace c b p i e =
+pub cap_called : (due : Bool) (s : Signal) (trace : List Event) (c : Brain) (b : Bank) (p : Place) (since : ℕ) → SignalTied s cap.Shut (cap_view trace c b p) → TimerTied s cap.Shut (line trace).edges since b.timer → calls_cap trace s b.time ≡ true → due_now due b kind.Cap ≡ true
+cap_called due Silent trace c b p since i timer e = absurd i
+cap_called due (Listens w m) trace c b p since i timer e =
     cap_due_window due b
     (heard_closed (cap_view trace c b p) w m i.hears (sym (reached_closed (mode_of m) (burst (line trace).edges w (mode_of m)) b.time) ∙ e))
     i.untaken
-cap_called due (Judged f opens_next) trace c b p i e = absurd i
-cap_called due (Rests f r) trace c b p i e = cap_due_timer due b (f + 600) i.timer (rested_by f r b.time e)
+cap_called due (Judged f opens_next) trace c b p since i timer e = absurd i
+cap_called due (Rests f r) trace c b p since i timer e =
+    cap_due_timer due b timer.at timer.armed
+    (let s = timer.soon (max (f + most_pause) r) (omega arith) (omega arith) in let l = leb-true (first_rested (line trace).edges (max (f + most_pause) r)) b.time e in omega arith)
 
 -- ---- CAP is entered
 
@@ -56,17 +58,17 @@ pub record ClosedBy (m : Mode) (heard : List Edge) (t : ℕ) : Type 0 where
 
 closed_by : (m : Mode) (heard : List Edge) (t : ℕ) → is_closed m heard t ≡ true → ClosedBy m heard t
 closed_by m heard t e =
-    let parts = and_parts (not (length heard == 0)) (nat_le (last_at heard + wait m (length heard)) t) e in
-    record { at = last_at heard + wait m (length heard); closes = cond-false (length heard == 0) None (Some (last_at heard + wait m (length heard))) (not-true (length heard == 0) parts.0); past = leb-true (last_at heard + wait m (length heard)) t parts.1 }
+    let parts = and_parts (not (length heard == 0)) (nat_le (last_at heard + wait m heard) t) e in
+    record { at = last_at heard + wait m heard; closes = cond-false (length heard == 0) None (Some (last_at heard + wait m heard)) (not-true (length heard == 0) parts.0); past = leb-true (last_at heard + wait m heard) t parts.1 }
 
 -- the place after an I of CAP
 abbrev pub cap_place : Place → ℕ → Place
 cap_place p t = next p (note.Enter (as_tick t) 3)
 
-pub cap_entered : (due : Bool) (s : Signal) (trace : List Event) (c : Brain) (b : Bank) (p : Place) → p.signal ≡ s → SignalTied s cap.Shut (cap_view trace c b p) → due_now due b kind.Cap ≡ true
+pub cap_entered : (due : Bool) (s : Signal) (trace : List Event) (c : Brain) (b : Bank) (p : Place) (since : ℕ) → p.signal ≡ s → SignalTied s cap.Shut (cap_view trace c b p) → TimerTied s cap.Shut (line trace).edges since b.timer → due_now due b kind.Cap ≡ true
     → SignalTied (cap_place p b.time).signal cap.Start (cap_view trace (entered_core c kind.Cap) (after_entry b kind.Cap) (cap_place p b.time))
-cap_entered due Silent trace c b p e i d = absurd i
-cap_entered due (Listens w m) trace c b p e i d =
+cap_entered due Silent trace c b p since e i timer d = absurd i
+cap_entered due (Listens w m) trace c b p since e i timer d =
     let readable : is_readable b ≡ true = due_window due b i.hears.no_timer d in
     let by = closed_by (mode_of m) (burst (line trace).edges w (mode_of m)) b.time (closed_heard (cap_view trace c b p) w m i.hears readable) in
     rw e (record {
@@ -79,13 +81,17 @@ cap_entered due (Listens w m) trace c b p e i d =
       no_window = refl;
       no_verdict = refl;
     })
-cap_entered due (Judged f opens_next) trace c b p e i d = absurd i
-cap_entered due (Rests f r) trace c b p e i d =
+cap_entered due (Judged f opens_next) trace c b p since e i timer d = absurd i
+cap_entered due (Rests f r) trace c b p since e i timer d =
     rw e (record {
       taken = or_left b.taken (is_readable b) i.taken;
       paused = i.paused;
       no_timer = refl;
-      reached = due_timer due b (f + 600) i.timer i.taken d;
+      rested = (
+          let reached = due_timer due b timer.at timer.armed i.taken d in
+          let by = first_by (line trace).edges (f + least_pause) timer.at timer.rested timer.late in
+          omega arith);
+      entered = omega arith;
       no_window = refl;
       no_verdict = refl;
     })
@@ -96,7 +102,7 @@ cap_entered due (Rests f r) trace c b p e i d =
 pub record Follows (v v' : CapView) : Type 0 where
   pub later : v.time ≤ v'.time
   pub taken : v'.taken ≡ v.taken
-  pub timer : v'.timer ≡ v.timer
+  pub timer : v.timer ≡ None → v'.timer ≡ None
   pub mode : v'.mode ≡ v.mode
   pub copied : v'.copied ≡ v.copied
   pub paused : v'.paused ≡ v.paused
@@ -106,6 +112,7 @@ pub record Follows (v v' : CapView) : Type 0 where
   pub hears : (w m : ℕ) → Hears v w m → Hears v' w m
   pub settled : (w m : ℕ) → IsClosing v w m → v'.window.edges ≡ v.window.edges
   pub closes : (w m c : ℕ) → close (line v.trace).edges w (mode_of m) ≡ Some c → c ≤ v.time → close (line v'.trace).edges w (mode_of m) ≡ Some c
+  pub rested : (t : ℕ) → first_rested (line v.trace).edges t ≤ v.time → first_rested (line v'.trace).edges t ≤ first_rested (line v.trace).edges t
 
 closing_follows : (v v' : CapView) (w m : ℕ) → Follows v v' → IsClosing v w m → IsClosing v' w m
 closing_follows v v' w m f i = record {
@@ -123,17 +130,18 @@ listening_follows : (v v' : CapView) (w m : ℕ) → Follows v v' → IsListenin
 listening_follows v v' w m f i = record { hears = f.hears w m i.hears; untaken = f.taken ∙ i.untaken }
 
 judged_follows : (v v' : CapView) → Follows v v' → IsJudged v → IsJudged v'
-judged_follows v v' f i = record { verdict = f.verdicts ∙ i.verdict; taken = f.taken ∙ i.taken; running = f.paused ∙ i.running; no_timer = f.timer ∙ i.no_timer }
+judged_follows v v' f i = record { verdict = f.verdicts ∙ i.verdict; taken = f.taken ∙ i.taken; running = f.paused ∙ i.running; no_timer = f.timer i.no_timer }
 
-paused_follows : (v v' : CapView) (at : ℕ) → Follows v v' → IsPaused v at → IsPaused v' at
-paused_follows v v' at f i = record { taken = f.taken ∙ i.taken; paused = f.paused ∙ i.paused; timer = f.timer ∙ i.timer }
+paused_follows : (v v' : CapView) → Follows v v' → IsPaused v → IsPaused v'
+paused_follows v v' f i = record { taken = f.taken ∙ i.taken; paused = f.paused ∙ i.paused }
 
 over_follows : (v v' : CapView) (at : ℕ) → Follows v v' → IsOver v at → IsOver v' at
 over_follows v v' at f i = record {
   taken = f.taken ∙ i.taken;
   paused = f.paused ∙ i.paused;
-  no_timer = f.timer ∙ i.no_timer;
-  reached = (let a = i.reached in let b = f.later in omega arith);
+  no_timer = f.timer i.no_timer;
+  rested = (let a = i.rested in let b = i.entered in let r = f.rested (at + least_pause) (omega arith) in let e = f.entered in omega arith);
+  entered = (let a = i.entered in let b = f.later in let e = f.entered in omega arith);
   no_window = f.windows ∙ i.no_window;
   no_verdict = f.verdicts ∙ i.no_verdict;
 }
@@ -154,12 +162,12 @@ signal_follows (Listens w m) (cap.Pause t) v v' f i = absurd i
 signal_follows (Listens w m) cap.Back v v' f i = (listening_follows v v' w m f i.0, rw (f.verdicts, f.windows) i.1)
 signal_follows (Judged at opens_next) cap.Open v v' f i = (judged_follows v v' f i.0, i.1)
 signal_follows (Judged at opens_next) (cap.Pause t) v v' f i = (judged_follows v v' f i.0, i.1)
-signal_follows (Judged at opens_next) cap.Back v v' f i = (paused_follows v v' at f i.0, (i.1.0, f.verdicts ∙ i.1.1))
+signal_follows (Judged at opens_next) cap.Back v v' f i = (paused_follows v v' f i.0, (i.1.0, f.verdicts ∙ i.1.1))
 signal_follows (Judged at opens_next) cap.Shut v v' f i = absurd i
 signal_follows (Judged at opens_next) cap.Start v v' f i = absurd i
 signal_follows (Judged at opens_next) (cap.Copy rest) v v' f i = absurd i
 signal_follows (Judged at opens_next) cap.Judge v v' f i = absurd i
-signal_follows (Rests at r) cap.Shut v v' f i = paused_follows v v' at f i
+signal_follows (Rests at r) cap.Shut v v' f i = paused_follows v v' f i
 signal_follows (Rests at r) cap.Start v v' f i = over_follows v v' at f i
 signal_follows (Rests at r) (cap.Copy rest) v v' f i = absurd i
 signal_follows (Rests at r) cap.Judge v v' f i = absurd i
@@ -172,7 +180,7 @@ pub time_follows : (v : CapView) (u : ℕ) → v.time ≤ u → Follows v (recor
 time_follows v u le = record {
   later = le;
   taken = refl;
-  timer = refl;
+  timer = λ n. n;
   mode = refl;
   copied = refl;
   paused = refl;
@@ -182,4 +190,5 @@ time_follows v u le = record {
   hears = λ w m h. record { armed = h.armed; mode = h.mode; opened = h.opened; edges = h.edges; core_mode = h.core_mode; running = h.running; no_timer = h.no_timer };
   settled = λ w m i. refl;
   closes = λ w m c e l. e;
+  rested = λ t le. omega arith;
 }

@@ -1,5 +1,5 @@
 -- The log stands as it is while time goes on, and as the trace grows.
-use Rattle.std.proofs.Common.{◌≡◌, ◌≤◌, ℕ, Bool, true, false, if◌then◌else◌, List, [], ◌∷◌, ◌++◌, refl, sym, ◌∙◌, arith}
+use Rattle.std.proofs.Common.{◌≡◌, ◌≤◌, ℕ, Bool, true, false, if◌then◌else◌, List, [], ◌∷◌, ◌++◌, Some, refl, sym, ◌∙◌, arith}
 use Rattle.esc_base.specs.declared.kind.Kind.{Kind}
 use Rattle.esc_base.specs.declared.event.Event.{Event}
 use Rattle.esc_base.specs.declared.event.Event.TheVariants as event
@@ -9,6 +9,7 @@ use Rattle.esc_base.specs.Numbers.{as_tick}
 use Rattle.edge_capture.specs.Window.{after_edge}
 use Rattle.settings_block.specs.declared.stored.Loaded.{Loaded}
 use Rattle.timer_regs.specs.Bank.{Bank}
+use Rattle.timer_regs.specs.Rest.{put_off}
 use Rattle.timer_regs.specs.Effects.{advanced}
 use Rattle.interrupt_machine.specs.declared.nest.Nest.{Nest}
 use Rattle.interrupt_machine.specs.Response.{Patient}
@@ -55,7 +56,7 @@ record SameRegs (b b' : Bank) : Type 0 where
 
 same_regs : (b : Bank) (e : Event) → SameRegs b (after_event b e)
 same_regs b (event.Edge at level) =
-    by_test (differ b.level level) (record b { level = level; window = after_edge b.window (record { t = as_tick b.time; level = level }) })
+    by_test (differ b.level level) (record b { level = level; window = after_edge b.window (record { t = as_tick b.time; level = level }); timer = put_off b.timer b.time; changed = Some b.time })
     (record { time = refl; masked = refl; high = refl; low = refl })
   where
     by_test : (v : Bool) (b' : Bank) → SameRegs b b' → SameRegs b (if v then b' else b)

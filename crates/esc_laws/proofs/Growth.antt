@@ -1,5 +1,5 @@
 -- Later events change nothing of what the notes and the steps before them said.
-use Rattle.std.proofs.Common.{◌≡◌, ◌≤◌, ◌<◌, ◌+◌, ℕ, Bool, true, false, not, ◌&&◌, ◌==◌, nat_le, nat_lt, if◌then◌else◌, List, [], ◌∷◌, ◌++◌, length, Some, None, refl, sym, ◌∙◌, ap, arith, All, ◌-◌, length-append, true≢false}
+use Rattle.std.proofs.Common.{◌≡◌, ◌≤◌, ◌<◌, ◌+◌, ℕ, Bool, true, false, not, ◌&&◌, ◌==◌, nat_le, nat_lt, max, if◌then◌else◌, List, [], ◌∷◌, ◌++◌, length, Some, None, refl, sym, ◌∙◌, ap, arith, All, ◌-◌, length-append, true≢false}
 use Rattle.std.proofs.lemmas.Bool.{not-true, and_parts, false_from_ne_true}
 use Rattle.std.proofs.lemmas.List.Elements.{All-head, All-tail}
 use Rattle.std.proofs.lemmas.List.{get_or_push}
@@ -16,15 +16,17 @@ use Rattle.esc_base.specs.Journal.{Each, time_of}
 use Rattle.esc_base.specs.Trace.{line, tick_of, differ}
 use Rattle.esc_base.proofs.TraceLaws.{line-push}
 use Rattle.esc_base.specs.Numbers.{mode_of}
-use Rattle.esc_base.specs.Times.{is_reached}
+use Rattle.esc_base.specs.Times.{is_reached, least_pause, most_pause}
 use Rattle.edge_capture.specs.Edges.{last_at, blank}
 use Rattle.edge_capture.specs.Burst.{burst, close, close_of, hears, is_closed, wait}
 use Rattle.edge_capture.proofs.Stable.{burst-push, closed_later}
 use Rattle.edge_capture.proofs.Grows.{burst_grows}
 use Rattle.settings_block.specs.declared.stored.Loaded.{Loaded}
 use Rattle.esc_laws.specs.Place.{Signal, Silent, Listens, Judged, Rests, place}
-use Rattle.esc_laws.specs.Windowed.{Answers, AnswersAt, WindowRule, Windowed}
+use Rattle.esc_laws.specs.Rested.{first_rested}
+use Rattle.esc_laws.specs.Windowed.{Answers, AnswersAt, OpensAt, WindowRule, Windowed}
 use Rattle.esc_laws.specs.Seen.{calls_cap, sees}
+use Rattle.esc_laws.proofs.Rests.{first_stays, first_before}
 
 -- ---- windows
 
@@ -49,12 +51,32 @@ answers_at_grow loaded trace e Silent entered t n le a = a
 answers_at_grow loaded trace e (Judged f opens) entered t n le a = a
 answers_at_grow loaded trace e (Rests f r) entered t n le a = a
 
+-- the first rested tick by now
+pub first_grows : (trace : List Event) (e : Event) (t : ℕ) → first_rested (line trace).edges t ≤ tick_of e → first_rested (line (trace ++ e ∷ [])).edges t ≤ first_rested (line trace).edges t
+first_grows trace (event.Edge at level) t le = rw (line-push trace (event.Edge at level)) (changed (differ (line trace).level level) (line trace).edges (record { t = at; level = level }) t le)
+  where
+    changed : (v : Bool) (edges : List Edge) (x : Edge) (t : ℕ) → first_rested edges t ≤ x.t.0 → first_rested (if v then edges ++ x ∷ [] else edges) t ≤ first_rested edges t
+    changed true edges x t le = rw (first_stays edges x t le) (omega arith)
+    changed false edges x t le = omega arith
+first_grows trace (event.Comp at level) t le = rw (line-push trace (event.Comp at level)) (omega arith)
+first_grows trace (event.Serial at byte) t le = rw (line-push trace (event.Serial at byte)) (omega arith)
+first_grows trace (event.Stall at n) t le = rw (line-push trace (event.Stall at n)) (omega arith)
+
+opens_grow : (trace : List Event) (e : Event) (s : Signal) (entered t : ℕ) → t ≤ tick_of e → OpensAt trace s entered t → OpensAt (trace ++ e ∷ []) s entered t
+opens_grow trace e (Rests f r) entered t le o = record {
+  rested = (let a = o.rested in let b = o.entered_before in let g = first_grows trace e (f + least_pause) (omega arith) in omega arith);
+  entered_before = o.entered_before;
+}
+opens_grow trace e Silent entered t le o = o
+opens_grow trace e (Listens w m) entered t le o = o
+opens_grow trace e (Judged f opens) entered t le o = o
+
 rule_grows : (loaded : Loaded) (trace : List Event) (e : Event) (before : List Note) (n : Note) → time_of n ≤ tick_of e → WindowRule loaded trace before n → WindowRule loaded (trace ++ e ∷ []) before n
 rule_grows loaded trace e before (note.Good t v q) le r = answers_at_grow loaded trace e (place before).signal (place before).cap_entered t.0 (note.Good t v q) le r
 rule_grows loaded trace e before (note.Detected t m) le r = answers_at_grow loaded trace e (place before).signal (place before).cap_entered t.0 (note.Detected t m) le r
 rule_grows loaded trace e before (note.Nothing t) le r = answers_at_grow loaded trace e (place before).signal (place before).cap_entered t.0 (note.Nothing t) le r
 rule_grows loaded trace e before (note.Bad t w) le r = answers_at_grow loaded trace e (place before).signal (place before).cap_entered t.0 (note.Bad t w) le r
-rule_grows loaded trace e before (note.Window t m) le r = r
+rule_grows loaded trace e before (note.Window t m) le r = (opens_grow trace e (place before).signal (place before).cap_entered t.0 le r.0, r.1)
 rule_grows loaded trace e before (note.Leave t k) le r = r
 rule_grows loaded trace e before n le r = r
 
@@ -77,9 +99,9 @@ reached_at n l t = by_none (n == 0) l t
     by_none false l t = refl
 
 pub reached_closed : (m : Mode) (heard : List Edge) (t : ℕ) → is_reached (close_of m heard) t ≡ is_closed m heard t
-reached_closed m heard t = reached_at (length heard) (last_at heard + wait m (length heard)) t
+reached_closed m heard t = reached_at (length heard) (last_at heard + wait m heard) t
 
-last_at-push : (heard : List Edge) (x : Edge) → last_at (heard ++ x ∷ []) ≡ x.t.0
+pub last_at-push : (heard : List Edge) (x : Edge) → last_at (heard ++ x ∷ []) ≡ x.t.0
 last_at-push heard x = ap (λ (y : Edge). y.t.0) (get_or_push heard x blank (length (heard ++ x ∷ []) - 1) (sym (simp length-append (omega arith))))
 
 open_at : (n l t : ℕ) → t < l → (not (n == 0) && nat_le l t) ≡ false
@@ -88,7 +110,7 @@ open_at n l t lt = grind (arith, nat_tests)
 -- a window that has heard an edge after t isn't closed at t
 open_before : (m : Mode) (heard : List Edge) (x : Edge) (t : ℕ) → t < x.t.0 → is_closed m (heard ++ x ∷ []) t ≡ false
 open_before m heard x t lt =
-    open_at (length (heard ++ x ∷ [])) (last_at (heard ++ x ∷ []) + wait m (length (heard ++ x ∷ []))) t (rw (last_at-push heard x) (omega arith))
+    open_at (length (heard ++ x ∷ [])) (last_at (heard ++ x ∷ []) + wait m (heard ++ x ∷ [])) t (rw (last_at-push heard x) (omega arith))
 
 pub heard_open : (m : Mode) (w : ℕ) (edges : List Edge) (x : Edge) → hears m w edges x ≡ true → is_closed m edges x.t.0 ≡ false
 heard_open m w edges x h =
@@ -128,6 +150,16 @@ closed_still trace (event.Comp at level) w t m le c = rw (line-push trace (event
 closed_still trace (event.Serial at byte) w t m le c = rw (line-push trace (event.Serial at byte)) c
 closed_still trace (event.Stall at n) w t m le c = rw (line-push trace (event.Stall at n)) c
 
+rest_before : (trace : List Event) (e : Event) (from t : ℕ) → t < tick_of e → nat_le (first_rested (line (trace ++ e ∷ [])).edges from) t ≡ nat_le (first_rested (line trace).edges from) t
+rest_before trace (event.Edge at level) from t lt = rw (line-push trace (event.Edge at level)) (changed (differ (line trace).level level) (line trace).edges (record { t = at; level = level }) from t lt)
+  where
+    changed : (v : Bool) (edges : List Edge) (x : Edge) (from t : ℕ) → t < x.t.0 → nat_le (first_rested (if v then edges ++ x ∷ [] else edges) from) t ≡ nat_le (first_rested edges from) t
+    changed true edges x from t lt = first_before edges x from t lt
+    changed false edges x from t lt = refl
+rest_before trace (event.Comp at level) from t lt = rw (line-push trace (event.Comp at level)) refl
+rest_before trace (event.Serial at byte) from t lt = rw (line-push trace (event.Serial at byte)) refl
+rest_before trace (event.Stall at n) from t lt = rw (line-push trace (event.Stall at n)) refl
+
 cap_before : (trace : List Event) (e : Event) (s : Signal) (t : ℕ) → t < tick_of e → calls_cap (trace ++ e ∷ []) s t ≡ calls_cap trace s t
 cap_before trace e Silent t lt = refl
 cap_before trace e (Listens w m) t lt =
@@ -135,7 +167,7 @@ cap_before trace e (Listens w m) t lt =
     ∙ closed_before trace e w t (mode_of m) lt
     ∙ sym (reached_closed (mode_of m) (burst (line trace).edges w (mode_of m)) t)
 cap_before trace e (Judged f opens) t lt = refl
-cap_before trace e (Rests f r) t lt = refl
+cap_before trace e (Rests f r) t lt = rest_before trace e (max (f + most_pause) r) t lt
 
 -- a later event changes nothing of what was seen due before it
 pub sees_before : (trace : List Event) (e : Event) (notes : List Note) (t : ℕ) (k : Kind) → t < tick_of e → sees (trace ++ e ∷ []) notes t k ≡ sees trace notes t k

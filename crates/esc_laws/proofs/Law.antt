@@ -21,7 +21,7 @@ pub record HandlerLaw (k : Kind) : Type 0 where
   pub entered : (w : World) → Ground w → Ties w → left_of w.core k ≡ 0 → due_now w.core.orders.save_asked w.bank k ≡ true → Tie k (after_enter k w)
   pub beside : (w : World) (j : Kind) → j ≢ k → Tie j w → Tie j (after_enter k w)
   -- each of its steps, the return too, whatever the flash answers
-  pub steps : (w : World) (answers : List Answer) (outer : List Kind) → Ground w → Ties w → Above k w → (so_far w).stack ≡ k ∷ outer → 0 < left_of w.core k
+  pub steps : (w : World) (answers : List Answer) (outer : List Kind) → Ground w → Ties w → Above k w → w.cap_since ≤ w.bank.time → (so_far w).stack ≡ k ∷ outer → 0 < left_of w.core k
       → StepKeeps k outer w (kind_step k answers w.core w.bank)
   -- its tie stands as time goes on, and at an event
   pub later : (w : World) (u : ℕ) → w.bank.time ≤ u → u < 2147483648 → Ground w → Ties w → Tie k (at_time w u)

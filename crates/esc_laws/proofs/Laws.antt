@@ -17,7 +17,7 @@ pwm_never : (w : World) → Ties w → w.bank.flag ≡ true → ⊥
 pwm_never w t due = let n = (t kind.Comm).1.no_event in let z : true ≡ false = sym due ∙ n in cc
 
 comm_never : (w : World) → Ties w → is_reached w.bank.comm w.bank.time ≡ true → ⊥
-comm_never w t due = 
+comm_never w t due =
     let z : is_reached w.bank.comm w.bank.time ≡ false = ap (λ (o : Option ℕ). is_reached o w.bank.time) (t kind.Comm).1.disarmed in
     let y : true ≡ false = sym due ∙ z in
     cc
@@ -32,21 +32,24 @@ pwm_law = record {
     | kind.Comm ↦ λ ne t. (t.0, record { high_off = t.1.high_off; low_off = t.1.low_off; no_duty = t.1.no_duty; no_event = refl; disarmed = t.1.disarmed; no_mark = t.1.no_mark })
     | j ↦ λ ne t. t
   ];
-  steps = λ w answers outer g t above on left. absurd (let shut = t kind.Pwm in omega arith);
+  steps = λ w answers outer g t above past on left. absurd (let shut = t kind.Pwm in omega arith);
   later = λ w u from small g t. t kind.Pwm;
   outside = λ w e at g t. t kind.Pwm;
 }
 
 -- with no duty time brings no PWM event
 comm_later : (w : World) (u : ℕ) → Tie kind.Comm w → Tie kind.Comm (at_time w u)
-comm_later w u t = (t.0, record {
-  high_off = t.1.high_off;
-  low_off = t.1.low_off;
-  no_duty = t.1.no_duty;
-  no_event = ap (λ (d : ℕ). w.bank.flag || has_edge d w.bank.time u) t.1.no_duty ∙ ap (λ (f : Bool). f || has_edge 0 w.bank.time u) t.1.no_event;
-  disarmed = t.1.disarmed;
-  no_mark = t.1.no_mark;
-})
+comm_later w u t = (
+  t.0,
+  record {
+    high_off = t.1.high_off;
+    low_off = t.1.low_off;
+    no_duty = t.1.no_duty;
+    no_event = ap (λ (d : ℕ). w.bank.flag || has_edge d w.bank.time u) t.1.no_duty ∙ ap (λ (f : Bool). f || has_edge 0 w.bank.time u) t.1.no_event;
+    disarmed = t.1.disarmed;
+    no_mark = t.1.no_mark;
+  },
+)
 
 comm_law : HandlerLaw kind.Comm
 comm_law = record {
@@ -54,7 +57,7 @@ comm_law = record {
   built = λ w t due. comm_never w t due;
   entered = λ w g t none due. absurd (comm_never w t due);
   beside = λ w. elim [ kind.Comm ↦ λ ne t. absurd (ne refl) | kind.Pwm ↦ λ ne t. t | j ↦ λ ne t. t ];
-  steps = λ w answers outer g t above on left. absurd (let shut = (t kind.Comm).0 in omega arith);
+  steps = λ w answers outer g t above past on left. absurd (let shut = (t kind.Comm).0 in omega arith);
   later = λ w u from small g t. comm_later w u (t kind.Comm);
   outside = λ w e at g t. t kind.Comm;
 }
@@ -77,7 +80,7 @@ law k = record {
     | kind.Comm ↦ λ ne t. ((entered_others k w.core kind.Comm ne).0 ∙ t.0, t.1)
     | j ↦ λ ne t. (entered_others k w.core j ne).0 ∙ t
   ];
-  steps = λ w answers outer g t above on left. absurd (let shut = t k in omega arith);
+  steps = λ w answers outer g t above past on left. absurd (let shut = t k in omega arith);
   later = λ w u from small g t. t k;
   outside = λ w e at g t. t k;
 }

@@ -1,7 +1,11 @@
 pub mod Pushes
 pub mod Stalls
+pub mod Rests
 pub mod Growth
 pub mod StepGrowth
+pub mod HeardWhole
+pub mod SentFrames
+pub mod RestOpens
 pub mod Notes
 pub mod Facts
 pub mod Saves

@@ -1,5 +1,5 @@
 -- What the ties become as the trace grows by an event.
-use Rattle.std.proofs.Common.{◌≡◌, ◌≤◌, ◌<◌, ◌+◌, ◌-◌, ℕ, Bool, true, false, not, ◌&&◌, ◌==◌, nat_le, if◌then◌else◌, List, [], ◌∷◌, ◌++◌, length, refl, sym, ◌∙◌, ap, arith, lit≤, All, inl, inr, length-append, true≢false}
+use Rattle.std.proofs.Common.{◌≡◌, ◌≤◌, ◌<◌, ◌+◌, ◌-◌, ℕ, Bool, true, false, not, ◌&&◌, ◌==◌, nat_le, if◌then◌else◌, List, [], ◌∷◌, ◌++◌, length, Option, Some, None, refl, sym, ◌∙◌, ap, arith, lit≤, All, inl, inr, length-append, true≢false}
 use Rattle.std.proofs.lemmas.Bool.{and_parts, and_right, cases_lt}
 use Rattle.std.proofs.lemmas.Bool.Decides.{nat_tests}
 use Rattle.std.proofs.lemmas.List.{get_or_push, get_or_append_left}
@@ -18,12 +18,13 @@ use Rattle.edge_capture.specs.Burst.{burst, hear, hears, is_closed}
 use Rattle.edge_capture.specs.Window.{Window, after_edge, window_closed, window_hears}
 use Rattle.edge_capture.proofs.Stable.{burst-push, deaf}
 use Rattle.timer_regs.specs.Bank.{Bank}
+use Rattle.timer_regs.specs.Rest.{put_off}
 use Rattle.esc_core.specs.Brain.{Brain}
 use Rattle.esc_laws.specs.Place.{Place}
 use Rattle.esc_laws.specs.Tied.{CapView, cap_view, Hears, WindowSound}
 use Rattle.esc_laws.proofs.CapTies.{closing_closed}
 use Rattle.esc_laws.proofs.Dues.{Follows}
-use Rattle.esc_laws.proofs.Growth.{close_grows, heard_open}
+use Rattle.esc_laws.proofs.Growth.{close_grows, first_grows, heard_open}
 
 -- ---- an event that isn't of the line
 
@@ -31,7 +32,7 @@ pub plain_follows : (trace : List Event) (e : Event) (c : Brain) (b : Bank) (p :
 plain_follows trace e c b p same le = record {
   later = omega arith;
   taken = refl;
-  timer = refl;
+  timer = λ n. n;
   mode = refl;
   copied = refl;
   paused = refl;
@@ -41,6 +42,7 @@ plain_follows trace e c b p same le = record {
   hears = λ w m h. record { armed = h.armed; mode = h.mode; opened = h.opened; edges = rw same h.edges; core_mode = h.core_mode; running = h.running; no_timer = h.no_timer };
   settled = λ w m i. refl;
   closes = λ w m at h l. close_grows trace e w at (mode_of m) h (omega arith);
+  rested = λ t r. first_grows trace e t (omega arith);
 }
 
 -- ---- an edge
@@ -83,7 +85,11 @@ closed_deaf : (w : Window) (x : Edge) → window_closed w x.t.0 ≡ true → win
 closed_deaf w x c = and_right w.armed (hears w.mode w.opened w.edges x) (deaf w.mode w.opened w.edges x (and_parts w.armed (is_closed w.mode w.edges x.t.0) c).1)
 
 abbrev pub edge_bank : Bank → Bool → Bank
-edge_bank b level = record b { level = level; window = after_edge b.window (edge_now b level) }
+edge_bank b level = record b { level = level; window = after_edge b.window (edge_now b level); timer = put_off b.timer b.time; changed = Some b.time }
+
+off_stays : (timer : Option ℕ) (t : ℕ) → timer ≡ None → put_off timer t ≡ None
+off_stays None t e = refl
+off_stays (Some at) t e = absurd (let z = e in cc)
 
 pub edge_follows : (trace : List Event) (c : Brain) (b : Bank) (p : Place) (level : Bool) → (line (trace ++ event.Edge (as_tick b.time) level ∷ [])).edges ≡ (line trace).edges ++ edge_now b level ∷ []
     → Follows (cap_view trace c b p) (cap_view (trace ++ event.Edge (as_tick b.time) level ∷ []) c (edge_bank b level) p)
@@ -92,7 +98,7 @@ edge_follows trace c b p level more =
     record {
       later = omega arith;
       taken = refl;
-      timer = refl;
+      timer = λ n. off_stays b.timer b.time n;
       mode = refl;
       copied = refl;
       paused = refl;
@@ -106,10 +112,11 @@ edge_follows trace c b p level more =
         edges = edge_hears (cap_view trace c b p) w m (edge_now b level) h ∙ sym (burst-push (line trace).edges (edge_now b level) w (mode_of m)) ∙ ap (λ (es : List Edge). burst es w (mode_of m)) (sym more);
         core_mode = h.core_mode;
         running = h.running;
-        no_timer = h.no_timer;
+        no_timer = off_stays b.timer b.time h.no_timer;
       };
       settled = λ w m i. heard_edges false b.window (edge_now b level) (closed_deaf b.window (edge_now b level) (closing_closed (cap_view trace c b p) w m i));
       closes = λ w m at h l. close_grows trace (event.Edge (as_tick b.time) level) w at (mode_of m) h l;
+      rested = λ t r. first_grows trace (event.Edge (as_tick b.time) level) t r;
     }
 
 -- ---- the window's edges stay few and in order

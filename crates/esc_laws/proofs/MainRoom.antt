@@ -28,6 +28,7 @@ saves w saved outer g asked none on = record {
     orders = saved_tied w.loaded w.core.orders (as_tick w.bank.time) (result_of saved) w.back g.orders;
     level = g.level;
     edges = g.edges;
+    rested = g.rested;
     small = g.small;
   };
   tie = ap (λ (n : ℕ). n + 1) none;
@@ -55,7 +56,7 @@ main_law = record {
   built = λ w t due. tt;
   entered = λ w g t none due. (due, refl);
   beside = λ w. elim [ kind.Main ↦ λ ne t. absurd (ne refl) | j ↦ λ ne t. t ];
-  steps = λ w answers outer g t above on left. steps w.core.main_at w answers outer g (t kind.Main) on left;
+  steps = λ w answers outer g t above past on left. steps w.core.main_at w answers outer g (t kind.Main) on left;
   later = λ w u from small g t. (t kind.Main);
   outside = λ w e at g t. (t kind.Main);
 }

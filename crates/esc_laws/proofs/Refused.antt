@@ -27,7 +27,9 @@ use Rattle.esc_laws.specs.Windowed.{verdict_note, Answers, WindowRule, WindowRul
 use Rattle.esc_laws.specs.Nested.{IsAboveAll, NestRule, NestRuleAt, NestedAfter}
 use Rattle.esc_laws.specs.Steps.{opening}
 use Rattle.esc_laws.specs.World.{placed}
-use Rattle.esc_laws.specs.Refused.{first_two, frames, armed, enters, leaves, window, good, bad, found, nothing, ticks, arms, loses, acts, saves, ControlRefuses, one_edge, WindowsRefuse, NestingRefuses}
+use Rattle.esc_laws.specs.Rested.{first_rested}
+use Rattle.esc_laws.proofs.Rests.{first_more}
+use Rattle.esc_laws.specs.Refused.{first_two, frames, armed, enters, leaves, window, good, bad, found, nothing, ticks, arms, loses, acts, saves, ControlRefuses, one_edge, late_edge, WindowsRefuse, NestingRefuses}
 use Rattle.esc_laws.proofs.Stages.{placed-is}
 
 -- ---- control
@@ -101,6 +103,10 @@ answers_nothing loaded entered t n a =
     ∙ ap (λ (es : List Edge). verdict_note t (judged (mode_of 0) es loaded.settings.input (servo_of loaded.settings))) heard_one
     ∙ ap (λ (j : Judgement). verdict_note t j) (sees_nothing loaded.settings.input (servo_of loaded.settings))
 
+rests_late : first_rested (line late_edge).edges 5606 ≡ 5800
+unfolding line first_rested
+rests_late = refl
+
 pub windows_refuse : WindowsRefuse
 windows_refuse = record {
   first_window_at_5 = λ loaded trace after h. (let e = (window_fits loaded trace [] after (window 5 0) h).0 in absurd (omega arith));
@@ -115,7 +121,8 @@ windows_refuse = record {
   no_window_after_a_frame = λ trace loaded after h. (let e = window_fits loaded trace (first_two ++ (enters 5000 3 ∷ good 5080 1000 ∷ [])) after (leaves 5084 3) h refl in absurd (cc));
   no_window_after_a_detection = λ trace loaded after h. (let e = window_fits loaded trace (first_two ++ (enters 5000 3 ∷ found 5080 2 ∷ [])) after (leaves 5084 3) h refl in absurd (cc));
   window_right_behind_a_bad_one = λ trace loaded after h. (let e = (window_fits loaded trace (first_two ++ (enters 5000 3 ∷ bad 5006 1 ∷ [])) after (window 5010 0) h).0 in absurd (cc));
-  window_after_599_ticks = λ trace loaded after h. (let e = (window_fits loaded trace (first_two ++ (enters 5000 3 ∷ nothing 5006 ∷ leaves 5010 3 ∷ enters 5602 3 ∷ [])) after (window 5605 0) h).0 in absurd (omega arith));
+  window_after_599_ticks = λ trace loaded after h. (let e = (window_fits loaded trace (first_two ++ (enters 5000 3 ∷ nothing 5006 ∷ leaves 5010 3 ∷ enters 5602 3 ∷ [])) after (window 5605 0) h).0 in let r = e.rested in let m = first_more (line trace).edges 5606 in absurd (omega arith));
+  window_on_a_line_not_at_rest = λ loaded after h. (let e = (window_fits loaded late_edge (first_two ++ (enters 5000 3 ∷ nothing 5006 ∷ leaves 5010 3 ∷ enters 5700 3 ∷ [])) after (window 5703 0) h).0 in let r = e.rested in let late = rests_late in absurd (omega arith));
   window_in_another_mode = λ trace loaded after h. (let e = (window_fits loaded trace (first_two ++ (enters 5000 3 ∷ found 5080 2 ∷ [])) after (window 5084 1) h).1 in absurd (omega arith));
 }
 

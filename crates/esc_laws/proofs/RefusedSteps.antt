@@ -14,6 +14,7 @@ use Rattle.settings_block.specs.declared.stored.Loaded.{Loaded}
 use Rattle.interrupt_machine.specs.declared.nest.Nest.{Nest}
 use Rattle.interrupt_machine.specs.declared.nest.Nest.TheVariants.{Full}
 use Rattle.esc_laws.specs.Place.{place}
+use Rattle.esc_laws.specs.Rested.{first_rested}
 use Rattle.esc_laws.specs.Seen.{sees}
 use Rattle.esc_laws.specs.Steps.{Turned, opening, notes_in, journal, open_in, free, after, called, is_entry, EachStep, StepFits, Awaits}
 use Rattle.esc_laws.specs.Refused.{enters, ticks, entry, own, two_edges, cap_waits, two_later_edges, cap_rests, StepsRefuse}
@@ -44,7 +45,7 @@ unfolding free
 no_stall t = refl
 
 calls_again : (loaded : Loaded) → sees two_later_edges (journal loaded cap_rests) 6202 kind.Cap ≡ true
-unfolding place line burst
+unfolding place line burst first_rested
 calls_again loaded = refl
 
 not_so_late : (loaded : Loaded) (nest : Nest) (cost : ℕ) → cost ≤ 1200 → StepFits loaded nest cost two_later_edges cap_rests (entry 6203 kind.Cap) → ⊥

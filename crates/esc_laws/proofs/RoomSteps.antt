@@ -19,6 +19,7 @@ ground_noted w n c s p o g = record {
   orders = orders_other w.loaded w.core.orders n w.back o g.orders;
   level = g.level;
   edges = g.edges;
+  rested = g.rested;
   small = g.small;
 }
 

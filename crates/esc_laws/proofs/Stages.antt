@@ -33,12 +33,13 @@ use Rattle.esc_laws.specs.Nested.{NestRuleAt, NestRule, IsAboveAll, IsBuilt}
 use Rattle.esc_laws.specs.Steps.{opening, is_entry, ReturnsLast}
 use Rattle.esc_laws.specs.Saves.{is_save}
 use Rattle.esc_laws.specs.Tied.{GatesTied}
-use Rattle.esc_laws.specs.World.{World, placed, so_far, onto, noted, enters, after_enter, after_step, step_notes, all_notes, gated, counted, open_left, at_time, after_event, after_outside}
+use Rattle.esc_laws.specs.World.{World, placed, so_far, onto, noted, enters, after_enter, after_step, step_notes, all_notes, gated, counted, open_left, cap_since_step, at_time, after_event, after_outside}
 use Rattle.esc_laws.specs.Rooms.{Above, Ground, Tie, Ties, owner, AllFit, WordMoves, StepKeeps}
 use Rattle.esc_laws.proofs.Pushes.{All-later, place-push}
 use Rattle.esc_laws.proofs.Notes.{Said, said_push}
 use Rattle.esc_laws.proofs.Facts.{access_time}
 use Rattle.esc_laws.proofs.Lines.{edge_now, edge_bank, line_changes, line_same}
+use Rattle.esc_laws.proofs.Rests.{rest_now}
 use Rattle.esc_laws.proofs.RoomSteps.{ground_noted}
 use Rattle.esc_laws.proofs.Returns.{returns_last}
 use Rattle.esc_laws.proofs.Laws.{law}
@@ -64,14 +65,15 @@ onto-reverse notes (n ∷ more) =
 
 -- ---- what holds between two steps, in the words of the rooms
 
-abbrev pub world_of : Loaded → Nest → List Event → Brain → Bank → List Note → World
-world_of loaded nest trace c b rest = record { loaded = loaded; nest = nest; trace = trace; core = c; bank = b; back = reverse (opening loaded ++ rest) }
+abbrev pub world_of : Loaded → Nest → List Event → Brain → Bank → ℕ → List Note → World
+world_of loaded nest trace c b since rest =
+    record { loaded = loaded; nest = nest; trace = trace; core = c; bank = b; back = reverse (opening loaded ++ rest); cap_since = since }
 
-pub record Stood (loaded : Loaded) (nest : Nest) (trace : List Event) (c : Brain) (b : Bank) (rest : List Note) (stack : List Kind) : Type 0 where
+pub record Stood (loaded : Loaded) (nest : Nest) (trace : List Event) (c : Brain) (b : Bank) (since : ℕ) (rest : List Note) (stack : List Kind) : Type 0 where
   pub said : Said loaded nest trace b.time rest
   pub gates : GatesTied b.hi b.lo (reverse (opening loaded ++ rest))
-  pub ground : Ground (world_of loaded nest trace c b rest)
-  pub ties : (j : Kind) → Tie j (world_of loaded nest trace c b rest)
+  pub ground : Ground (world_of loaded nest trace c b since rest)
+  pub ties : (j : Kind) → Tie j (world_of loaded nest trace c b since rest)
   pub stack_is : (place (opening loaded ++ rest)).stack ≡ stack
 
 -- notes that fit are said
@@ -128,7 +130,8 @@ word_kept k w (n ∷ notes) hi lo f g = word_kept k (noted w n) notes hi lo f.1 
 kept_stood : (k : Kind) (w : World) (rest : List Note) (outer : List Kind) (s : Stepped) → reverse (opening w.loaded ++ rest) ≡ w.back
     → Said w.loaded w.nest w.trace w.bank.time rest → Ties w → GatesTied (accessed w.bank s.access).hi (accessed w.bank s.access).lo w.back
     → StepKeeps k outer w s
-    → Stood w.loaded w.nest w.trace s.core (accessed w.bank s.access) (rest ++ step_notes w.bank.time k s) (open_left k outer s)
+    → Stood w.loaded w.nest w.trace s.core (accessed w.bank s.access) (cap_since_step k w.bank.time w.cap_since) (rest ++ step_notes w.bank.time k s)
+    (open_left k outer s)
 kept_stood k w rest outer s e said ties word keeps =
     let after : Bank = accessed w.bank s.access in
     let notes : List Note = step_notes w.bank.time k s in
@@ -176,25 +179,25 @@ word_after b after at = elim (cases_Bool ((after.hi == b.hi) && (after.lo == b.l
     other_word : (m n p q : ℕ) → ((m == n) && (p == q)) ≡ false → m ≡ n → p ≡ q → ⊥
     other_word m n p q e s t = grind (arith, nat_tests)
 
-pub step_made : (k : Kind) (answers : List Answer) (loaded : Loaded) (nest : Nest) (trace : List Event) (c : Brain) (b : Bank) (rest : List Note)
-    (outer : List Kind)
-    → Stood loaded nest trace c b rest (k ∷ outer)
+pub step_made : (k : Kind) (answers : List Answer) (loaded : Loaded) (nest : Nest) (trace : List Event) (c : Brain) (b : Bank) (since : ℕ)
+    (rest : List Note) (outer : List Kind)
+    → Stood loaded nest trace c b since rest (k ∷ outer) → since ≤ b.time
     → ((j : Kind) → kind_number k < kind_number j → left_of c j ≡ 0) → 0 < left_of c k
     → Stood loaded nest trace (kind_step k answers (counted_down c b) b).core (accessed b (kind_step k answers (counted_down c b) b).access)
-    (rest ++ all_notes b k (kind_step k answers (counted_down c b) b)) (open_left k outer (kind_step k answers (counted_down c b) b))
+    (cap_since_step k b.time since) (rest ++ all_notes b k (kind_step k answers (counted_down c b) b)) (open_left k outer (kind_step k answers (counted_down c b) b))
     × All (IsOwn k b.time) (all_notes b k (kind_step k answers (counted_down c b) b))
     × ReturnsLast k (all_notes b k (kind_step k answers (counted_down c b) b))
-step_made k answers loaded nest trace c b rest outer i above left =
+step_made k answers loaded nest trace c b since rest outer i past above left =
     let s : Stepped = kind_step k answers (counted_down c b) b in
     let after : Bank = accessed b s.access in
-    let before : World = world_of loaded nest trace c b rest in
+    let before : World = world_of loaded nest trace c b since rest in
     let w : World = counted before in
     let g : Note = note.Gate (as_tick b.time) after.hi after.lo in
     let on : (so_far w).stack ≡ k ∷ outer = ap (λ (p : Place). p.stack) (placed-is (opening loaded ++ rest)) ∙ i.stack_is in
     let ties : Ties w = (λ j. counted_tie j before (i.ties j)) in
     let shut : Above k w = (λ j l. counted_left j c b ∙ above j l) in
     let some : 0 < left_of w.core k = rw (counted_left k c b) left in
-    let plain : StepKeeps k outer w s = (law k).steps w answers outer i.ground ties shut on some in
+    let plain : StepKeeps k outer w s = (law k).steps w answers outer i.ground ties shut past on some in
     elim (word_after b after (access_time b s.access)) [
       | inl same ↦ rw same.none (
         kept_stood k w rest outer s refl i.said ties (record { high = same.high ∙ i.gates.high; low = same.low ∙ i.gates.low }) plain,
@@ -203,7 +206,7 @@ step_made k answers loaded nest trace c b rest outer i above left =
       )
       | inr other ↦ (
           let told : StepKeeps k outer (gated w after) s =
-          (law k).steps (gated w after) answers outer (ground_noted w g refl refl tt refl i.ground) (λ j. gate_tie j w after (ties j)) shut on some in
+          (law k).steps (gated w after) answers outer (ground_noted w g refl refl tt refl i.ground) (λ j. gate_tie j w after (ties j)) shut past on some in
           let fits : NestRule nest (opening loaded ++ rest) g =
           subst (λ (p : Place). NestRuleAt nest p g) (placed-is (opening loaded ++ rest)) (plain.gate i.gates other.moves) in
           let said : Said loaded nest trace b.time (rest ++ g ∷ []) = said_push loaded nest trace b.time rest g i.said refl tt fits in
@@ -212,7 +215,7 @@ step_made k answers loaded nest trace c b rest outer i above left =
           let stood =
           kept_stood k (gated w after) (rest ++ g ∷ []) outer s back said (λ j. gate_tie j w after (ties j)) (record { high = refl; low = refl }) told in
           rw other.one (
-            subst (λ (ns : List Note). Stood loaded nest trace s.core after ns (open_left k outer s))
+            subst (λ (ns : List Note). Stood loaded nest trace s.core after (cap_since_step k b.time since) ns (open_left k outer s))
                 (append_assoc rest (g ∷ []) (step_notes b.time k s)) stood,
             All-cons (IsOwn k b.time) g (step_notes b.time k s) (refl, refl, λ e. cc) (all_own k (gated w after) (step_notes b.time k s) told.fits),
             returns_last k outer (gated w after) s on told,
@@ -240,11 +243,12 @@ enter_stack k p t = refl
 built_number : (k : Kind) → IsBuilt k → IsBuilt (kind_of (kind_number k))
 built_number k built = rw (kind_of-number k) built
 
-pub enter_stood : (k : Kind) (loaded : Loaded) (nest : Nest) (trace : List Event) (c : Brain) (b : Bank) (rest : List Note) (stack : List Kind)
-    → Stood loaded nest trace c b rest stack → left_of c k ≡ 0 → due_now c.orders.save_asked b k ≡ true
-    → IsAboveAll nest stack (kind_number k) → Stood loaded nest trace (entered_core c k) (after_entry b k) (rest ++ enters k b.time ∷ []) (k ∷ stack)
-enter_stood k loaded nest trace c b rest stack i none due above =
-    let w : World = world_of loaded nest trace c b rest in
+pub enter_stood : (k : Kind) (loaded : Loaded) (nest : Nest) (trace : List Event) (c : Brain) (b : Bank) (since : ℕ) (rest : List Note)
+    (stack : List Kind)
+    → Stood loaded nest trace c b since rest stack → left_of c k ≡ 0 → due_now c.orders.save_asked b k ≡ true
+    → IsAboveAll nest stack (kind_number k) → Stood loaded nest trace (entered_core c k) (after_entry b k) since (rest ++ enters k b.time ∷ []) (k ∷ stack)
+enter_stood k loaded nest trace c b since rest stack i none due above =
+    let w : World = world_of loaded nest trace c b since rest in
     let n : Note = enters k b.time in
     let back : n ∷ reverse (opening loaded ++ rest) ≡ reverse (opening loaded ++ (rest ++ n ∷ [])) =
     sym (reverse-push (opening loaded ++ rest) n) ∙ ap reverse (append_assoc (opening loaded) rest (n ∷ [])) in
@@ -271,22 +275,24 @@ later_ground w u from small g = record {
   orders = g.orders;
   level = g.level;
   edges = All-later (λ e. e.t.0) (line w.trace).edges w.bank.time u from g.edges;
+  rested = g.rested;
   small = small;
 }
 
 -- ---- an event at now
 
-outside_is : (b : Bank) (e : Event) → after_event b e ≡ record b { level = (after_event b e).level; window = (after_event b e).window }
+outside_is : (b : Bank) (e : Event)
+    → after_event b e ≡ record b { level = (after_event b e).level; window = (after_event b e).window; timer = (after_event b e).timer; changed = (after_event b e).changed }
 outside_is b (event.Edge at level) = by_test (differ b.level level)
   where
     by_test : (v : Bool)
-        → (if v then edge_bank b level else b) ≡ record b { level = (if v then edge_bank b level else b).level; window = (if v then edge_bank b level else b).window }
+        → (if v then edge_bank b level else b) ≡ record b { level = (if v then edge_bank b level else b).level; window = (if v then edge_bank b level else b).window; timer = (if v then edge_bank b level else b).timer; changed = (if v then edge_bank b level else b).changed }
     by_test true = refl
     by_test false = refl
 outside_is b e = refl
 
 edge_ground : (v : Bool) (w : World) (level : Bool) → differ w.bank.level level ≡ v → Ground w
-    → Ground (record w { trace = w.trace ++ event.Edge (as_tick w.bank.time) level ∷ []; bank = record w.bank { level = (if v then edge_bank w.bank level else w.bank).level } })
+    → Ground (record w { trace = w.trace ++ event.Edge (as_tick w.bank.time) level ∷ []; bank = record w.bank { level = (if v then edge_bank w.bank level else w.bank).level; changed = (if v then edge_bank w.bank level else w.bank).changed } })
 edge_ground true w level d g =
     let new = line_changes w.trace w.bank level (subst (λ (l : Bool). differ l level ≡ true) g.level d) in
     record {
@@ -294,16 +300,17 @@ edge_ground true w level d g =
       orders = g.orders;
       level = ap (λ (l : Line). l.level) (sym new);
       edges = rw new (All-push (λ y. y.t.0 ≤ w.bank.time) (line w.trace).edges (edge_now w.bank level) g.edges (omega arith));
+      rested = rw new (rest_now (line w.trace).edges (edge_now w.bank level) g.edges);
       small = g.small;
     }
 edge_ground false w level d g =
     let same = line_same w.trace w.bank level (subst (λ (l : Bool). differ l level ≡ false) g.level d) in
-    record { control = g.control; orders = g.orders; level = rw same g.level; edges = rw same g.edges; small = g.small }
+    record { control = g.control; orders = g.orders; level = rw same g.level; edges = rw same g.edges; rested = rw same g.rested; small = g.small }
 
 outside_ground : (w : World) (e : Event) → tick_of e ≡ w.bank.time → Ground w → Ground (after_outside w e)
 outside_ground w (event.Edge at level) is g =
     subst
-    (λ (n : ℕ). Ground (record w { trace = w.trace ++ event.Edge (as_tick n) level ∷ []; bank = record w.bank { level = (after_line w.bank level).level; window = (after_line w.bank level).window } }))
+    (λ (n : ℕ). Ground (record w { trace = w.trace ++ event.Edge (as_tick n) level ∷ []; bank = record w.bank { level = (after_line w.bank level).level; window = (after_line w.bank level).window; timer = (after_line w.bank level).timer; changed = (after_line w.bank level).changed } }))
     (sym is)
     (edge_ground (differ w.bank.level level) w level refl g)
 outside_ground w (event.Comp at level) is g = record {
@@ -311,6 +318,7 @@ outside_ground w (event.Comp at level) is g = record {
   orders = g.orders;
   level = rw (line-push w.trace (event.Comp at level)) g.level;
   edges = rw (line-push w.trace (event.Comp at level)) g.edges;
+  rested = rw (line-push w.trace (event.Comp at level)) g.rested;
   small = g.small;
 }
 outside_ground w (event.Serial at byte) is g = record {
@@ -318,6 +326,7 @@ outside_ground w (event.Serial at byte) is g = record {
   orders = g.orders;
   level = rw (line-push w.trace (event.Serial at byte)) g.level;
   edges = rw (line-push w.trace (event.Serial at byte)) g.edges;
+  rested = rw (line-push w.trace (event.Serial at byte)) g.rested;
   small = g.small;
 }
 outside_ground w (event.Stall at n) is g = record {
@@ -325,6 +334,7 @@ outside_ground w (event.Stall at n) is g = record {
   orders = g.orders;
   level = rw (line-push w.trace (event.Stall at n)) g.level;
   edges = rw (line-push w.trace (event.Stall at n)) g.edges;
+  rested = rw (line-push w.trace (event.Stall at n)) g.rested;
   small = g.small;
 }
 

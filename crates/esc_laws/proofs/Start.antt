@@ -1,5 +1,5 @@
 -- The log of a run that has made no step.
-use Rattle.std.proofs.Common.{◌≡◌, ◌≤◌, ℕ, false, List, [], ◌∷◌, reverse, refl, sym, ◌∙◌, ap, arith, lit<, All, Option, Some, None}
+use Rattle.std.proofs.Common.{◌≡◌, ◌≤◌, ℕ, false, List, [], ◌∷◌, reverse, refl, sym, ◌∙◌, ap, arith, lit<, All, Option, Some, None, ◌+◌}
 use Rattle.std.proofs.lemmas.List.Elements.{All-nil, All-cons}
 use Rattle.esc_base.specs.declared.kind.Kind.{Kind}
 use Rattle.esc_base.specs.declared.kind.Kind.TheVariants as kind
@@ -29,7 +29,7 @@ use Rattle.esc_laws.specs.World.{world}
 use Rattle.esc_laws.specs.Rooms.{Ground, Tie}
 use Rattle.esc_laws.specs.Logged.{Marks, Logged, stall_end, first_bank}
 use Rattle.esc_laws.proofs.Notes.{Said}
-use Rattle.esc_laws.proofs.Pushes.{after-none, free-none, called-none}
+use Rattle.esc_laws.proofs.Pushes.{after-none, free-none, past-none, called-none}
 
 place-opening : (loaded : Loaded) → place (opening loaded) ≡ record nowhere { signal = Listens 0 0; windows = 1; last = 0 }
 unfolding place
@@ -114,6 +114,7 @@ start_ground loaded nest = record {
   orders = record { settings_are = refl; save_is = refl };
   level = ap (λ (l : Line). l.level) (sym line-none);
   edges = rw line-none (All-nil (λ e. e.t.0 ≤ 0));
+  rested = rw line-none (record { over = All-nil (λ e. e.t.0 + 200 ≤ 0); first = λ t a. omega arith });
   small = lit< tt;
 }
 
@@ -122,6 +123,7 @@ start_ties : (loaded : Loaded) (nest : Nest) (k : Kind) → Tie k (world loaded 
 start_ties loaded nest kind.Cap = (
   record { hears = record { armed = refl; mode = refl; opened = refl; edges = no_burst; core_mode = refl; running = refl; no_timer = refl }; untaken = refl },
   record { past = λ k d l. absurd (omega arith); order = λ x y le l. absurd (omega arith); few = omega arith },
+  tt,
 )
 start_ties loaded nest kind.Tick = (tt, refl, omega arith)
 start_ties loaded nest kind.Main = tt
@@ -152,6 +154,7 @@ logged_start loaded nest cost =
       reached_by = λ k o. cc;
       fits = tt;
       past = omega arith;
+      cap_past = (let z = past-none kind.Cap in omega arith);
       awaits = record { open_step = λ o. omega arith; idle = λ o t from below f k. absurd (omega arith) };
       time = omega arith;
       put_off = λ u from below. absurd (omega arith);

@@ -3,6 +3,7 @@ use Rattle.std.proofs.Common.{◌≡◌, ◌≢◌, ◌≤◌, ◌<◌, ◌+◌,
 use Rattle.std.proofs.lemmas.Bool.{not-true, and_parts}
 use Rattle.std.proofs.lemmas.List.Elements.{All-nil, All-cons, All-weaker}
 use Rattle.esc_base.specs.declared.kind.Kind.{Kind}
+use Rattle.esc_base.specs.declared.kind.Kind.TheVariants as kind
 use Rattle.esc_base.specs.declared.event.Event.{Event}
 use Rattle.esc_base.specs.declared.note.Note.{Note}
 use Rattle.esc_base.specs.Journal.{time_of}
@@ -25,12 +26,12 @@ use Rattle.esc_core.specs.Firmware.{left_of, need_of, entered_core, kind_step, c
 use Rattle.esc_core.proofs.Bounds.{Bounds, need_some, mask_down, goes_bounds}
 use Rattle.esc_laws.specs.Place.{Place}
 use Rattle.esc_laws.specs.Seen.{sees, sees_at}
-use Rattle.esc_laws.specs.Steps.{Turned, notes_in, journal, after, uses, is_of, is_entry, ReturnsLast, own_steps, steps_since, entered_at, called, StepFits, Below}
+use Rattle.esc_laws.specs.Steps.{Turned, notes_in, journal, after, uses, is_of, is_entry, ReturnsLast, own_steps, past_own, steps_since, entered_at, called, StepFits, Below}
 use Rattle.esc_laws.specs.Tied.{Keeps}
 use Rattle.esc_laws.specs.World.{world, enters, all_notes, open_left}
 use Rattle.esc_laws.specs.Rooms.{Ground, Tie}
 use Rattle.esc_laws.specs.Logged.{Logged}
-use Rattle.esc_laws.proofs.Pushes.{own-push, since-push}
+use Rattle.esc_laws.proofs.Pushes.{own-push, past-push, since-push}
 use Rattle.esc_laws.proofs.Stalls.{free_ended}
 use Rattle.esc_laws.proofs.Facts.{of_self, of_other, some_open, outer_open, left_open, access_time}
 use Rattle.esc_laws.proofs.Laws.{law}
@@ -135,8 +136,10 @@ entry_turn loaded nest cost trace c b stack log k some l down chosen =
       keeps = keeps_entry nest c b stack k l.keeps l.sorted down chosen;
       sorted = (entry_above nest stack (due_now c.orders.save_asked b) k chosen, l.sorted);
       time = enter_time k b;
-      out = enter_stood k loaded nest trace c b (notes_in log) stack (stood loaded nest cost trace b.time c b stack log l) none due
-          (entry_above_all nest stack (due_now c.orders.save_asked b) k l.sorted chosen);
+      out =
+          rw (past-push kind.Cap log (entry_of b.time k))
+          (enter_stood k loaded nest trace c b (past_own kind.Cap log) (notes_in log) stack (stood loaded nest cost trace b.time c b stack log l) none due
+          (entry_above_all nest stack (due_now c.orders.save_asked b) k l.sorted chosen));
       patient =
           rw still
           (entry_patient nest stack (due_now c.orders.save_asked b) (sees trace (journal loaded log) b.time)
@@ -215,13 +218,14 @@ own_turn loaded nest cost trace c b outer log k answers some l none =
     let held : b.masked ≡ true → 0 < c.hold = (λ m. (let a = l.keeps.enough m k refl in let n = need_some k c in omega arith)) in
     let bound : Bounds k c b s = goes_bounds k answers c b left l.keeps.hold (steady k c b (k ∷ outer) l.keeps refl) in
     let made =
-    step_made k answers loaded nest trace c b (notes_in log) outer (stood loaded nest cost trace b.time c b (k ∷ outer) log l)
+    step_made k answers loaded nest trace c b (past_own kind.Cap log) (notes_in log) outer (stood loaded nest cost trace b.time c b (k ∷ outer) log l)
+    l.cap_past
     (λ j above. l.keeps.shut j (closed_above (k ∷ outer) j l.sorted above)) left in
     logged_after loaded nest cost trace c s.core b b' (k ∷ outer) (open_left k outer s) log (own_of b.time k notes) some refl l (record {
       keeps = keeps_own k c b outer s l.sorted l.keeps bound;
       sorted = left_stack s.over k outer l.sorted;
       time = access_time b s.access;
-      out = made.0;
+      out = rw (past-push kind.Cap log (own_of b.time k notes)) made.0;
       patient =
           own_patient nest k outer (open_left k outer s) (due_now c.orders.save_asked b) (sees trace (journal loaded log) b.time)
           (sees trace (journal loaded (log ++ own_of b.time k notes ∷ [])) b.time) b.masked b'.masked c.hold s.core.hold (called loaded nest trace log)

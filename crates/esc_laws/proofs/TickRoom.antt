@@ -51,6 +51,7 @@ asks (Some cause) armed_now w outer demand kept g none on st number =
             (orders_other w.loaded w.core.orders k w.back refl g.orders);
         level = g.level;
         edges = g.edges;
+        rested = g.rested;
         small = g.small;
       };
       tie = (ap (λ (n : ℕ). n + 1) none, sym number, omega arith);
@@ -69,6 +70,7 @@ asks None true w outer demand kept g none on st number =
             (orders_other w.loaded w.core.orders k w.back refl g.orders);
         level = g.level;
         edges = g.edges;
+        rested = g.rested;
         small = g.small;
       };
       tie = (ap (λ (n : ℕ). n + 1) none, sym number, omega arith);
@@ -80,7 +82,7 @@ asks None false w outer demand kept g none on st number =
     record {
       gate = λ word moved. absurd (moved refl refl);
       fits = (record { at = refl; owned = refl; window = tt; nest = inside (so_far w).stack kind.Tick outer on }, tt);
-      ground = record { control = st; orders = orders_other w.loaded w.core.orders k w.back refl g.orders; level = g.level; edges = g.edges; small = g.small };
+      ground = record { control = st; orders = orders_other w.loaded w.core.orders k w.back refl g.orders; level = g.level; edges = g.edges; rested = g.rested; small = g.small };
       tie = (ap (λ (n : ℕ). n + 1) none, sym number, omega arith);
       others = elim [ kind.Tick ↦ λ ne t. absurd (ne refl) | j ↦ λ ne t. t ];
       stack_is = on;
@@ -150,7 +152,7 @@ tick_law = record {
   built = λ w t due. tt;
   entered = λ w g t none due. ((due_tick w.core.orders.save_asked w.bank (t kind.Tick).2 due, refl), (t kind.Tick).1, (t kind.Tick).2);
   beside = λ w. elim [ kind.Tick ↦ λ ne t. absurd (ne refl) | j ↦ λ ne t. t ];
-  steps = λ w answers outer g t above on left. steps w.core.tick_at w outer g (t kind.Tick) (t kind.Comm).1.no_mark (t kind.Tick).0 on left;
+  steps = λ w answers outer g t above past on left. steps w.core.tick_at w outer g (t kind.Tick) (t kind.Comm).1.no_mark (t kind.Tick).0 on left;
   later = λ w u from small g t. (
     later w.core.tick_at w.bank.number_read w.bank.time u (so_far w).ticks from (t kind.Tick).0,
     (t kind.Tick).1,

@@ -1,7 +1,8 @@
 -- One step more: the log, the journal, the core and the registers after it.
-use Rattle.std.proofs.Common.{◌≡◌, ◌≤◌, ◌<◌, ◌+◌, ℕ, Bool, true, false, ◌&&◌, List, [], ◌∷◌, ◌++◌, Option, Some, refl, sym, ◌∙◌, ap, subst, arith, All}
+use Rattle.std.proofs.Common.{◌≡◌, ◌≤◌, ◌<◌, ◌+◌, ℕ, Bool, true, false, ◌&&◌, List, [], ◌∷◌, ◌++◌, Option, Some, refl, sym, ◌∙◌, ap, subst, arith, All, not, if◌then◌else◌}
 use Rattle.std.proofs.lemmas.List.Elements.{All-head, All-tail}
 use Rattle.esc_base.specs.declared.kind.Kind.{Kind}
+use Rattle.esc_base.specs.declared.kind.Kind.TheVariants as kind
 use Rattle.esc_base.specs.declared.event.Event.{Event}
 use Rattle.esc_base.specs.declared.note.Note.{Note}
 use Rattle.settings_block.specs.declared.stored.Loaded.{Loaded}
@@ -14,10 +15,10 @@ use Rattle.interrupt_machine.proofs.Waiting.{same_patient, patient_most}
 use Rattle.esc_core.specs.Brain.{Brain}
 use Rattle.esc_core.specs.Firmware.{left_of}
 use Rattle.esc_laws.specs.Seen.{sees}
-use Rattle.esc_laws.specs.Steps.{Turned, notes_in, journal, open_in, next_step, after, uses, is_of, own_steps, steps_since, entered_at, called, StepFits, Below}
+use Rattle.esc_laws.specs.Steps.{Turned, notes_in, journal, open_in, next_step, after, uses, is_of, own_steps, past_own, steps_since, entered_at, called, StepFits, Below}
 use Rattle.esc_laws.specs.Tied.{Keeps}
 use Rattle.esc_laws.specs.Logged.{stall_end, Logged}
-use Rattle.esc_laws.proofs.Pushes.{All-later, notes-push, after-push, entered-push, since-push, called-push, uses-more, step-push}
+use Rattle.esc_laws.proofs.Pushes.{All-later, notes-push, after-push, past-push, entered-push, since-push, called-push, uses-more, step-push}
 use Rattle.esc_laws.proofs.Stalls.{free_ended}
 use Rattle.esc_laws.proofs.Stages.{Stood}
 
@@ -53,7 +54,7 @@ by_new cost trace log e j t f b = rw (since-push j log e, entered-push j log e, 
 -- ---- what holds between two steps, in the words of the rooms
 
 pub stood : (loaded : Loaded) (nest : Nest) (cost : ℕ) (trace : List Event) (next : ℕ) (c : Brain) (b : Bank) (stack : List Kind) (log : List Turned)
-    → Logged loaded nest cost trace next c b stack log → Stood loaded nest trace c b (notes_in log) stack
+    → Logged loaded nest cost trace next c b stack log → Stood loaded nest trace c b (past_own kind.Cap log) (notes_in log) stack
 stood loaded nest cost trace next c b stack log l = record {
   said = record { in_time = l.marks.in_time; windowed = l.marks.windowed; nested = l.marks.nested; past = l.marks.past };
   gates = l.marks.gates;
@@ -76,7 +77,7 @@ pub record Given (loaded : Loaded) (nest : Nest) (cost : ℕ) (trace : List Even
   pub keeps : Keeps c' b' stack'
   pub sorted : IsStack stack'
   pub time : b'.time ≡ b.time
-  pub out : Stood loaded nest trace c' b' (notes_in log ++ e.notes) stack'
+  pub out : Stood loaded nest trace c' b' (past_own kind.Cap (log ++ e ∷ [])) (notes_in log ++ e.notes) stack'
   pub patient : Patient nest c'.hold b'.masked stack' (sees trace (journal loaded (log ++ e ∷ [])) b.time)
       (λ k. counted_by loaded nest trace b.time stack stack' log e k)
   pub owes : (k : Kind) → is_open stack' k ≡ true → own_steps k (log ++ e ∷ []) + left_of c' k ≤ most k
@@ -98,8 +99,9 @@ pub logged_after : (loaded : Loaded) (nest : Nest) (cost : ℕ) (trace : List Ev
     → e.tick ≡ b.time → Logged loaded nest cost trace b.time c b stack log → Given loaded nest cost trace c' b b' stack stack' log e
     → Logged loaded nest cost trace (b.time + cost) c' b' stack' (log ++ e ∷ [])
 logged_after loaded nest cost trace c c' b b' stack stack' log e some at l g =
-    let out : Stood loaded nest trace c' b' (notes_in (log ++ e ∷ [])) stack' =
-    subst (λ (r : List Note). Stood loaded nest trace c' b' r stack') (sym (notes-push log e)) g.out in
+    let since : ℕ = past_own kind.Cap (log ++ e ∷ []) in
+    let out : Stood loaded nest trace c' b' since (notes_in (log ++ e ∷ [])) stack' =
+    subst (λ (r : List Note). Stood loaded nest trace c' b' since r stack') (sym (notes-push log e)) g.out in
     let ends : All (λ x. stall_end x ≤ b.time + cost) trace = All-later stall_end trace b.time (b.time + cost) (omega arith) l.stalls in
     let next : after cost trace (log ++ e ∷ []) ≡ b.time + cost =
     after-push cost trace log e ∙ ap (λ (t : ℕ). next_step cost trace t) at ∙ free_ended trace b.time (b.time + cost) l.stalls (omega arith) in
@@ -134,9 +136,16 @@ logged_after loaded nest cost trace c c' b b' stack stack' log e some at l g =
           (g.fits
           (patient_most nest c'.hold b'.masked stack' (sees trace (journal loaded (log ++ e ∷ [])) b.time) (called loaded nest trace (log ++ e ∷ [])) patient));
       past = rw next (omega arith);
+      cap_past =
+          rw (past-push kind.Cap log e)
+          (past_soon (not e.enters && is_of kind.Cap e) e.tick (past_own kind.Cap log) (omega arith) (let p = l.cap_past in omega arith));
       awaits = record { open_step = λ o. rw next (omega arith); idle = λ o t from below f k. absurd (let n = next in omega arith) };
       time = rw g.time (omega arith);
       put_off = λ u from below past f. absurd (let n = next in omega arith);
       stalls = ends;
       at_next = λ o. sym next;
     }
+  where
+    past_soon : (v : Bool) (t since : ℕ) → t + 1 ≤ b.time + cost → since ≤ b.time + cost → (if v then t + 1 else since) ≤ b.time + cost
+    past_soon true t since a c = a
+    past_soon false t since a c = c

@@ -1,7 +1,10 @@
 -- the laws, which end in `Legal`, and what a journal says of the flash
 pub mod Place
 pub mod Gates
+pub mod Rested
 pub mod Windowed
+pub mod HeardWhole
+pub mod RestOpens
 pub mod Nested
 pub mod Seen
 pub mod Steps

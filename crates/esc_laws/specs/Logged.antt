@@ -3,6 +3,7 @@
 use Rattle.std.specs.Prelude.{◌≡◌, ◌≢◌, ◌<◌, ◌≤◌, ◌+◌, ℕ, true, false, List, [], All, reverse}
 use Rattle.std.proofs.Common.{inl, inr}
 use Rattle.esc_base.specs.declared.kind.Kind.{Kind}
+use Rattle.esc_base.specs.declared.kind.Kind.TheVariants as kind
 use Rattle.esc_base.specs.declared.event.Event.{Event}
 use Rattle.esc_base.specs.declared.event.Event.TheVariants as event
 use Rattle.esc_base.specs.declared.note.Note.{Note}
@@ -23,7 +24,7 @@ use Rattle.esc_core.specs.Firmware.{core_step, core_asked, entered_core, left_of
 use Rattle.esc_laws.specs.Windowed.{Windowed}
 use Rattle.esc_laws.specs.Nested.{NestedAfter}
 use Rattle.esc_laws.specs.Seen.{sees}
-use Rattle.esc_laws.specs.Steps.{Turned, opening, notes_in, journal, open_in, free, after, uses, own_steps, steps_since, entered_at, called, EachStep, StepFits, Awaits, Below}
+use Rattle.esc_laws.specs.Steps.{Turned, opening, notes_in, journal, open_in, free, after, uses, own_steps, steps_since, entered_at, past_own, called, EachStep, StepFits, Awaits, Below}
 use Rattle.esc_laws.specs.Tied.{Keeps, GatesTied}
 use Rattle.esc_laws.specs.World.{world}
 use Rattle.esc_laws.specs.Rooms.{Ground, Tie}
@@ -61,6 +62,7 @@ pub record Logged (loaded : Loaded) (nest : Nest) (cost : ℕ) (trace : List Eve
   pub reached_by : (k : Kind) → is_open stack k ≡ true → (t : ℕ) → Below t log → uses cost trace (steps_since k log) (entered_at k log) < t
   pub fits : EachStep (StepFits loaded nest cost trace) [] log
   pub past : after cost trace log ≤ next
+  pub cap_past : past_own kind.Cap log ≤ next
   pub awaits : Awaits loaded cost trace next log
   pub time : b.time ≤ next
   -- from now to the next step there is no tick that a step could have

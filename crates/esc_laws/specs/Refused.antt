@@ -121,6 +121,10 @@ Unwindowed trace notes = (loaded : Loaded) (after : List Note) → Windowed load
 abbrev pub one_edge : List Event
 one_edge = event.Edge (as_tick 100) true ∷ []
 
+-- the same at tick 5600, so the line has rested at 5800
+abbrev pub late_edge : List Event
+late_edge = event.Edge (as_tick 5600) true ∷ []
+
 pub record WindowsRefuse : Type 0 where
   -- the first window opens at tick 0, in mode 0
   pub first_window_at_5 : (loaded : Loaded) (trace : List Event) (after : List Note) → Windowed loaded trace (window 5 0 ∷ after) → ⊥
@@ -138,9 +142,10 @@ pub record WindowsRefuse : Type 0 where
   -- after a good frame and after a detection the next window opens in the same activation
   pub no_window_after_a_frame : (trace : List Event) → Unwindowed trace (enters 5000 3 ∷ good 5080 1000 ∷ leaves 5084 3 ∷ [])
   pub no_window_after_a_detection : (trace : List Event) → Unwindowed trace (enters 5000 3 ∷ found 5080 2 ∷ leaves 5084 3 ∷ [])
-  -- after a bad one and after nothing it opens in a later one, at least 600 ticks after the F
+  -- after a bad one and after nothing it opens in a later one, at least 600 ticks after the F, when the line has rested
   pub window_right_behind_a_bad_one : (trace : List Event) → Unwindowed trace (enters 5000 3 ∷ bad 5006 1 ∷ window 5010 0 ∷ [])
   pub window_after_599_ticks : (trace : List Event) → Unwindowed trace (enters 5000 3 ∷ nothing 5006 ∷ leaves 5010 3 ∷ enters 5602 3 ∷ window 5605 0 ∷ [])
+  pub window_on_a_line_not_at_rest : Unwindowed late_edge (enters 5000 3 ∷ nothing 5006 ∷ leaves 5010 3 ∷ enters 5700 3 ∷ window 5703 0 ∷ [])
   -- it opens in the mode that control is in
   pub window_in_another_mode : (trace : List Event) → Unwindowed trace (enters 5000 3 ∷ found 5080 2 ∷ window 5084 1 ∷ [])
 

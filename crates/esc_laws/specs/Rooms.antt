@@ -18,24 +18,26 @@ use Rattle.esc_core.specs.Stepped.{Stepped}
 use Rattle.esc_core.specs.Firmware.{left_of}
 use Rattle.esc_base.specs.Numbers.{kind_number, as_tick}
 use Rattle.timer_regs.specs.Bank.{Bank}
+use Rattle.timer_regs.specs.Rest.{rests_from}
 use Rattle.interrupt_machine.specs.Did.{accessed}
 use Rattle.interrupt_machine.specs.Open.{kind_of}
 use Rattle.esc_laws.specs.Windowed.{WindowRuleAt}
 use Rattle.esc_laws.specs.Nested.{NestRuleAt}
-use Rattle.esc_laws.specs.Tied.{SignalTied, CapView, cap_view, WindowSound, TickTied, MainTied, OrdersTied, GatesTied}
+use Rattle.esc_laws.specs.Tied.{SignalTied, CapView, cap_view, WindowSound, TimerTied, IsRestFrom, TickTied, MainTied, OrdersTied, GatesTied}
 use Rattle.esc_laws.specs.World.{World, so_far, noted, step_notes, after_step, open_left}
 
 -- ---- what all handlers share
 
-pub record Grounded (loaded : Loaded) (trace : List Event) (kept : Kept) (o : Orders) (now_level : Bool) (time : ℕ) (back : List Note) : Type 0 where
+pub record Grounded (loaded : Loaded) (trace : List Event) (kept : Kept) (o : Orders) (now_level : Bool) (rests : ℕ) (time : ℕ) (back : List Note) : Type 0 where
   pub control : Stands kept back
   pub orders : OrdersTied loaded o back
   pub level : now_level ≡ (line trace).level
   pub edges : All (λ e. e.t.0 ≤ time) (line trace).edges
+  pub rested : IsRestFrom (line trace).edges rests
   pub small : time < 2147483648
 
 abbrev pub Ground : World → Type 0
-Ground w = Grounded w.loaded w.trace w.core.control w.core.orders w.bank.level w.bank.time w.back
+Ground w = Grounded w.loaded w.trace w.core.control w.core.orders w.bank.level (rests_from w.bank.changed) w.bank.time w.back
 
 -- ---- a tie for each handler
 
@@ -53,7 +55,10 @@ abbrev pub cap_seen : World → CapView
 cap_seen w = cap_view w.trace w.core w.bank (so_far w)
 
 abbrev pub CapTie : World → Type 0
-CapTie w = SignalTied (so_far w).signal w.core.cap_at (cap_seen w) × WindowSound w.bank.window w.bank.time
+CapTie w =
+    SignalTied (so_far w).signal w.core.cap_at (cap_seen w)
+    × WindowSound w.bank.window w.bank.time
+    × TimerTied (so_far w).signal w.core.cap_at (line w.trace).edges w.cap_since w.bank.timer
 
 -- the number that was read last is that of control's newest tick
 abbrev pub TickTie : World → Type 0

@@ -7,18 +7,19 @@ use Rattle.esc_base.specs.declared.event.Event.{Event}
 use Rattle.esc_base.specs.declared.note.Note.{Note}
 use Rattle.esc_base.specs.Trace.{line}
 use Rattle.esc_base.specs.Numbers.{mode_of}
-use Rattle.esc_base.specs.Times.{is_reached}
+use Rattle.esc_base.specs.Times.{is_reached, most_pause}
 use Rattle.edge_capture.specs.Burst.{close}
 use Rattle.arming.specs.ControlAt.{asked_at, number_at}
+use Rattle.esc_laws.specs.Rested.{first_rested}
 use Rattle.esc_laws.specs.Place.{Signal, Silent, Listens, Judged, Rests, Place, place}
 
--- CAP is called from the close of a window that has no F; after the F of a bad one, from the latest tick of the window
--- timer, or from the return of that F's activation if later
+-- CAP is called from the close of a window that has no F; after the F of a bad one, from the first rested tick at or after
+-- the latest tick of the window timer and the return of that F's activation
 abbrev pub calls_cap : List Event → Signal → ℕ → Bool
 calls_cap trace Silent t = false
 calls_cap trace (Listens w m) t = is_reached (close (line trace).edges w (mode_of m)) t
 calls_cap trace (Judged f opens) t = false
-calls_cap trace (Rests f r) t = nat_le (max (f + 1200) r) t
+calls_cap trace (Rests f r) t = nat_le (first_rested (line trace).edges (max (f + most_pause) r)) t
 
 -- a kind is seen due at a tick; TICK from the first one of a control tick that no K has, and MAIN while a save is asked for
 abbrev pub sees_at : List Event → Place → List Note → ℕ → Kind → Bool

@@ -8,6 +8,7 @@ use Rattle.esc_base.specs.declared.signal.Edge.{Edge}
 use Rattle.esc_base.specs.declared.signal.Mode.{Mode}
 use Rattle.esc_base.specs.declared.note.Note.{Note}
 use Rattle.esc_base.specs.Trace.{line}
+use Rattle.esc_base.specs.Times.{least_pause, rest}
 use Rattle.esc_base.specs.Numbers.{mode_of}
 use Rattle.edge_capture.specs.Burst.{burst, close}
 use Rattle.edge_capture.specs.Edges.{IsInOrder}
@@ -28,6 +29,7 @@ use Rattle.esc_core.specs.Brain.{Brain}
 use Rattle.esc_core.specs.Firmware.{left_of, need_of}
 use Rattle.esc_laws.specs.Gates.{high_at, low_at}
 use Rattle.esc_laws.specs.Saves.{settings_at}
+use Rattle.esc_laws.specs.Rested.{IsRested, first_rested}
 use Rattle.esc_laws.specs.Place.{Signal, Listens, Judged, Rests, Place}
 
 -- what the core, the registers and the notes say of the signal line
@@ -99,18 +101,18 @@ pub record IsJudged (v : CapView) : Type 0 where
   pub running : v.paused ≡ false
   pub no_timer : v.timer ≡ None
 
--- the window timer is set for 600 ticks after the F
-pub record IsPaused (v : CapView) (f : ℕ) : Type 0 where
+-- the window timer is set
+pub record IsPaused (v : CapView) : Type 0 where
   pub taken : v.taken ≡ true
   pub paused : v.paused ≡ true
-  pub timer : v.timer ≡ Some (f + 600)
 
--- it was reached, and CAP has noted nothing
+-- it was reached when CAP was entered, and CAP has noted nothing
 pub record IsOver (v : CapView) (f : ℕ) : Type 0 where
   pub taken : v.taken ≡ true
   pub paused : v.paused ≡ true
   pub no_timer : v.timer ≡ None
-  pub reached : f + 600 ≤ v.time
+  pub rested : first_rested (line v.trace).edges (f + least_pause) ≤ v.entered
+  pub entered : v.entered ≤ v.time
   pub no_window : v.windows ≡ 0
   pub no_verdict : v.verdicts ≡ 0
 
@@ -125,12 +127,32 @@ SignalTied (Listens w m) (cap.Copy rest) v = IsCopying v w m rest
 SignalTied (Listens w m) cap.Judge v = IsClosing v w m × (v.copied ≡ v.window.edges)
 SignalTied (Listens w m) cap.Back v = IsListening v w m × CapIsDone v
 SignalTied (Judged f opens) cap.Open v = IsJudged v × (opens ≡ true)
-SignalTied (Judged f opens) (cap.Pause at) v = IsJudged v × ((opens ≡ false) × (at ≡ f + 600))
-SignalTied (Judged f opens) cap.Back v = IsPaused v f × ((opens ≡ false) × (v.verdicts ≡ 1))
-SignalTied (Rests f r) cap.Shut v = IsPaused v f
+SignalTied (Judged f opens) (cap.Pause at) v = IsJudged v × ((opens ≡ false) × (at ≡ f + least_pause))
+SignalTied (Judged f opens) cap.Back v = IsPaused v × ((opens ≡ false) × (v.verdicts ≡ 1))
+SignalTied (Rests f r) cap.Shut v = IsPaused v
 SignalTied (Rests f r) cap.Start v = IsOver v f
 -- at the other places CAP doesn't stand
 SignalTied s at v = ⊥
+
+-- The window timer is armed for a rested tick from the end of the pause after the F at f on, and for none later than the
+-- first one from a later tick than all that CAP did by then.
+pub record IsSet (edges : List Edge) (f since : ℕ) (timer : Option ℕ) : Type 0 where
+  pub at : ℕ
+  pub armed : timer ≡ Some at
+  pub late : f + least_pause ≤ at
+  pub rested : IsRested edges at
+  pub soon : (t : ℕ) → f + least_pause ≤ t → since ≤ t → at ≤ first_rested edges t
+
+-- from the step that arms it on, until CAP is entered
+abbrev pub TimerTied : Signal → CapAt → List Edge → ℕ → Option ℕ → Type 0
+TimerTied (Judged f opens) cap.Back edges since timer = IsSet edges f since timer
+TimerTied (Rests f r) cap.Shut edges since timer = IsSet edges f r timer
+TimerTied s at edges since timer = Unit {0}
+
+-- the line has rested from this tick on since its newest change, and from no earlier one
+pub record IsRestFrom (edges : List Edge) (from : ℕ) : Type 0 where
+  pub over : All (λ e. e.t.0 + rest ≤ from) edges
+  pub first : (t : ℕ) → All (λ e. e.t.0 + rest ≤ t) edges → from ≤ t
 
 -- the edges that the capture has heard
 pub record WindowSound (w : Window) (time : ℕ) : Type 0 where

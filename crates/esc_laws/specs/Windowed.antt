@@ -7,6 +7,7 @@ use Rattle.esc_base.specs.declared.note.Note.TheVariants as note
 use Rattle.esc_base.specs.Numbers.{mode_number, why_number, mode_of, bit_of, as_tick}
 use Rattle.esc_base.specs.Journal.{Each}
 use Rattle.esc_base.specs.Trace.{line}
+use Rattle.esc_base.specs.Times.{least_pause}
 use Rattle.edge_capture.specs.Burst.{burst, close}
 use Rattle.settings_block.specs.declared.stored.Loaded.{Loaded}
 use Rattle.arming.specs.ControlAt.{mode_at}
@@ -14,6 +15,7 @@ use Rattle.input_detect.specs.declared.window.Judgement.{Judgement}
 use Rattle.input_detect.specs.declared.window.Judgement.TheVariants.{Good, Bad, Found, Nothing}
 use Rattle.input_detect.specs.Judge.{judged}
 use Rattle.settings_block.specs.Settings.{servo_of}
+use Rattle.esc_laws.specs.Rested.{first_rested}
 use Rattle.esc_laws.specs.Place.{Signal, Silent, Listens, Judged, Rests, Place, place}
 
 -- the F of a window
@@ -39,13 +41,19 @@ AnswersAt loaded trace Silent entered t said = ⊥
 AnswersAt loaded trace (Judged f opens) entered t said = ⊥
 AnswersAt loaded trace (Rests f r) entered t said = ⊥
 
+-- A W at t that follows an F without a frame stands in a later activation, which was entered at or after the first rested
+-- tick from 600 ticks after the F on.
+pub record Opens (trace : List Event) (f entered t : ℕ) : Type 0 where
+  pub rested : first_rested (line trace).edges (f + least_pause) ≤ entered
+  pub entered_before : entered ≤ t
+
 -- The first window opens at tick 0. After a good frame and after a detection the next one opens in the same activation.
--- After a bad window, and where nothing was detected, it opens in a later one, at least 600 ticks after the F.
-abbrev pub OpensAt : Signal → ℕ → Type 0
-OpensAt Silent t = t ≡ 0
-OpensAt (Listens w m) t = ⊥
-OpensAt (Judged f opens) t = opens ≡ true
-OpensAt (Rests f r) t = f + 600 ≤ t
+-- After a bad window, and where nothing was detected, it opens in a later one, when the line has rested.
+abbrev pub OpensAt : List Event → Signal → ℕ → ℕ → Type 0
+OpensAt trace Silent entered t = t ≡ 0
+OpensAt trace (Listens w m) entered t = ⊥
+OpensAt trace (Judged f opens) entered t = opens ≡ true
+OpensAt trace (Rests f r) entered t = Opens trace f entered t
 
 -- no activation returns between a good frame or a detection and its W
 abbrev pub MayReturn : Signal → Type 0
@@ -56,7 +64,7 @@ MayReturn (Rests f r) = Unit {0}
 
 -- the rule of a note at a place, after these notes with the newest first
 abbrev pub WindowRuleAt : Loaded → List Event → Place → List Note → Note → Type 0
-WindowRuleAt loaded trace p back (note.Window t m) = OpensAt p.signal t.0 × (m ≡ mode_at back)
+WindowRuleAt loaded trace p back (note.Window t m) = OpensAt trace p.signal p.cap_entered t.0 × (m ≡ mode_at back)
 WindowRuleAt loaded trace p back (note.Good t v q) = AnswersAt loaded trace p.signal p.cap_entered t.0 (note.Good t v q)
 WindowRuleAt loaded trace p back (note.Detected t m) = AnswersAt loaded trace p.signal p.cap_entered t.0 (note.Detected t m)
 WindowRuleAt loaded trace p back (note.Nothing t) = AnswersAt loaded trace p.signal p.cap_entered t.0 (note.Nothing t)

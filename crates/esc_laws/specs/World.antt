@@ -1,7 +1,8 @@
 -- Machinery, and no law: how a run is proved to be legal. Nothing that `Legal` means rests on this.
 -- What a step finds: the trace, the core, the registers, and the notes so far.
-use Rattle.std.specs.Prelude.{ℕ, if◌then◌else◌, List, [], ◌∷◌, ◌++◌, reverse}
+use Rattle.std.specs.Prelude.{ℕ, ◌+◌, ◌==◌, if◌then◌else◌, List, [], ◌∷◌, ◌++◌, reverse}
 use Rattle.esc_base.specs.declared.kind.Kind.{Kind}
+use Rattle.esc_base.specs.declared.kind.Kind.TheVariants as kind
 use Rattle.esc_base.specs.declared.event.Event.{Event}
 use Rattle.esc_base.specs.declared.event.Event.TheVariants as event
 use Rattle.esc_base.specs.declared.note.Note.{Note}
@@ -17,7 +18,7 @@ use Rattle.esc_core.specs.Brain.{Brain}
 use Rattle.esc_core.specs.Firmware.{entered_core, counted_down}
 use Rattle.esc_core.specs.Stepped.{Stepped}
 use Rattle.esc_laws.specs.Place.{Place, next, nowhere}
-use Rattle.esc_laws.specs.Steps.{Turned, journal}
+use Rattle.esc_laws.specs.Steps.{Turned, journal, past_own}
 
 pub record World : Type 0 where
   pub loaded : Loaded
@@ -27,9 +28,11 @@ pub record World : Type 0 where
   pub bank : Bank
   -- the notes so far, the newest first
   pub back : List Note
+  -- from this tick on CAP has made no step of its own
+  pub cap_since : ℕ
 
 abbrev pub world : Loaded → Nest → List Event → Brain → Bank → List Turned → World
-world loaded nest trace c b log = record { loaded = loaded; nest = nest; trace = trace; core = c; bank = b; back = reverse (journal loaded log) }
+world loaded nest trace c b log = record { loaded = loaded; nest = nest; trace = trace; core = c; bank = b; back = reverse (journal loaded log); cap_since = past_own kind.Cap log }
 
 -- the place after these notes, the newest first
 abbrev pub placed : List Note → Place
@@ -67,8 +70,16 @@ all_notes b k s = gate_note b.hi b.lo (accessed b s.access) ++ step_notes b.time
 abbrev pub gated : World → Bank → World
 gated w after = noted w (note.Gate (as_tick w.bank.time) after.hi after.lo)
 
+abbrev pub cap_since_step : Kind → ℕ → ℕ → ℕ
+cap_since_step k t since = if kind_number kind.Cap == kind_number k then t + 1 else since
+
 abbrev pub after_step : Kind → World → Stepped → World
-after_step k w s = record w { core = s.core; bank = accessed w.bank s.access; back = onto (step_notes w.bank.time k s) w.back }
+after_step k w s = record w {
+  core = s.core;
+  bank = accessed w.bank s.access;
+  back = onto (step_notes w.bank.time k s) w.back;
+  cap_since = cap_since_step k w.bank.time w.cap_since;
+}
 
 -- a masked step is counted
 abbrev pub counted : World → World
@@ -90,5 +101,10 @@ after_event b e = b
 abbrev pub after_outside : World → Event → World
 after_outside w e = record w {
   trace = w.trace ++ e ∷ [];
-  bank = record w.bank { level = (after_event w.bank e).level; window = (after_event w.bank e).window };
+  bank = record w.bank {
+    level = (after_event w.bank e).level;
+    window = (after_event w.bank e).window;
+    timer = (after_event w.bank e).timer;
+    changed = (after_event w.bank e).changed;
+  };
 }

@@ -9,7 +9,8 @@ use Rattle.esc_base.specs.declared.tick.Tick.{Tick}
 use Rattle.fourway_packet.specs.declared.packet.Packet.{Packet}
 use Rattle.fourway_packet.specs.declared.packets.Received.{Received}
 use Rattle.fourway_packet.specs.Command.{count_of}
-use Rattle.fourway_packet.specs.Cut.{len_of, is_complete, packet_of, packet_or_none, bytes_of, is_late, in_time, begins, run_of, packets_at, passed, cut_behind, cut, is_open, unfinished_behind, unfinished, with_byte, grown_of}
+use Rattle.fourway_packet.specs.Cut.{len_of, is_complete, packet_of, bytes_of, is_late, in_time, begins, run_of, packets_at, passed, cut_behind, cut, is_open, unfinished_behind, unfinished}
+use Rattle.fourway_packet.specs.Part.{packet_or_none, with_byte, grown_of}
 use Rattle.fourway_packet.specs.Queue.{newest_of, Queue, HasTaken}
 use Rattle.fourway_packet.proofs.Cutting.{front_packets, front_passed, whole_packets, whole_passed, no_packets, all_passed, le_from, not_le, shorter, shut_whole, shut_late, shut_behind, behind_all, Open, IsOpen, cut-append, unfinished-append, unfinished_open}
 

@@ -1,5 +1,5 @@
 -- How packets are cut from the serial bytes that arrived.
-use Rattle.std.specs.Prelude.{ℕ, zero, suc, ◌+◌, ◌-◌, Bool, not, ◌&&◌, ◌==◌, nat_lt, nat_le, if◌then◌else◌, List, [], ◌∷◌, ◌++◌, map, length, take, drop, slice_index, Option, Some, None}
+use Rattle.std.specs.Prelude.{ℕ, zero, suc, ◌+◌, ◌-◌, Bool, not, ◌&&◌, ◌==◌, nat_lt, nat_le, if◌then◌else◌, List, [], ◌∷◌, ◌++◌, map, length, take, drop, slice_index}
 use Rattle.std.specs.List.{slice_range}
 use Rattle.byteorder.specs.Endian.{big_number}
 use Rattle.esc_base.specs.declared.tick.Tick.{Tick}
@@ -89,18 +89,3 @@ unfinished_behind zero (first ∷ rest) = if is_open first rest then first ∷ r
 -- the bytes of the packet that has begun
 abbrev pub unfinished : List Received → List Received
 unfinished received = unfinished_behind 0 received
-
--- ---- one byte more, behind those of a packet that has begun
-
--- the bytes that the next one doesn't come too late for
-abbrev pub kept_of : List ℕ → Tick → Tick → List ℕ
-kept_of part newest t = if is_late newest t then [] else part
-
-abbrev pub with_byte : List ℕ → ℕ → List ℕ
-with_byte part byte = if (length part == 0) && not (byte == 0x2F) then [] else part ++ byte ∷ []
-
-abbrev pub grown_of : List ℕ → Tick → Received → List ℕ
-grown_of part newest r = with_byte (kept_of part newest r.t) r.byte
-
-abbrev pub packet_or_none : List ℕ → Option Packet
-packet_or_none bytes = if is_complete bytes then Some (packet_of bytes) else None

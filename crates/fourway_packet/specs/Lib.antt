@@ -4,4 +4,5 @@ pub mod Ack
 pub mod Command
 pub mod Answer
 pub mod Cut
+pub mod Part
 pub mod Queue

@@ -1,6 +1,7 @@
 //! The bytes of a packet that isn't complete yet.
 ghost use Rattle.std.specs.Prelude.{◌≡◌, ◌<◌, if◌then◌else◌, [], ◌∷◌, ◌++◌, length};
-ghost use Rattle.fourway_packet.specs.Cut.{is_complete, kept_of, grown_of, packet_or_none};
+ghost use Rattle.fourway_packet.specs.Cut.{is_complete};
+ghost use Rattle.fourway_packet.specs.Part.{kept_of, grown_of, packet_or_none};
 
 use crate::packet::packet_in;
 use crate::{Packet, Received};

@@ -49,7 +49,7 @@ abbrev pub is_write : Chop → Bool
 is_write (chop.Write leg) = true
 is_write at = false
 
--- what that step leaves: the switch is on if it may, and no other one goes on; or all high ones are off
+-- what that step leaves: the switch is on if it may be; where none is to be on all high ones are off
 abbrev pub HasChopped : Option Leg → Gated → Bank → Bank → Type 0
 HasChopped (Some x) g b b' = high_wait g b x ≡ None → is_on b'.hi x ≡ true
 HasChopped None g b b' = b'.hi ≡ 0

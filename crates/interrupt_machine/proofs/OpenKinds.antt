@@ -1,5 +1,5 @@
 -- The open kinds: the one that enters is above them, and each of them has steps left.
-use Rattle.std.proofs.Common.{◌≡◌, ◌≢◌, ◌<◌, ◌≤◌, ℕ, Bool, true, false, not, ◌&&◌, ◌||◌, ◌==◌, nat_lt, if◌then◌else◌, List, [], ◌∷◌, ◌++◌, Option, Some, None, refl, sym, ◌∙◌, ap, subst, arith, reverse, lit≤, ◌⊎◌, inl, inr, zero, suc, ◌+◌, length, get_or, drop}
+use Rattle.std.proofs.Common.{◌≡◌, ◌≢◌, ◌<◌, ◌≤◌, ℕ, Bool, true, false, not, ◌&&◌, ◌||◌, ◌==◌, nat_lt, if◌then◌else◌, List, [], ◌∷◌, ◌++◌, Option, Some, None, is_none, refl, sym, ◌∙◌, ap, subst, arith, reverse, lit≤, ◌⊎◌, inl, inr, zero, suc, ◌+◌, length, get_or, drop}
 use Rattle.std.specs.List.{find}
 use Rattle.std.proofs.lemmas.Bool.Decides.{nat_tests}
 use Rattle.std.proofs.lemmas.List.{reverse-append}
@@ -12,7 +12,8 @@ use Rattle.timer_regs.specs.Kinds.{has_kind}
 use Rattle.timer_regs.specs.declared.kinds.KindSet.{KindSet}
 use Rattle.interrupt_machine.specs.declared.nest.Nest.{Nest}
 use Rattle.interrupt_machine.specs.declared.nest.Nest.TheVariants.{One, Full}
-use Rattle.interrupt_machine.specs.Open.{innermost, is_open, due_now, due_in, by_priority, highest, may_enter, enters_above, next_entry, IsStack, IsAbove, outer_ones, kind_of}
+use Rattle.interrupt_machine.specs.Open.{innermost, is_open, due_now, due_in, by_priority, highest, may_enter, enters_above, next_entry, is_idle, IsStack, IsAbove, outer_ones, kind_of}
+use Rattle.interrupt_machine.specs.Turn.{IsHeld}
 
 -- the highest kind of two sets that agree
 pub highest_same : (p q : Kind → Bool) → ((k : Kind) → p k ≡ q k) → highest p ≡ highest q
@@ -164,3 +165,14 @@ live_popped before after k (x ∷ outer) stack' i p s live others j o =
 
 pub reverse-push : (kinds : List Kind) (k : Kind) → reverse (kinds ++ k ∷ []) ≡ k ∷ reverse kinds
 reverse-push kinds k = reverse-append kinds (k ∷ [])
+
+-- where a due kind is left to enter, or the mask is held, and none enters, some handler is open
+chosen : (nest : Nest) (h : Option Kind) → is_none h ≡ false → enters_above nest None h ≡ None → ⊥
+chosen nest None some none = let z : true ≡ false = some in cc
+chosen nest (Some k) some none = let z : Some k ≡ None = none in cc
+
+pub some_open : (nest : Nest) (masked : Bool) (hold : ℕ) (stack : List Kind) (due : Kind → Bool) → is_idle stack due ≡ false → (masked ≡ true → IsHeld hold stack)
+    → None ≡ (if masked then None else next_entry nest stack due) → stack ≡ [] → ⊥
+some_open nest true hold stack due busy held none e = (held refl).0 e
+some_open nest false hold [] due busy held none e = chosen nest (highest due) busy (sym none)
+some_open nest false hold (k ∷ outer) due busy held none e = let z : (k ∷ outer) ≡ [] = e in cc

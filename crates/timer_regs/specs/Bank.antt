@@ -28,5 +28,7 @@ pub record Bank : Type 0 where
   pub taken : Bool
   -- the tick for which the window timer is armed
   pub timer : Option ℕ
+  -- the newest change of the signal line
+  pub changed : Option ℕ
   -- the control tick number that was last read
   pub number_read : ℕ

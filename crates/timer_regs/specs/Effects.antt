@@ -1,6 +1,6 @@
 -- What reads, writes, time, entries and outside events do to the registers. A register that isn't named in a list isn't
 -- effective there, so one that becomes effective is a field of the bank and a line of each list that it changes.
-use Rattle.std.specs.Prelude.{◌≡◌, ℕ, ◌+◌, ◌-◌, ◌/◌, ◌%◌, ◌<◌, ◌≤◌, ◌^◌, bit_and, bit_or, Bool, false, not, ◌&&◌, ◌||◌, ◌==◌, if◌then◌else◌, nat_lt, nat_le, length, Option, Some, None}
+use Rattle.std.specs.Prelude.{◌≡◌, ℕ, ◌+◌, ◌-◌, ◌/◌, ◌%◌, ◌<◌, ◌≤◌, ◌^◌, bit_and, bit_or, Bool, false, not, ◌&&◌, ◌||◌, ◌==◌, if◌then◌else◌, nat_lt, nat_le, max, length, Option, Some, None}
 use Rattle.esc_base.specs.declared.kind.Kind.{Kind}
 use Rattle.esc_base.specs.declared.kind.Kind.TheVariants as kind
 use Rattle.esc_base.specs.declared.signal.Edge.{Edge}
@@ -11,11 +11,12 @@ use Rattle.edge_capture.specs.Edges.{edge_at}
 use Rattle.edge_capture.specs.Window.{unarmed, opened_in, after_edge, window_closed}
 use Rattle.timer_regs.specs.declared.regs.Reg.{Reg}
 use Rattle.timer_regs.specs.declared.regs.Reg.TheVariants.{GhSet, GlSet, GhClr, GlClr, Mask, Duty, PwmPos, Sector, CommAt, DriveOff, Stuck, CmpEn, CapState, CapEdge, CapArm, CapAt, Reply, TickState, Txd, TxOn}
+use Rattle.timer_regs.specs.Rest.{rests_from, put_off}
 use Rattle.timer_regs.specs.Bank.{Bank}
 use Rattle.timer_regs.specs.Pwm.{has_edge}
 
 abbrev pub reset : Bank
-reset = record { time = 0; accesses = 0; masked = false; hi = 0; lo = 0; duty = 0; flag = false; sector = 0; comm = None; stuck = false; level = false; window = unarmed; taken = false; timer = None; number_read = 0 }
+reset = record { time = 0; accesses = 0; masked = false; hi = 0; lo = 0; duty = 0; flag = false; sector = 0; comm = None; stuck = false; level = false; window = unarmed; taken = false; timer = None; changed = None; number_read = 0 }
 
 -- a closed window's edges are there to be read
 abbrev pub is_readable : Bank → Bool
@@ -66,7 +67,7 @@ after_read b r = counted b
 abbrev pub written : Bank → Reg → ℕ → Bank
 written b Mask v = record b { accesses = b.accesses + 1; masked = v == 1 }
 written b CapArm v = record b { accesses = b.accesses + 1; window = opened_in (mode_of v) b.time; taken = false }
-written b CapAt v = record b { accesses = b.accesses + 1; timer = Some v }
+written b CapAt v = record b { accesses = b.accesses + 1; timer = Some (max v (rests_from b.changed)) }
 written b GhSet v = record b { accesses = b.accesses + 1; hi = bit_or b.hi v }
 written b GlSet v = record b { accesses = b.accesses + 1; lo = bit_or b.lo v }
 written b GhClr v = record b { accesses = b.accesses + 1; hi = without b.hi v }
@@ -109,11 +110,12 @@ IsSmall r v = v ≡ 0
 abbrev pub advanced : Bank → ℕ → Bank
 advanced b to = record b { time = to; flag = b.flag || has_edge b.duty b.time to }
 
--- the signal line has a level: where it is another one, the window is handed that edge
+-- the signal line has a level: where it is another one, the window is handed that edge, and an armed timer that isn't
+-- reached waits until the line has rested
 abbrev pub after_line : Bank → Bool → Bank
 after_line b level =
     if differ b.level level
-    then record b { level = level; window = after_edge b.window (record { t = record { 0 = b.time }; level = level }) }
+    then record b { level = level; window = after_edge b.window (record { t = record { 0 = b.time }; level = level }); timer = put_off b.timer b.time; changed = Some b.time }
     else b
 
 -- which kinds are due; MAIN is the firmware's matter

@@ -1,4 +1,5 @@
 pub mod Kinds
+pub mod Rest
 pub mod Bank
 pub mod Pwm
 pub mod Effects

@@ -1,8 +1,10 @@
 -- What is true of the registers at all times.
-use Rattle.std.specs.Prelude.{◌≡◌, ℕ, ◌/◌, ◌<◌, ◌≤◌, ◌^◌, Option}
+use Rattle.std.specs.Prelude.{◌≡◌, ℕ, ◌+◌, ◌/◌, ◌<◌, ◌≤◌, ◌^◌, Option}
+use Rattle.esc_base.specs.Times.{rest}
 use Rattle.edge_capture.specs.Edges.{last_at}
 use Rattle.timer_regs.specs.Bank.{Bank}
 use Rattle.timer_regs.specs.Pwm.{edge_after}
+use Rattle.timer_regs.specs.Rest.{rests_from}
 
 pub record IsSound (b : Bank) : Type 0 where
   pub small : b.time < 2 ^ 31
@@ -12,6 +14,8 @@ pub record IsSound (b : Bank) : Type 0 where
   pub sector : b.sector ≤ 6
   -- no later control tick was read
   pub read : b.number_read ≤ b.time / 2400
+  -- no later change of the line stands
+  pub changed : rests_from b.changed ≤ b.time + rest
   -- no later edge was heard
   pub last : last_at b.window.edges ≤ b.time
 

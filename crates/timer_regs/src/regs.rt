@@ -1,10 +1,11 @@
-ghost use Rattle.std.specs.Prelude.{◌≡◌, ◌+◌, ◌<◌, ◌≤◌, ◌^◌, bit_or, ℕ, true};
+ghost use Rattle.std.specs.Prelude.{◌≡◌, ◌+◌, ◌<◌, ◌≤◌, ◌^◌, bit_or, ℕ, max, true};
 ghost use Rattle.esc_base.specs.declared.kind.Kind.{Kind};
 ghost use Rattle.esc_base.specs.declared.kind.Kind.TheVariants as kinds;
 ghost use Rattle.esc_base.specs.Numbers.{mode_of};
 ghost use Rattle.esc_base.specs.Times.{is_reached as reached};
 ghost use Rattle.timer_regs.specs.Kinds.{has_kind};
 ghost use Rattle.timer_regs.specs.Sound.{IsSound};
+ghost use Rattle.timer_regs.specs.Rest.{rests_from, put_off as put_off_at};
 ghost use Rattle.timer_regs.specs.Pwm.{edge_after};
 ghost use Rattle.timer_regs.specs.Effects.{reset, counted, read_value, IsSmall, after_read, IsRange, written, advanced, after_line, is_due, after_entry, edges_read, edge_read, shown_edge, number_at, tick_state as tick_state_of, without as word_without};
 ghost use Rattle.timer_regs.specs.NextDue.{tick_of, sooner as sooner_of, IsFirstDue, IsNextDue};
@@ -13,6 +14,9 @@ use crate::KindSet;
 use edge_capture::{Capture, Edge};
 use esc_base::{Arrived, GateWord, Kind, Mode, Tick};
 use std::marker::Model;
+
+// For so long the line rests before the window timer is reached: longer than any gap between two edges of a good frame.
+const REST: u64 = 200;
 
 /// A register. Times in registers are ticks of 48 MHz; a word of switches has bit 0 for leg A, bit 1 for
 /// leg B and bit 2 for leg C.
@@ -56,7 +60,7 @@ pub enum Reg {
     CapEdge(u8),
     /// Opens a window at now, in the mode with the number that is written, 0 to 5.
     CapArm,
-    /// Arms the window timer for that tick.
+    /// Arms the window timer for that tick, or for the end of the line's rest of 200 ticks, if that is later.
     CapAt,
     /// The end tick of the last reply; a write loads 21 line bits.
     Reply,
@@ -95,6 +99,8 @@ pub struct Regs {
     window: Capture,
     taken: bool,
     timer: Option<Tick>,
+    // the newest change of the signal line
+    changed: Option<Tick>,
     number_read: u32,
 }
 
@@ -105,9 +111,9 @@ impl Model for Regs {
 
     ghost Value = { Bank };
 
-    ghost view = { λ r. record { time = r.time.0; accesses = r.accesses; masked = r.masked; hi = r.gates.hi; lo = r.gates.lo; duty = r.duty; flag = r.flag; sector = r.sector; comm = tick_of r.comm; stuck = r.stuck; level = r.level; window = r.window; taken = r.taken; timer = tick_of r.timer; number_read = r.number_read } };
+    ghost view = { λ r. record { time = r.time.0; accesses = r.accesses; masked = r.masked; hi = r.gates.hi; lo = r.gates.lo; duty = r.duty; flag = r.flag; sector = r.sector; comm = tick_of r.comm; stuck = r.stuck; level = r.level; window = r.window; taken = r.taken; timer = tick_of r.timer; changed = tick_of r.changed; number_read = r.number_read } };
 
-    ghost invariant = { λ r. IsKept (record { time = r.time.0; accesses = r.accesses; masked = r.masked; hi = r.gates.hi; lo = r.gates.lo; duty = r.duty; flag = r.flag; sector = r.sector; comm = tick_of r.comm; stuck = r.stuck; level = r.level; window = r.window; taken = r.taken; timer = tick_of r.timer; number_read = r.number_read }) (tick_of r.pwm_edge) };
+    ghost invariant = { λ r. IsKept (record { time = r.time.0; accesses = r.accesses; masked = r.masked; hi = r.gates.hi; lo = r.gates.lo; duty = r.duty; flag = r.flag; sector = r.sector; comm = tick_of r.comm; stuck = r.stuck; level = r.level; window = r.window; taken = r.taken; timer = tick_of r.timer; changed = tick_of r.changed; number_read = r.number_read }) (tick_of r.pwm_edge) };
 }
 
 impl Regs {
@@ -130,6 +136,7 @@ impl Regs {
             window: Capture::new(),
             taken: false,
             timer: None,
+            changed: None,
             number_read: 0,
         }
     }
@@ -215,7 +222,7 @@ impl Regs {
                 self.window.arm(mode_numbered(v), self.time);
                 self.taken = false;
             }
-            Reg::CapAt => self.timer = Some(Tick(v as u64)),
+            Reg::CapAt => self.timer = Some(later(Tick(v as u64), resting_from(self.changed))),
             _ => {}
         }
     }
@@ -272,13 +279,16 @@ impl Regs {
         }
     }
 
-    /// The signal line has a level from now on. An equal level again has no effect.
+    /// The signal line has a level from now on. An equal level again has no effect. A change puts off the
+    /// window timer, where it is armed and not reached, until the line has rested for 200 ticks.
     pub fn edge(&mut self, level: bool)
         ensures { self.new ≡ after_line self.old level }
     {
         if level != self.level {
             self.level = level;
             self.window.edge(self.time, level);
+            self.timer = put_off(self.timer, self.time);
+            self.changed = Some(self.time);
         }
     }
 
@@ -461,6 +471,34 @@ fn is_reached(timer: Option<Tick>, now: Tick) -> bool
     match timer {
         Some(at) => at.0 <= now.0,
         None => false,
+    }
+}
+
+fn later(a: Tick, b: Tick) -> Tick
+    ensures { result.0 ≡ max a.0 b.0 }
+{
+    if a.0 < b.0 { b } else { a }
+}
+
+// The tick from which on the line has rested since its newest change.
+fn resting_from(changed: Option<Tick>) -> Tick
+    requires { rests_from (tick_of changed) < 2 ^ 32 }
+    ensures { result.0 ≡ rests_from (tick_of changed) }
+{
+    match changed {
+        Some(at) => Tick(at.0 + REST),
+        None => Tick(0),
+    }
+}
+
+// What a change of the line at `now` leaves of the window timer. What was reached stays reached.
+fn put_off(timer: Option<Tick>, now: Tick) -> Option<Tick>
+    requires { now.0 < 2 ^ 31 }
+    ensures { tick_of result ≡ put_off_at (tick_of timer) now.0 }
+{
+    match timer {
+        Some(at) if now.0 < at.0 => Some(later(at, Tick(now.0 + REST))),
+        other => other,
     }
 }
 

@@ -38,6 +38,21 @@ fn window_is_captured(rt: HostRuntime) {
 }
 
 #[test]
+fn window_timer_waits_for_rest(rt: HostRuntime) {
+    let mut regs = Regs::new();
+    regs.advance(Tick(500));
+    regs.edge(true);
+    regs.write(Reg::CapAt, 600);
+    assert_eq!(rt; regs.next_due(), Some(Tick(700)));
+    regs.advance(Tick(699));
+    regs.edge(false);
+    assert_eq!(rt; regs.next_due(), Some(Tick(899)));
+    regs.advance(Tick(899));
+    regs.edge(true);
+    assert!(rt; regs.due().has(Kind::Cap));
+}
+
+#[test]
 fn window_timer_and_mask(rt: HostRuntime) {
     let mut regs = Regs::new();
     regs.write(Reg::CapAt, 600);

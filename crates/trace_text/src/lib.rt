@@ -18,6 +18,7 @@ mod tests;
 mod write;
 
 pub use event_line::event_text;
+pub use field::number_in;
 pub use item::{Item, Place, Refusal};
 pub use laws::one_journal;
 pub use note_back::note_read;
