@@ -2,6 +2,7 @@
 #![tactic(auto)]
 
 mod options;
+mod pipe;
 mod run;
 mod show;
 mod status;
@@ -14,8 +15,10 @@ mod words_tests;
 
 use esc_base::{FileFlash, InSource, OutSink, Sink, Source};
 pub use options::{Command, Options};
+use pipe::PipeEnd;
 pub use run::sim_main;
 pub use status::{Status, status_text};
+use std::cell::Cell;
 use std::process::ExitCode;
 use std::{env, io};
 use usage::usage_text;
@@ -49,18 +52,27 @@ fn command<S: Source, K: Sink>(rt: &HostRuntime, src: &mut S, out: &mut K) -> St
     sim_main(&words, src, out, &mut flash)
 }
 
+/// Says on standard error how the run ended, and after `Usage` how the program is used.
+fn tell(rt: &HostRuntime, status: &Status) {
+    let _ = rt.eprint(status_text(status).as_str());
+    if *status == Status::Usage
+        && let Ok(usage) = usage_text(rt.alloc())
+    {
+        let _ = rt.eprint(usage.as_str());
+    }
+}
+
 fn main(rt: HostRuntime) -> ExitCode {
+    let is_gone = Cell::new(false);
     let mut src = InSource::new(&rt);
-    let mut out = OutSink::new(io::writer(&rt));
+    let mut out = OutSink::new(PipeEnd::new(io::writer(&rt), &is_gone));
     let mut status = command(&rt, &mut src, &mut out);
     if out.flush().is_err() {
         status = Status::WriteFault;
     }
-    let _ = rt.eprint(status_text(&status).as_str());
-    if status == Status::Usage
-        && let Ok(usage) = usage_text(rt.alloc())
-    {
-        let _ = rt.eprint(usage.as_str());
+    // Where the reader has gone there is nothing to complain about; the exit status tells it all the same.
+    if status != Status::WriteFault || !is_gone.get() {
+        tell(&rt, &status);
     }
     ExitCode::from(status.exit_number())
 }

@@ -254,13 +254,13 @@ fn push_frame(trace: &mut String, at: u64, word: u16) -> Result<(), Fail>
 const ZERO: u16 = 0x0000;
 
 /// Command 8: direction 1.
-const DIRECTION: u16 = 0x0101;
+pub(crate) const DIRECTION: u16 = 0x0101;
 
 /// Command 10: 3D on.
 const THREE_D: u16 = 0x0145;
 
 /// Command 12: a save.
-const SAVE: u16 = 0x0189;
+pub(crate) const SAVE: u16 = 0x0189;
 
 /// Command 13: extended telemetry on.
 const EXTENDED: u16 = 0x01AB;
@@ -270,7 +270,7 @@ const SPIN: u16 = 0x02A8;
 
 /// A trace in which control arms at tick 12000004. Six frames of one word end near 12015760, and after a frame of value 0
 /// six of another near 12032560.
-fn two_commands(alloc: Global, first: u16, second: u16) -> Result<String, Fail> {
+pub(crate) fn two_commands(alloc: Global, first: u16, second: u16) -> Result<String, Fail> {
     let mut trace = String::new(alloc);
     push_frames(&mut trace, 100, ZERO, 31)?;
     trace.push_str("80000 J 11920000\n")?;

@@ -1,10 +1,14 @@
 //! What words ask for, and what `show` writes.
+use crate::pipe::PipeEnd;
+use crate::tests::{DIRECTION, SAVE, two_commands};
 use crate::usage::usage_text;
 use crate::{Status, Words, sim_main};
 use esc_base::{FileFlash, FlashDev, FlashOp, MemFlash, MemSink, MemSource};
 use settings_block::default_block;
 use std::alloc::Global;
+use std::cell::Cell;
 use std::fs;
+use std::io::{self, Write};
 use std::test::Fail;
 
 /// How the command of these words ends, which stand between spaces, with an empty trace, and what it writes.
@@ -14,12 +18,23 @@ fn commanded<F: FlashDev>(
     puts: &[u64],
     flash: &mut F,
 ) -> Result<(Status, String), Fail> {
+    commanded_on(alloc, texts, "0 END\n", puts, flash)
+}
+
+/// The same with a trace.
+fn commanded_on<F: FlashDev>(
+    alloc: Global,
+    texts: &str,
+    trace: &str,
+    puts: &[u64],
+    flash: &mut F,
+) -> Result<(Status, String), Fail> {
     let mut words = Words::new(alloc);
     for text in texts.split_whitespace() {
         words.push(text)?;
     }
-    let mut src = MemSource::new(alloc, b"0 END\n", 7, &[])?;
-    let mut out = MemSink::new(alloc, 4096, puts)?;
+    let mut src = MemSource::new(alloc, trace.as_bytes(), 7, &[])?;
+    let mut out = MemSink::new(alloc, 16384, puts)?;
     let status = sim_main(&words, &mut src, &mut out, flash);
     Ok((status, String::from_utf8_lossy(alloc, out.given())?))
 }
@@ -131,6 +146,52 @@ fn an_image_is_a_whole_file(rt: HostRuntime) -> Result<(), Fail> {
     fs::remove_file(&rt, "words.img")?;
     fs::remove_file(&rt, "words_short.img")?;
     Ok(())
+}
+
+#[test]
+fn a_save_reaches_the_image_and_the_next_command(rt: HostRuntime) -> Result<(), Fail> {
+    let mut cells = Vec::new(rt.alloc());
+    for _ in 0..32768 {
+        cells.push(255u8)?;
+    }
+    fs::write(&rt, "words_saved.img", cells.as_slice())?;
+    let trace = two_commands(rt.alloc(), DIRECTION, SAVE)?;
+    let mut flash = FileFlash::new(&rt, rt.alloc())?;
+    let words = "run --flash words_saved.img";
+    let (status, journal) = commanded_on(rt.alloc(), words, trace.as_str(), &[], &mut flash)?;
+    assert_eq!(rt; status, Status::Done);
+    assert!(rt; journal.as_str().starts_with("U 0 1\n"));
+    let mut flash = FileFlash::new(&rt, rt.alloc())?;
+    let words = "show --flash words_saved.img";
+    let (status, shown) = commanded(rt.alloc(), words, &[], &mut flash)?;
+    assert_eq!(rt; status, Status::Done);
+    assert!(rt; shown.as_str().starts_with("block ok\ndirection 1\n"));
+    fs::remove_file(&rt, "words_saved.img")?;
+    Ok(())
+}
+
+/// A writer whose reader has gone.
+#[derive(Drop)]
+struct Closed;
+
+impl Write for Closed {
+    fn write(&mut self, _buf: &[u8]) -> io::Result<usize> {
+        Err(io::Error::from(io::ErrorKind::BrokenPipe))
+    }
+
+    fn flush(&mut self) -> io::Result<()> {
+        Ok(())
+    }
+}
+
+#[test]
+fn a_reader_that_has_gone_is_noted(rt: HostRuntime) {
+    let is_gone = Cell::new(false);
+    let mut end = PipeEnd::new(Closed, &is_gone);
+    assert!(rt; end.flush().is_ok());
+    assert!(rt; !is_gone.get());
+    assert!(rt; end.write(b"U 0 1\n").is_err());
+    assert!(rt; is_gone.get());
 }
 
 #[test]
