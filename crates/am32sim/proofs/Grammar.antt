@@ -43,13 +43,16 @@ pub one_word : (c : Command) (g : Given) (words rest : List (List ℕ)) (word na
     → words ≡ word ∷ rest → has_value word ≡ true → name ≡ before_first is_equals word → value ≡ after_first is_equals word
     → r ≡ Some o → option_map given_of r ≡ with_option options c name value g → after ≡ given_by c (given_of o) None rest → after ≡ given_by c g None words
 one_word c g words rest word name value r o after is has n v e f last =
-    last ∙ sym (ap (given_by c g None) is ∙ behind_one c g (given_of o) word rest has (ap (λ (x : List ℕ). with_option options c x (after_first is_equals word) g) (sym n) ∙ ap (λ (x : List ℕ). with_option options c name x g) (sym v) ∙ some_of r o (with_option options c name value g) e f))
+    last ∙ sym (ap (given_by c g None) is ∙ behind_one c g (given_of o) word rest has
+    (ap (λ (x : List ℕ). with_option options c x (after_first is_equals word) g) (sym n) ∙ ap (λ (x : List ℕ). with_option options c name x g) (sym v)
+    ∙ some_of r o (with_option options c name value g) e f))
 
 pub one_word_wrong : (c : Command) (g : Given) (words rest : List (List ℕ)) (word name value : List ℕ) (r : Option Options) → words ≡ word ∷ rest
     → has_value word ≡ true → name ≡ before_first is_equals word → value ≡ after_first is_equals word
     → r ≡ None → option_map given_of r ≡ with_option options c name value g → None ≡ given_by c g None words
 one_word_wrong c g words rest word name value r is has n v e f =
-    sym (ap (given_by c g None) is ∙ wrong_one c g word rest has (ap (λ (x : List ℕ). with_option options c x (after_first is_equals word) g) (sym n) ∙ ap (λ (x : List ℕ). with_option options c name x g) (sym v) ∙ none_of r (with_option options c name value g) e f))
+    sym (ap (given_by c g None) is ∙ wrong_one c g word rest has (ap (λ (x : List ℕ). with_option options c x (after_first is_equals word) g) (sym n)
+    ∙ ap (λ (x : List ℕ). with_option options c name x g) (sym v) ∙ none_of r (with_option options c name value g) e f))
 
 pub name_alone : (c : Command) (g : Given) (words rest : List (List ℕ)) (word : List ℕ) → words ≡ word ∷ rest → has_value word ≡ false → rest ≡ []
     → None ≡ given_by c g None words
@@ -59,13 +62,15 @@ pub two_words : (c : Command) (g : Given) (words more rest : List (List ℕ)) (w
     → words ≡ word ∷ more → has_value word ≡ false → more ≡ value ∷ rest
     → r ≡ Some o → option_map given_of r ≡ with_option options c word value g → after ≡ given_by c (given_of o) None rest → after ≡ given_by c g None words
 two_words c g words more rest word value r o after is has next e f last =
-    last ∙ sym (ap (given_by c g None) (is ∙ ap (λ (x : List (List ℕ)). word ∷ x) next) ∙ behind_two c g (given_of o) word value rest has (some_of r o (with_option options c word value g) e f))
+    last ∙ sym (ap (given_by c g None) (is ∙ ap (λ (x : List (List ℕ)). word ∷ x) next)
+    ∙ behind_two c g (given_of o) word value rest has (some_of r o (with_option options c word value g) e f))
 
 pub two_words_wrong : (c : Command) (g : Given) (words more rest : List (List ℕ)) (word value : List ℕ) (r : Option Options) → words ≡ word ∷ more
     → has_value word ≡ false → more ≡ value ∷ rest
     → r ≡ None → option_map given_of r ≡ with_option options c word value g → None ≡ given_by c g None words
 two_words_wrong c g words more rest word value r is has next e f =
-    sym (ap (given_by c g None) (is ∙ ap (λ (x : List (List ℕ)). word ∷ x) next) ∙ wrong_two c g word value rest has (none_of r (with_option options c word value g) e f))
+    sym (ap (given_by c g None) (is ∙ ap (λ (x : List (List ℕ)). word ∷ x) next)
+    ∙ wrong_two c g word value rest has (none_of r (with_option options c word value g) e f))
 
 -- ---- the whole command line
 

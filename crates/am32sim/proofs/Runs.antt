@@ -53,7 +53,8 @@ journal-append loaded steps log = ap (λ (ns : List Note). opening loaded ++ ns)
 given_more : (first before after : Option (List ℕ)) (notes more : List Note) → before ≡ append_known first (Text notes)
     → after ≡ append_known before (Text more) → after ≡ append_known first (Text (notes ++ more))
 given_more first before after notes more e f =
-    f ∙ ap (λ (o : Option (List ℕ)). append_known o (Text more)) e ∙ sym (append_known-twice first (Text notes) (Text more)) ∙ ap (append_known first) (sym (flat_map-append note_bytes notes more))
+    f ∙ ap (λ (o : Option (List ℕ)). append_known o (Text more)) e ∙ sym (append_known-twice first (Text notes) (Text more))
+    ∙ ap (append_known first) (sym (flat_map-append note_bytes notes more))
 
 -- ---- the run so far
 
@@ -82,8 +83,10 @@ left_as_run cfg o now nest cost until trace notes e f l = rw (← e, ← f) l
 all_later : (until : ℕ) (notes : List Note) (e : Event) (held : List Event) → All (λ n. time_of n < until) notes → until ≡ tick_of e
     → All (λ x. until ≤ tick_of x) held → All (λ x. All (λ n. time_of n < tick_of x) notes) (e ∷ held)
 all_later until notes e held below at later =
-    let before : (x : Event) → until ≤ tick_of x → All (λ n. time_of n < tick_of x) notes = λ x le. All-weaker (λ n. time_of n < until) (λ n. time_of n < tick_of x) (λ n lt. omega arith) notes below in
-    All-cons (λ x. All (λ n. time_of n < tick_of x) notes) e held (before e (omega arith)) (All-weaker (λ x. until ≤ tick_of x) (λ x. All (λ n. time_of n < tick_of x) notes) before held later)
+    let before : (x : Event) → until ≤ tick_of x → All (λ n. time_of n < tick_of x) notes = λ x le. All-weaker (λ n. time_of n < until)
+    (λ n. time_of n < tick_of x) (λ n lt. omega arith) notes below in
+    All-cons (λ x. All (λ n. time_of n < tick_of x) notes) e held (before e (omega arith))
+    (All-weaker (λ x. until ≤ tick_of x) (λ x. All (λ n. time_of n < tick_of x) notes) before held later)
 
 module _ {K : Type 0} (given : K → Option (List ℕ)) (took broke : K → List ℕ → K → Type 0) (cfg : RunConfig) (o : Outset) (now now' : Told) where
   pub so_far_none : (r r' : Runner) (l : Lines) (left : Option (List ℕ)) (a b : K) → StandsFor r o now [] []
@@ -108,7 +111,8 @@ module _ {K : Type 0} (given : K → Option (List ℕ)) (took broke : K → List
       → SoFar cfg o now r l left_first left given_first (given a)
       → newest r' ≡ tick_of e → nest_of r' ≡ nest_of r → cost_of r' ≡ cost_of r → place l' ≡ after_event (place l) e
       → ((first : Option (List ℕ)) (events : List Event) → HasRead l first left events → HasRead l' first left' (events ++ e ∷ []))
-      → ((trace : List Event) (steps : List Turned) → StandsFor r' o now' trace steps → Legal o.loaded (nest_of r') (cost_of r') trace (newest r') (journal o.loaded steps))
+      → ((trace : List Event) (steps : List Turned) → StandsFor r' o now' trace steps
+      → Legal o.loaded (nest_of r') (cost_of r') trace (newest r') (journal o.loaded steps))
       → ((trace : List Event) (steps : List Turned) → StandsFor r' o now' trace steps → FlashFits o.loaded o.flash now' (journal o.loaded steps))
       → GoesOn given took (StandsFor r o now) (StandsFor r' o now') (e ∷ []) a b → SoFar cfg o now' r' l' left_first left' given_first (given b)
   so_far_event r r' l l' left_first left left' given_first a b e s new nest cost after reads legal flash g =
@@ -117,13 +121,15 @@ module _ {K : Type 0} (given : K → Option (List ℕ)) (took broke : K → List
         trace = s.trace ++ e ∷ [];
         steps = s.steps ++ g.log;
         stands = st;
-        legal = as_run cfg o (nest_of r') (cost_of r') (s.trace ++ e ∷ []) (newest r') (journal o.loaded (s.steps ++ g.log)) (nest ∙ s.nest) (cost ∙ s.cost) (legal (s.trace ++ e ∷ []) (s.steps ++ g.log) st);
+        legal = as_run cfg o (nest_of r') (cost_of r') (s.trace ++ e ∷ []) (newest r') (journal o.loaded (s.steps ++ g.log)) (nest ∙ s.nest)
+            (cost ∙ s.cost) (legal (s.trace ++ e ∷ []) (s.steps ++ g.log) st);
         flash = flash (s.trace ++ e ∷ []) (s.steps ++ g.log) st;
         nest = nest ∙ s.nest;
         cost = cost ∙ s.cost;
         last = last_tick_from-push 0 s.trace e ∙ sym new;
         in_time = new ∙ sym (time-after_event (place l) e) ∙ ap (λ (p : Place). p.time.0) (sym after);
-        given_is = given_more given_first (given a) (given b) (journal o.loaded s.steps) (notes_in g.log) s.given_is g.given_is ∙ ap (λ (ns : List Note). append_known given_first (Text ns)) (sym (journal-append o.loaded s.steps g.log));
+        given_is = given_more given_first (given a) (given b) (journal o.loaded s.steps) (notes_in g.log) s.given_is g.given_is
+            ∙ ap (λ (ns : List Note). append_known given_first (Text ns)) (sym (journal-append o.loaded s.steps g.log));
         read = reads left_first s.trace s.read;
       }
 
@@ -141,7 +147,8 @@ module _ {K : Type 0} (given : K → Option (List ℕ)) (took broke : K → List
       last = g.last;
       left = inl (record { rest = g.rest; is = g.parts ∙ sym (append_assoc g.done (g.last ∷ []) g.rest) });
       flash = rw same (fits_start o.loaded o.flash (g.done ++ g.last ∷ []) (all_front (λ n. is_save n ≡ false) (g.done ++ g.last ∷ []) g.rest
-          (subst (λ (ns : List Note). All (λ n. is_save n ≡ false) ns) (g.parts ∙ sym (append_assoc g.done (g.last ∷ []) g.rest)) (first_unsaved o.loaded.fault))));
+          (subst (λ (ns : List Note). All (λ n. is_save n ≡ false) ns) (g.parts ∙ sym (append_assoc g.done (g.last ∷ []) g.rest))
+          (first_unsaved o.loaded.fault))));
       front = subst (λ (x : Option (List ℕ)). AppendsFront x (note_bytes g.last) (given b)) g.given_is g.appended;
     };
   }
@@ -155,7 +162,8 @@ module _ {K : Type 0} (given : K → Option (List ℕ)) (took broke : K → List
       → IsWriteFault cfg o now' left_first left given_first (given b)
   broken r until left_first left given_first trace later steps a b st nest cost is reads before g =
       let whole : List Note = journal o.loaded steps ++ (g.notes ++ g.last ∷ []) in
-      let l : LeftBelow o now' cfg.nest cfg.cost until trace whole = left_as_run cfg o now' (nest_of r) (cost_of r) until trace whole nest cost (g.left_as trace steps st) in
+      let l : LeftBelow o now' cfg.nest cfg.cost until trace whole = left_as_run cfg o now' (nest_of r) (cost_of r) until trace whole nest cost
+      (g.left_as trace steps st) in
       let f : IsLegalFront cfg o.loaded trace later whole = record { legal = l.legal; before = before whole l.below } in
       record {
         trace = trace;
@@ -167,7 +175,8 @@ module _ {K : Type 0} (given : K → Option (List ℕ)) (took broke : K → List
           left =
               inr (subst (λ (ns : List Note). IsLegalFront cfg o.loaded trace later ns) (sym (append_assoc (journal o.loaded steps) g.notes (g.last ∷ []))) f);
           flash = subst (λ (ns : List Note). FlashFits o.loaded o.flash now' ns) (sym (append_assoc (journal o.loaded steps) g.notes (g.last ∷ []))) l.flash;
-          front = subst (λ (x : Option (List ℕ)). AppendsFront x (note_bytes g.last) (given b)) (given_more given_first (given a) (given g.mid) (journal o.loaded steps) g.notes is g.given_is) g.appended;
+          front = subst (λ (x : Option (List ℕ)). AppendsFront x (note_bytes g.last) (given b))
+              (given_more given_first (given a) (given g.mid) (journal o.loaded steps) g.notes is g.given_is) g.appended;
         };
       }
 
@@ -182,8 +191,10 @@ module _ {K : Type 0} (given : K → Option (List ℕ)) (took broke : K → List
       let held : List Event = events_of (read_from (place l') (unread l'.held)) in
       let time : until ≡ (place l').time.0 = at ∙ sym (time-after_event (place l) e) ∙ ap (λ (p : Place). p.time.0) (sym after) in
       broken r until left_first left' given_first s.trace (e ∷ held) s.steps a b s.stands s.nest s.cost s.given_is
-      (subst (λ (es : List Event). TakenEvents left_first left' es) (append_assoc s.trace (e ∷ []) held) (taken_held l' left_first left' (s.trace ++ e ∷ []) (reads left_first s.trace s.read)))
-      (λ notes below. all_later until notes e held below at (subst (λ (t : ℕ). All (λ x. t ≤ tick_of x) held) (sym time) (events_in_time (place l') (unread l'.held)))) g
+      (subst (λ (es : List Event). TakenEvents left_first left' es) (append_assoc s.trace (e ∷ []) held)
+      (taken_held l' left_first left' (s.trace ++ e ∷ []) (reads left_first s.trace s.read)))
+      (λ notes below. all_later until notes e held below at (subst (λ (t : ℕ). All (λ x. t ≤ tick_of x) held) (sym time)
+      (events_in_time (place l') (unread l'.held)))) g
 
   pub broken_end : (r : Runner) (l : Lines) (until : ℕ) (left_first left left' given_first : Option (List ℕ)) (a b : K)
       → SoFar cfg o now r l left_first left given_first (given a)
@@ -201,13 +212,16 @@ module _ {K : Type 0} (given : K → Option (List ℕ)) (took broke : K → List
       → SoFar cfg o now r l left_first left given_first (given a)
       → ((text : List ℕ) (events : List Event) → HasRead l (Some text) left events → Read text ≡ Trace events t)
       → newest r' ≡ t → nest_of r' ≡ nest_of r → cost_of r' ≡ cost_of r
-      → ((trace : List Event) (steps : List Turned) → StandsFor r' o now' trace steps → Legal o.loaded (nest_of r') (cost_of r') trace (newest r') (journal o.loaded steps))
+      → ((trace : List Event) (steps : List Turned) → StandsFor r' o now' trace steps
+      → Legal o.loaded (nest_of r') (cost_of r') trace (newest r') (journal o.loaded steps))
       → ((trace : List Event) (steps : List Turned) → StandsFor r' o now' trace steps → FlashFits o.loaded o.flash now' (journal o.loaded steps))
       → GoesOn given took (StandsFor r o now) (StandsFor r' o now') [] a b → IsDone cfg o now' left_first given_first (given b)
   done r r' l left_first left given_first a b t s reads new nest cost legal flash g =
-      let st : StandsFor r' o now' s.trace (s.steps ++ g.log) = subst (λ (es : List Event). StandsFor r' o now' es (s.steps ++ g.log)) (append-nil s.trace) (g.stands s.trace s.steps s.stands) in
+      let st : StandsFor r' o now' s.trace (s.steps ++ g.log) = subst (λ (es : List Event). StandsFor r' o now' es (s.steps ++ g.log)) (append-nil s.trace)
+      (g.stands s.trace s.steps s.stands) in
       let at : Legal o.loaded cfg.nest cfg.cost s.trace (newest r') (journal o.loaded (s.steps ++ g.log)) =
-      as_run cfg o (nest_of r') (cost_of r') s.trace (newest r') (journal o.loaded (s.steps ++ g.log)) (nest ∙ s.nest) (cost ∙ s.cost) (legal s.trace (s.steps ++ g.log) st) in
+      as_run cfg o (nest_of r') (cost_of r') s.trace (newest r') (journal o.loaded (s.steps ++ g.log)) (nest ∙ s.nest) (cost ∙ s.cost)
+      (legal s.trace (s.steps ++ g.log) st) in
       record {
         trace = s.trace;
         end = t;
@@ -216,7 +230,8 @@ module _ {K : Type 0} (given : K → Option (List ℕ)) (took broke : K → List
           notes = journal o.loaded (s.steps ++ g.log);
           legal = subst (λ (n : ℕ). Legal o.loaded cfg.nest cfg.cost s.trace n (journal o.loaded (s.steps ++ g.log))) new at;
           flash = flash s.trace (s.steps ++ g.log) st;
-          appended = given_more given_first (given a) (given b) (journal o.loaded s.steps) (notes_in g.log) s.given_is g.given_is ∙ ap (λ (ns : List Note). append_known given_first (Text ns)) (sym (journal-append o.loaded s.steps g.log));
+          appended = given_more given_first (given a) (given b) (journal o.loaded s.steps) (notes_in g.log) s.given_is g.given_is
+              ∙ ap (λ (ns : List Note). append_known given_first (Text ns)) (sym (journal-append o.loaded s.steps g.log));
         };
       }
 
@@ -230,7 +245,8 @@ so_far_wrote cfg o now r l left_first left given_first given s = record {
   appended = s.given_is;
 }
 
-pub refused : (cfg : RunConfig) (o : Outset) (now : Told) (r : Runner) (l : Lines) (left_first left given_first given : Option (List ℕ)) (line : ℕ) (kind : Refusal)
+pub refused : (cfg : RunConfig) (o : Outset) (now : Told) (r : Runner) (l : Lines) (left_first left given_first given : Option (List ℕ)) (line : ℕ)
+    (kind : Refusal)
     → SoFar cfg o now r l left_first left given_first given
     → ((text : List ℕ) (events : List Event) → HasRead l (Some text) left events → Read text ≡ Refused events line kind)
     → IsRefused cfg o now line kind left_first given_first given

@@ -34,7 +34,8 @@ use Rattle.esc_laws.proofs.Start.{first_in_range, logged_start, start_said}
 use Rattle.esc_laws.proofs.Carried.{legal_logged}
 
 no_time : (loaded : Loaded) (nest : Nest) (cost : ℕ) → Legal loaded nest cost [] 0 (opening loaded)
-no_time loaded nest cost = legal_logged loaded nest cost [] 0 _ _ [] [] 0 (omega arith) (All-nil (λ (e : Turned). e.tick < 0)) (first_in_range loaded.fault) (logged_start loaded nest cost)
+no_time loaded nest cost = legal_logged loaded nest cost [] 0 _ _ [] [] 0 (omega arith) (All-nil (λ (e : Turned). e.tick < 0))
+    (first_in_range loaded.fault) (logged_start loaded nest cost)
 
 -- ---- the steps
 
@@ -198,8 +199,10 @@ fits_tick_out loaded nest =
       reached = λ e. reached_tick_out;
       some = λ e. omega arith;
       few = λ e. omega arith;
-      at_tick = All-cons (λ n. time_of n ≡ 2402) (ticks 2402 1 0 0) (leaves 2402 2 ∷ []) refl (All-cons (λ n. time_of n ≡ 2402) (leaves 2402 2) [] refl (All-nil (λ n. time_of n ≡ 2402)));
-      no_entry = λ e. All-cons (λ n. is_entry n ≡ false) (ticks 2402 1 0 0) (leaves 2402 2 ∷ []) refl (All-cons (λ n. is_entry n ≡ false) (leaves 2402 2) [] refl (All-nil (λ n. is_entry n ≡ false)));
+      at_tick = All-cons (λ n. time_of n ≡ 2402) (ticks 2402 1 0 0) (leaves 2402 2 ∷ []) refl
+          (All-cons (λ n. time_of n ≡ 2402) (leaves 2402 2) [] refl (All-nil (λ n. time_of n ≡ 2402)));
+      no_entry = λ e. All-cons (λ n. is_entry n ≡ false) (ticks 2402 1 0 0) (leaves 2402 2 ∷ []) refl
+          (All-cons (λ n. is_entry n ≡ false) (leaves 2402 2) [] refl (All-nil (λ n. is_entry n ≡ false)));
       returns = λ e. (refl, refl);
       patient = λ k. (let none = none_waits_two loaded nest k in omega arith);
     }
@@ -247,8 +250,10 @@ fits_cap_out loaded nest =
       reached = λ e. reached_cap_out;
       some = λ e. omega arith;
       few = λ e. omega arith;
-      at_tick = All-cons (λ n. time_of n ≡ 4202) (nothing 4202) (leaves 4202 3 ∷ []) refl (All-cons (λ n. time_of n ≡ 4202) (leaves 4202 3) [] refl (All-nil (λ n. time_of n ≡ 4202)));
-      no_entry = λ e. All-cons (λ n. is_entry n ≡ false) (nothing 4202) (leaves 4202 3 ∷ []) refl (All-cons (λ n. is_entry n ≡ false) (leaves 4202 3) [] refl (All-nil (λ n. is_entry n ≡ false)));
+      at_tick = All-cons (λ n. time_of n ≡ 4202) (nothing 4202) (leaves 4202 3 ∷ []) refl
+          (All-cons (λ n. time_of n ≡ 4202) (leaves 4202 3) [] refl (All-nil (λ n. time_of n ≡ 4202)));
+      no_entry = λ e. All-cons (λ n. is_entry n ≡ false) (nothing 4202) (leaves 4202 3 ∷ []) refl
+          (All-cons (λ n. is_entry n ≡ false) (leaves 4202 3) [] refl (All-nil (λ n. is_entry n ≡ false)));
       returns = λ e. (refl, refl);
       patient = λ k. (let none = none_waits_four loaded nest k in omega arith);
     }
@@ -280,27 +285,32 @@ unfolding place
 rules_1 loaded nest = (tt, (tt, above_none nest 2))
 
 rules_2 : (loaded : Loaded) (nest : Nest)
-    → WindowRule loaded two_edges (opening loaded ++ (enters 2400 2 ∷ [])) (ticks 2402 1 0 0) × NestRule nest (opening loaded ++ (enters 2400 2 ∷ [])) (ticks 2402 1 0 0)
+    → WindowRule loaded two_edges (opening loaded ++ (enters 2400 2 ∷ [])) (ticks 2402 1 0 0)
+    × NestRule nest (opening loaded ++ (enters 2400 2 ∷ [])) (ticks 2402 1 0 0)
 unfolding place
 rules_2 loaded nest = (tt, refl)
 
 rules_3 : (loaded : Loaded) (nest : Nest)
-    → WindowRule loaded two_edges (opening loaded ++ (enters 2400 2 ∷ ticks 2402 1 0 0 ∷ [])) (leaves 2402 2) × NestRule nest (opening loaded ++ (enters 2400 2 ∷ ticks 2402 1 0 0 ∷ [])) (leaves 2402 2)
+    → WindowRule loaded two_edges (opening loaded ++ (enters 2400 2 ∷ ticks 2402 1 0 0 ∷ [])) (leaves 2402 2)
+    × NestRule nest (opening loaded ++ (enters 2400 2 ∷ ticks 2402 1 0 0 ∷ [])) (leaves 2402 2)
 unfolding place
 rules_3 loaded nest = (λ e. cc, (refl, refl))
 
 rules_4 : (loaded : Loaded) (nest : Nest)
-    → WindowRule loaded two_edges (opening loaded ++ (enters 2400 2 ∷ ticks 2402 1 0 0 ∷ leaves 2402 2 ∷ [])) (enters 4200 3) × NestRule nest (opening loaded ++ (enters 2400 2 ∷ ticks 2402 1 0 0 ∷ leaves 2402 2 ∷ [])) (enters 4200 3)
+    → WindowRule loaded two_edges (opening loaded ++ (enters 2400 2 ∷ ticks 2402 1 0 0 ∷ leaves 2402 2 ∷ [])) (enters 4200 3)
+    × NestRule nest (opening loaded ++ (enters 2400 2 ∷ ticks 2402 1 0 0 ∷ leaves 2402 2 ∷ [])) (enters 4200 3)
 unfolding place
 rules_4 loaded nest = (tt, (tt, above_none nest 3))
 
 rules_5 : (loaded : Loaded) (nest : Nest)
-    → WindowRule loaded two_edges (opening loaded ++ (enters 2400 2 ∷ ticks 2402 1 0 0 ∷ leaves 2402 2 ∷ enters 4200 3 ∷ [])) (nothing 4202) × NestRule nest (opening loaded ++ (enters 2400 2 ∷ ticks 2402 1 0 0 ∷ leaves 2402 2 ∷ enters 4200 3 ∷ [])) (nothing 4202)
+    → WindowRule loaded two_edges (opening loaded ++ (enters 2400 2 ∷ ticks 2402 1 0 0 ∷ leaves 2402 2 ∷ enters 4200 3 ∷ [])) (nothing 4202)
+    × NestRule nest (opening loaded ++ (enters 2400 2 ∷ ticks 2402 1 0 0 ∷ leaves 2402 2 ∷ enters 4200 3 ∷ [])) (nothing 4202)
 unfolding place
 rules_5 loaded nest = (answers loaded, refl)
 
 rules_6 : (loaded : Loaded) (nest : Nest)
-    → WindowRule loaded two_edges (opening loaded ++ (enters 2400 2 ∷ ticks 2402 1 0 0 ∷ leaves 2402 2 ∷ enters 4200 3 ∷ nothing 4202 ∷ [])) (leaves 4202 3) × NestRule nest (opening loaded ++ (enters 2400 2 ∷ ticks 2402 1 0 0 ∷ leaves 2402 2 ∷ enters 4200 3 ∷ nothing 4202 ∷ [])) (leaves 4202 3)
+    → WindowRule loaded two_edges (opening loaded ++ (enters 2400 2 ∷ ticks 2402 1 0 0 ∷ leaves 2402 2 ∷ enters 4200 3 ∷ nothing 4202 ∷ [])) (leaves 4202 3)
+    × NestRule nest (opening loaded ++ (enters 2400 2 ∷ ticks 2402 1 0 0 ∷ leaves 2402 2 ∷ enters 4200 3 ∷ nothing 4202 ∷ [])) (leaves 4202 3)
 unfolding place
 rules_6 loaded nest = (λ e. refl, (refl, inl refl))
 
@@ -310,11 +320,18 @@ one_said loaded nest =
 
 all_said : (loaded : Loaded) (nest : Nest) → Said loaded nest two_edges 4202 tick_and_verdict
 all_said loaded nest =
-    let s2 = said_push loaded nest two_edges 2402 (enters 2400 2 ∷ []) (ticks 2402 1 0 0) (said_at loaded nest 2400 2402 (enters 2400 2 ∷ []) (omega arith) (one_said loaded nest)) refl (rules_2 loaded nest).0 (rules_2 loaded nest).1 in
-    let s3 = said_push loaded nest two_edges 2402 (enters 2400 2 ∷ ticks 2402 1 0 0 ∷ []) (leaves 2402 2) s2 refl (rules_3 loaded nest).0 (rules_3 loaded nest).1 in
-    let s4 = said_push loaded nest two_edges 4200 (enters 2400 2 ∷ ticks 2402 1 0 0 ∷ leaves 2402 2 ∷ []) (enters 4200 3) (said_at loaded nest 2402 4200 (enters 2400 2 ∷ ticks 2402 1 0 0 ∷ leaves 2402 2 ∷ []) (omega arith) s3) refl (rules_4 loaded nest).0 (rules_4 loaded nest).1 in
-    let s5 = said_push loaded nest two_edges 4202 (enters 2400 2 ∷ ticks 2402 1 0 0 ∷ leaves 2402 2 ∷ enters 4200 3 ∷ []) (nothing 4202) (said_at loaded nest 4200 4202 (enters 2400 2 ∷ ticks 2402 1 0 0 ∷ leaves 2402 2 ∷ enters 4200 3 ∷ []) (omega arith) s4) refl (rules_5 loaded nest).0 (rules_5 loaded nest).1 in
-    said_push loaded nest two_edges 4202 (enters 2400 2 ∷ ticks 2402 1 0 0 ∷ leaves 2402 2 ∷ enters 4200 3 ∷ nothing 4202 ∷ []) (leaves 4202 3) s5 refl (rules_6 loaded nest).0 (rules_6 loaded nest).1
+    let s2 = said_push loaded nest two_edges 2402 (enters 2400 2 ∷ []) (ticks 2402 1 0 0)
+    (said_at loaded nest 2400 2402 (enters 2400 2 ∷ []) (omega arith) (one_said loaded nest)) refl (rules_2 loaded nest).0 (rules_2 loaded nest).1 in
+    let s3 = said_push loaded nest two_edges 2402 (enters 2400 2 ∷ ticks 2402 1 0 0 ∷ []) (leaves 2402 2) s2 refl (rules_3 loaded nest).0
+    (rules_3 loaded nest).1 in
+    let s4 = said_push loaded nest two_edges 4200 (enters 2400 2 ∷ ticks 2402 1 0 0 ∷ leaves 2402 2 ∷ []) (enters 4200 3)
+    (said_at loaded nest 2402 4200 (enters 2400 2 ∷ ticks 2402 1 0 0 ∷ leaves 2402 2 ∷ []) (omega arith) s3) refl (rules_4 loaded nest).0
+    (rules_4 loaded nest).1 in
+    let s5 = said_push loaded nest two_edges 4202 (enters 2400 2 ∷ ticks 2402 1 0 0 ∷ leaves 2402 2 ∷ enters 4200 3 ∷ []) (nothing 4202)
+    (said_at loaded nest 4200 4202 (enters 2400 2 ∷ ticks 2402 1 0 0 ∷ leaves 2402 2 ∷ enters 4200 3 ∷ []) (omega arith) s4) refl
+    (rules_5 loaded nest).0 (rules_5 loaded nest).1 in
+    said_push loaded nest two_edges 4202 (enters 2400 2 ∷ ticks 2402 1 0 0 ∷ leaves 2402 2 ∷ enters 4200 3 ∷ nothing 4202 ∷ []) (leaves 4202 3) s5 refl
+    (rules_6 loaded nest).0 (rules_6 loaded nest).1
 
 one_controlled : (loaded : Loaded) → Controlled (opening loaded ++ enters 2400 2 ∷ [])
 one_controlled loaded =
@@ -408,7 +425,9 @@ window_judged loaded nest =
       steps_are = refl;
       fits = (fits_tick_in loaded nest, (fits_tick_out loaded nest, (fits_cap_in loaded nest, (fits_cap_out loaded nest, tt))));
       below = All-cons (λ e. e.tick < 4203) tick_in (tick_out ∷ cap_in ∷ cap_out ∷ []) (omega arith)
-          (All-cons (λ e. e.tick < 4203) tick_out (cap_in ∷ cap_out ∷ []) (omega arith) (All-cons (λ e. e.tick < 4203) cap_in (cap_out ∷ []) (omega arith) (All-cons (λ e. e.tick < 4203) cap_out [] (omega arith) (All-nil (λ e. e.tick < 4203)))));
+          (All-cons (λ e. e.tick < 4203) tick_out (cap_in ∷ cap_out ∷ []) (omega arith)
+          (All-cons (λ e. e.tick < 4203) cap_in (cap_out ∷ []) (omega arith)
+          (All-cons (λ e. e.tick < 4203) cap_out [] (omega arith) (All-nil (λ e. e.tick < 4203)))));
       all_made = record { open_step = λ o. absurd (o (open_four loaded)); idle = λ o t le lt. absurd (omega arith) };
       open_few = λ k o. absurd (let z : is_open [] k ≡ true = subst (λ (st : List Kind). is_open st k ≡ true) (open_four loaded) o in cc);
     }

@@ -132,9 +132,11 @@ pauses x outer f at opens_next g sound e k shut is on = record {
 -- ---- it judges
 
 answers_is : (x : World) (w m : ℕ) → Ground x → IsClosing (cap_seen x) w m → x.core.burst ≡ x.bank.window.edges
-    → Answers x.loaded x.trace w m (so_far x).cap_entered x.bank.time (verdict_note x.bank.time (judged x.core.window x.core.burst x.core.orders.settings.input (servo_of x.core.orders.settings)))
+    → Answers x.loaded x.trace w m (so_far x).cap_entered x.bank.time (verdict_note x.bank.time
+    (judged x.core.window x.core.burst x.core.orders.settings.input (servo_of x.core.orders.settings)))
 answers_is x w m g i e =
-    let allowed : x.core.orders.settings.input ≡ x.loaded.settings.input = ap (λ (s : Settings). s.input) g.orders.settings_are ∙ input_kept x.loaded.settings x.back in
+    let allowed : x.core.orders.settings.input ≡ x.loaded.settings.input = ap (λ (s : Settings). s.input) g.orders.settings_are
+    ∙ input_kept x.loaded.settings x.back in
     let servo : servo_of x.core.orders.settings ≡ servo_of x.loaded.settings = ap servo_of g.orders.settings_are ∙ servo_kept x.loaded.settings x.back in
     record {
       closed_at = i.closed_at;
@@ -301,17 +303,20 @@ steps s cap.Shut x outer g sound e k timer past on left = absurd (omega arith)
 steps s cap.Back x outer g sound e k timer past on left =
     returns x outer g (subst (λ (r : Signal). SignalTied r cap.Back (cap_seen x)) (sym e) k) sound
     (subst (λ (r : Signal). TimerTied r cap.Back (line x.trace).edges x.cap_since x.bank.timer) (sym e) timer) past on
-steps (Listens w m) cap.Start x outer g sound e k timer past on left = if_false x.core.paused kind.Cap outer x _ _ k.hears.running (begins x outer w m g sound e k on)
+steps (Listens w m) cap.Start x outer g sound e k timer past on left = if_false x.core.paused kind.Cap outer x _ _ k.hears.running
+    (begins x outer w m g sound e k on)
 steps (Listens w m) (cap.Copy rest) x outer g sound e k timer past on left =
     copies (takes x.core.burst (next_edge x.core x.bank)) x outer w m rest
     (copy_goes x.trace x.core x.bank (so_far x) w m rest (few x.bank sound) sound g.small k) g sound e k on
 steps (Listens w m) cap.Judge x outer g sound e k timer past on left =
     judges (judged x.core.window x.core.burst x.core.orders.settings.input (servo_of x.core.orders.settings)) x outer w m g sound k.0
     (answered x (so_far x).signal w m x.bank.time _ e (answers_is x w m g k.0 k.1)) on
-steps (Judged f opens_next) cap.Open x outer g sound e k timer past on left = open_window x outer (Judged f opens_next) g e k.1 k.0.no_timer (inl k.0.verdict) on
+steps (Judged f opens_next) cap.Open x outer g sound e k timer past on left = open_window x outer (Judged f opens_next) g e k.1 k.0.no_timer
+    (inl k.0.verdict) on
 steps (Judged f opens_next) (cap.Pause at) x outer g sound e k timer past on left = pauses x outer f at opens_next g sound e k.0 k.1.0 k.1.1 on
 steps (Rests f r) cap.Start x outer g sound e k timer past on left =
-    if_true x.core.paused kind.Cap outer x _ _ k.paused (open_window x outer (Rests f r) g e (record { rested = k.rested; entered_before = k.entered }) k.no_timer (inr (k.no_verdict, k.no_window)) on)
+    if_true x.core.paused kind.Cap outer x _ _ k.paused (open_window x outer (Rests f r) g e
+    (record { rested = k.rested; entered_before = k.entered }) k.no_timer (inr (k.no_verdict, k.no_window)) on)
 steps s at x outer g sound e k timer past on left = absurd k
 
 -- ---- it is called and entered
@@ -342,7 +347,11 @@ plain w e same le t = (
 )
 
 edge : (v : Bool) (w : World) (level : Bool) → differ w.bank.level level ≡ v → Ground w → CapTie w
-    → CapTie (record w { trace = w.trace ++ event.Edge (as_tick w.bank.time) level ∷ []; bank = record w.bank { level = (if v then edge_bank w.bank level else w.bank).level; window = (if v then edge_bank w.bank level else w.bank).window; timer = (if v then edge_bank w.bank level else w.bank).timer; changed = (if v then edge_bank w.bank level else w.bank).changed } })
+    → CapTie (record w {
+      trace = w.trace ++ event.Edge
+          (as_tick w.bank.time) level ∷ [];
+      bank = record w.bank { level = (if v then edge_bank w.bank level else w.bank).level; window = (if v then edge_bank w.bank level else w.bank).window; timer = (if v then edge_bank w.bank level else w.bank).timer; changed = (if v then edge_bank w.bank level else w.bank).changed };
+    })
 edge true w level d g t = (
   signal_follows (so_far w).signal w.core.cap_at (cap_seen w)
       (cap_view (w.trace ++ event.Edge (as_tick w.bank.time) level ∷ []) w.core (edge_bank w.bank level) (so_far w))
@@ -359,7 +368,12 @@ edge false w level d g t =
 outside : (w : World) (e : Event) → tick_of e ≡ w.bank.time → Ground w → CapTie w → CapTie (after_outside w e)
 outside w (event.Edge at level) is g t =
     subst
-    (λ (n : ℕ). CapTie (record w { trace = w.trace ++ event.Edge (as_tick n) level ∷ []; bank = record w.bank { level = (after_line w.bank level).level; window = (after_line w.bank level).window; timer = (after_line w.bank level).timer; changed = (after_line w.bank level).changed } }))
+    (λ (n : ℕ). CapTie
+    (record w {
+      trace = w.trace ++ event.Edge
+          (as_tick n) level ∷ [];
+      bank = record w.bank { level = (after_line w.bank level).level; window = (after_line w.bank level).window; timer = (after_line w.bank level).timer; changed = (after_line w.bank level).changed };
+    }))
     (sym is)
     (edge (differ w.bank.level level) w level refl g t)
 outside w (event.Comp at level) is g t = plain w (event.Comp at level) (line-push w.trace (event.Comp at level)) (omega arith) t

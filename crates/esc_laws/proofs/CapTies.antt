@@ -47,7 +47,8 @@ closing_edges v w m i = rw i.hears.edges (some_edges (length (burst (line v.trac
 
 pub closing_closed : (v : CapView) (w m : ℕ) → IsClosing v w m → window_closed v.window v.time ≡ true
 closing_closed v w m i =
-    let c : is_closed (mode_of m) (burst (line v.trace).edges w (mode_of m)) v.time ≡ true = closed_at (mode_of m) (burst (line v.trace).edges w (mode_of m)) i.closed_at v.time i.closes (let a = i.waits in let b = i.entered in omega arith) in
+    let c : is_closed (mode_of m) (burst (line v.trace).edges w (mode_of m)) v.time ≡ true = closed_at (mode_of m)
+    (burst (line v.trace).edges w (mode_of m)) i.closed_at v.time i.closes (let a = i.waits in let b = i.entered in omega arith) in
     rw (i.hears.armed, i.hears.mode, i.hears.edges) c
 
 -- what the registers show then
@@ -92,13 +93,23 @@ begin_copied v w m n i e s =
 
 pub start_tied : (trace : List Event) (c : Brain) (b : Bank) (p : Place) (w m : ℕ) → p.signal ≡ Listens w m → length b.window.edges ≤ 32
     → IsClosing (cap_view trace c b p) w m
-    → TiedAfter trace b p (record { core = record c { burst = []; cap_at = after_edges (read_value b reg.CapState) }; access = Reads reg.CapState; notes = []; over = false })
+    → TiedAfter trace b p (record {
+      core = record c {
+        burst = [];
+        cap_at = after_edges
+            (read_value b reg.CapState);
+      };
+      access = Reads reg.CapState;
+      notes = [];
+      over = false;
+    })
 start_tied trace c b p w m e few i =
     let readable : is_readable b ≡ true = closing_closed (cap_view trace c b p) w m i in
     let n : read_value b reg.CapState ≡ length b.window.edges = shows_edges b readable in
     let some : 1 ≤ length b.window.edges = closing_edges (cap_view trace c b p) w m i in
     rw (e, n, few_edges (length b.window.edges) some few)
-    (begin_copied (cap_view trace (record c { burst = []; cap_at = cap.Copy (length b.window.edges) }) (accessed b (Reads reg.CapState)) p) w m (length b.window.edges)
+    (begin_copied (cap_view trace (record c { burst = []; cap_at = cap.Copy (length b.window.edges) }) (accessed b (Reads reg.CapState)) p) w m
+    (length b.window.edges)
     (record {
       hears = record { armed = i.hears.armed; mode = i.hears.mode; opened = i.hears.opened; edges = i.hears.edges; core_mode = i.hears.core_mode; running = i.hears.running; no_timer = i.hears.no_timer };
       closed_at = i.closed_at;
@@ -129,7 +140,8 @@ copy_takes : (c : Brain) (b : Bank) (i : ℕ) → c.burst ≡ take i b.window.ed
 copy_takes c b i e l few o n =
     let len : length c.burst ≡ i = rw e (length-take-le i b.window.edges (omega arith)) in
     let last : last_at c.burst ≤ (edge_at b.window.edges i).t.0 = rw e (last_of_front b.window.edges i o l) in
-    rw n (and_from (nat_lt (length c.burst) 32) (nat_le (last_at c.burst) (edge_at b.window.edges i).t.0) (lt-ltb (length c.burst) 32 (rw len (omega arith))) (le-leb (last_at c.burst) (edge_at b.window.edges i).t.0 last))
+    rw n (and_from (nat_lt (length c.burst) 32) (nat_le (last_at c.burst) (edge_at b.window.edges i).t.0)
+    (lt-ltb (length c.burst) 32 (rw len (omega arith))) (le-leb (last_at c.burst) (edge_at b.window.edges i).t.0 last))
 
 copied_judge : (v : CapView) (w m : ℕ) → IsClosing v w m → v.copied ≡ take (length v.window.edges) v.window.edges → SignalTied (Listens w m) cap.Judge v
 copied_judge v w m i e = (i, e ∙ take_all (length v.window.edges) v.window.edges (omega arith))
@@ -192,7 +204,8 @@ copy_tied trace c b p w m rest e sound small i =
     let k : IsClosing (cap_view trace c b p) w m = i.closing in
     rw e
     (after_copy_at (nat_le rest 1) rest
-    (cap_view trace (record c { burst = c.burst ++ next_edge c b ∷ []; cap_at = after_copy rest }) (accessed b (Reads (reg.CapEdge (length c.burst)))) p) w m refl
+    (cap_view trace (record c { burst = c.burst ++ next_edge c b ∷ []; cap_at = after_copy rest })
+    (accessed b (Reads (reg.CapEdge (length c.burst)))) p) w m refl
     (record {
       hears = record { armed = k.hears.armed; mode = k.hears.mode; opened = k.hears.opened; edges = k.hears.edges; core_mode = k.hears.core_mode; running = k.hears.running; no_timer = k.hears.no_timer };
       closed_at = k.closed_at;
@@ -204,7 +217,8 @@ copy_tied trace c b p w m rest e sound small i =
       no_verdict = k.no_verdict;
     })
     some within
-    (ap (λ (xs : List Edge). xs ++ next_edge c b ∷ []) copied ∙ ap (λ (x : Edge). take index edges ++ x ∷ []) (copy_reads trace c b p w m rest sound small i) ∙ sym (take_more edges index blank inside)))
+    (ap (λ (xs : List Edge). xs ++ next_edge c b ∷ []) copied ∙ ap (λ (x : Edge). take index edges ++ x ∷ [])
+    (copy_reads trace c b p w m rest sound small i) ∙ sym (take_more edges index blank inside)))
 
 -- it judges
 pub good_tied : (o : Option Act) (frame : Frame) (trace : List Event) (c : Brain) (b : Bank) (p : Place) (w m : ℕ) → IsClosing (cap_view trace c b p) w m
@@ -232,7 +246,8 @@ judged_tied Nothing trace c b p w m i =
 -- it opens a window
 opened_hears : (trace : List Event) (c : Brain) (b : Bank) (p : Place) (m : Mode) → All (λ e. e.t.0 ≤ b.time) (line trace).edges → b.timer ≡ None
     → c.control.mode ≡ m
-    → Hears (cap_view trace (record c { cap_at = cap.Back; window = m; paused = false }) (accessed b (Writes reg.CapArm (mode_number m))) p) b.time (mode_number m)
+    → Hears (cap_view trace (record c { cap_at = cap.Back; window = m; paused = false }) (accessed b (Writes reg.CapArm (mode_number m))) p) b.time
+    (mode_number m)
 opened_hears trace c b p m past none is = record {
   armed = refl;
   mode = refl;
@@ -245,8 +260,14 @@ opened_hears trace c b p m past none is = record {
 
 pub opens_tied : (trace : List Event) (c : Brain) (b : Bank) (p : Place) → All (λ e. e.t.0 ≤ b.time) (line trace).edges → b.timer ≡ None
     → (p.verdicts ≡ 1) ⊎ ((p.verdicts ≡ 0) × (p.windows ≡ 0)) → TiedAfter trace b p (opens c b)
-opens_tied trace c b p past none done =
-    (record { hears = opened_hears trace c b (next p (note.Window (as_tick b.time) (mode_number c.control.mode))) c.control.mode past none refl; untaken = refl }, one_window p done)
+opens_tied trace c b p past none done = (
+  record {
+    hears = opened_hears trace c b (next p (note.Window (as_tick b.time)
+        (mode_number c.control.mode))) c.control.mode past none refl;
+    untaken = refl;
+  },
+  one_window p done,
+)
   where
     one_window : (p : Place) → (p.verdicts ≡ 1) ⊎ ((p.verdicts ≡ 0) × (p.windows ≡ 0)) → (p.verdicts ≡ 1) ⊎ ((p.verdicts ≡ 0) × (p.windows + 1 ≡ 1))
     one_window p (inl v) = inl v

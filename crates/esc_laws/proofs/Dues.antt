@@ -49,7 +49,8 @@ cap_called due (Listens w m) trace c b p since i timer e =
 cap_called due (Judged f opens_next) trace c b p since i timer e = absurd i
 cap_called due (Rests f r) trace c b p since i timer e =
     cap_due_timer due b timer.at timer.armed
-    (let s = timer.soon (max (f + most_pause) r) (omega arith) (omega arith) in let l = leb-true (first_rested (line trace).edges (max (f + most_pause) r)) b.time e in omega arith)
+    (let s = timer.soon (max (f + most_pause) r) (omega arith) (omega arith) in let l = leb-true
+    (first_rested (line trace).edges (max (f + most_pause) r)) b.time e in omega arith)
 
 -- ---- CAP is entered
 
@@ -62,7 +63,12 @@ pub record ClosedBy (m : Mode) (heard : List Edge) (t : ℕ) : Type 0 where
 closed_by : (m : Mode) (heard : List Edge) (t : ℕ) → is_closed m heard t ≡ true → ClosedBy m heard t
 closed_by m heard t e =
     let parts = and_parts (not (length heard == 0)) (nat_le (last_at heard + wait m heard) t) e in
-    record { at = last_at heard + wait m heard; closes = cond-false (length heard == 0) None (Some (last_at heard + wait m heard)) (not-true (length heard == 0) parts.0); past = leb-true (last_at heard + wait m heard) t parts.1 }
+    record {
+      at = last_at heard + wait m heard;
+      closes = cond-false (length heard == 0) None (Some (last_at heard + wait m heard))
+          (not-true (length heard == 0) parts.0);
+      past = leb-true (last_at heard + wait m heard) t parts.1;
+    }
 
 -- the place after an I of CAP
 abbrev pub cap_place : Place → ℕ → Place

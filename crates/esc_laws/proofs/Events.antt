@@ -56,7 +56,13 @@ record SameRegs (b b' : Bank) : Type 0 where
 
 same_regs : (b : Bank) (e : Event) → SameRegs b (after_event b e)
 same_regs b (event.Edge at level) =
-    by_test (differ b.level level) (record b { level = level; window = after_edge b.window (record { t = as_tick b.time; level = level }); timer = put_off b.timer b.time; changed = Some b.time })
+    by_test (differ b.level level) (record b {
+      level = level;
+      window = after_edge b.window
+          (record { t = as_tick b.time; level = level });
+      timer = put_off b.timer b.time;
+      changed = Some b.time;
+    })
     (record { time = refl; masked = refl; high = refl; low = refl })
   where
     by_test : (v : Bool) (b' : Bank) → SameRegs b b' → SameRegs b (if v then b' else b)

@@ -135,7 +135,8 @@ flashes loaded nest cost trace c c' b b' first flash flash' stack stack' log not
         let did' : DeviceDid (kind_asked k c made.answers) made.answers flash flash' = rw (core_asked-goes k c b made.answers goes) at made.flash_is in
         rw (are ∙ own_are k b b' (stepped_by k made.answers c b) did c' i)
         (kind_flash k made.answers loaded first flash flash' c b (journal loaded log) (l.ties kind.Main) l.ground.orders.settings_are
-        (step_made k made.answers loaded nest trace c b (past_own kind.Cap log) (notes_in log) outer (stood loaded nest cost trace b.time c b (k ∷ outer) log l')
+        (step_made k made.answers loaded nest trace c b (past_own kind.Cap log) (notes_in log) outer
+        (stood loaded nest cost trace b.time c b (k ∷ outer) log l')
         l'.cap_past
         (λ j above. l'.keeps.shut j (closed_above (k ∷ outer) j l'.sorted above)) (l'.keeps.live k (self_open k outer))).1
         whole whole' did')

@@ -93,8 +93,11 @@ rule_grows loaded trace e before n le r = r
 windowed_from : (loaded : Loaded) (trace : List Event) (e : Event) (before notes : List Note) → All (λ n. time_of n ≤ tick_of e) notes
     → Each (WindowRule loaded trace) before notes → Each (WindowRule loaded (trace ++ e ∷ [])) before notes
 windowed_from loaded trace e before [] past w = tt
-windowed_from loaded trace e before (n ∷ notes) past w =
-    (rule_grows loaded trace e before n (All-head (λ x. time_of x ≤ tick_of e) n notes past) w.0, windowed_from loaded trace e (before ++ n ∷ []) notes (All-tail (λ x. time_of x ≤ tick_of e) n notes past) w.1)
+windowed_from loaded trace e before (n ∷ notes) past w = (
+  rule_grows loaded trace e before n (All-head (λ x. time_of x ≤ tick_of e) n notes past) w.0,
+  windowed_from loaded trace e (before ++ n ∷ []) notes
+      (All-tail (λ x. time_of x ≤ tick_of e) n notes past) w.1,
+)
 
 pub windowed_grows : (loaded : Loaded) (trace : List Event) (e : Event) (notes : List Note) → All (λ n. time_of n ≤ tick_of e) notes
     → Windowed loaded trace notes → Windowed loaded (trace ++ e ∷ []) notes
@@ -164,7 +167,8 @@ closed_before trace (event.Stall at n) w t m lt = rw (line-push trace (event.Sta
 
 closed_still : (trace : List Event) (e : Event) (w t : ℕ) (m : Mode) → t ≤ tick_of e → is_closed m (burst (line trace).edges w m) t ≡ true
     → is_closed m (burst (line (trace ++ e ∷ [])).edges w m) t ≡ true
-closed_still trace (event.Edge at level) w t m le c = rw (line-push trace (event.Edge at level)) (edge_at_close (differ (line trace).level level) (line trace).edges (record { t = at; level = level }) w t m le c)
+closed_still trace (event.Edge at level) w t m le c = rw (line-push trace (event.Edge at level))
+    (edge_at_close (differ (line trace).level level) (line trace).edges (record { t = at; level = level }) w t m le c)
 closed_still trace (event.Comp at level) w t m le c = rw (line-push trace (event.Comp at level)) c
 closed_still trace (event.Serial at byte) w t m le c = rw (line-push trace (event.Serial at byte)) c
 closed_still trace (event.Stall at n) w t m le c = rw (line-push trace (event.Stall at n)) c

@@ -66,7 +66,8 @@ deaf_all : (m : Mode) (w : ℕ) (heard edges : List Edge) → 1 ≤ length heard
     → fold (hear m w) heard edges ≡ heard
 deaf_all m w heard [] some a = refl
 deaf_all m w heard (e ∷ edges) some a =
-    let shut : is_closed m heard e.t.0 ≡ true = closed_from (length heard) (last_at heard + wait m heard) e.t.0 some (All-head (λ x. last_at heard + wait m heard ≤ x.t.0) e edges a) in
+    let shut : is_closed m heard e.t.0 ≡ true = closed_from (length heard) (last_at heard + wait m heard) e.t.0 some
+    (All-head (λ x. last_at heard + wait m heard ≤ x.t.0) e edges a) in
     rw (deaf m w heard e shut) (deaf_all m w heard edges some (All-tail (λ x. last_at heard + wait m heard ≤ x.t.0) e edges a))
   where
     closed_from : (n l t : ℕ) → 1 ≤ n → l ≤ t → (not (n == 0) && nat_le l t) ≡ true
@@ -90,7 +91,8 @@ alone_heard edges w m first rest a =
     ∙ ap (λ (heard : List Edge). fold (hear m w) heard (first ∷ rest ++ a.later)) before
     ∙ ap (λ (heard : List Edge). fold (hear m w) heard (rest ++ a.later)) begins
     ∙ fold_both m w (first ∷ []) rest a.later
-    ∙ ap (λ (heard : List Edge). fold (hear m w) heard a.later) (heard_on m w (first ∷ []) rest (omega arith) a.begins (let f = a.few in omega arith) a.keeps_on)
+    ∙ ap (λ (heard : List Edge). fold (hear m w) heard a.later) (heard_on m w (first ∷ []) rest (omega arith) a.begins
+    (let f = a.few in omega arith) a.keeps_on)
     ∙ deaf_all m w (first ∷ rest) a.later (omega arith) a.ends
 
 -- ---- the F that answers
@@ -117,4 +119,5 @@ said_of loaded trace before n w m signal f e heard r = absurd f
 
 pub whole_signal_is_heard : WholeSignalIsHeard
 whole_signal_is_heard loaded trace before after said w m first rest windowed e f alone =
-    said_of loaded trace before said w m (first ∷ rest) f e (alone_heard (line trace).edges w (mode_of m) first rest alone) (each_at (WindowRule loaded trace) [] before said after windowed)
+    said_of loaded trace before said w m (first ∷ rest) f e (alone_heard (line trace).edges w (mode_of m) first rest alone)
+    (each_at (WindowRule loaded trace) [] before said after windowed)

@@ -29,7 +29,8 @@ pwm_law = record {
   entered = λ w g t none due. absurd (pwm_never w t due);
   beside = λ w. elim [
     | kind.Pwm ↦ λ ne t. absurd (ne refl)
-    | kind.Comm ↦ λ ne t. (t.0, record { high_off = t.1.high_off; low_off = t.1.low_off; no_duty = t.1.no_duty; no_event = refl; disarmed = t.1.disarmed; no_mark = t.1.no_mark })
+    | kind.Comm ↦ λ ne t.
+        (t.0, record { high_off = t.1.high_off; low_off = t.1.low_off; no_duty = t.1.no_duty; no_event = refl; disarmed = t.1.disarmed; no_mark = t.1.no_mark })
     | j ↦ λ ne t. t
   ];
   steps = λ w answers outer g t above past on left. absurd (let shut = t kind.Pwm in omega arith);

@@ -113,7 +113,8 @@ edge_follows trace c b p level more =
         armed = same.armed ∙ h.armed;
         mode = same.mode ∙ h.mode;
         opened = same.opened ∙ h.opened;
-        edges = edge_hears (cap_view trace c b p) w m (edge_now b level) h ∙ sym (burst-push (line trace).edges (edge_now b level) w (mode_of m)) ∙ ap (λ (es : List Edge). burst es w (mode_of m)) (sym more);
+        edges = edge_hears (cap_view trace c b p) w m (edge_now b level) h ∙ sym (burst-push (line trace).edges (edge_now b level) w (mode_of m))
+            ∙ ap (λ (es : List Edge). burst es w (mode_of m)) (sym more);
         core_mode = h.core_mode;
         running = h.running;
         no_timer = off_stays b.timer b.time h.no_timer;
@@ -156,7 +157,8 @@ front_edge edges x i l = get_or_append_left edges (x ∷ []) blank i l
 in_order_push : (edges : List Edge) (x : Edge) → IsInOrder edges → All (λ e. e.t.0 ≤ x.t.0) edges → IsInOrder (edges ++ x ∷ [])
 in_order_push edges x o past i j le l = elim (cases_lt j (length edges)) [
   | inl inside ↦ rw (front_edge edges x i (omega arith), front_edge edges x j inside) (o i j le inside)
-  | inr last ↦ rw (get_or_push edges x blank j (let len = length-append edges (x ∷ []) in omega arith)) (All-push (λ e. e.t.0 ≤ x.t.0) edges x past (omega arith) i blank (omega arith))
+  | inr last ↦ rw (get_or_push edges x blank j (let len = length-append edges (x ∷ []) in omega arith))
+      (All-push (λ e. e.t.0 ≤ x.t.0) edges x past (omega arith) i blank (omega arith))
 ]
 
 pub edge_sound : (w : Window) (x : Edge) → WindowSound w x.t.0 → WindowSound (after_edge w x) x.t.0
@@ -179,5 +181,6 @@ line_changes trace b level d = line-push trace (event.Edge (as_tick b.time) leve
 pub line_same : (trace : List Event) (b : Bank) (level : Bool) → differ (line trace).level level ≡ false
     → line (trace ++ event.Edge (as_tick b.time) level ∷ []) ≡ line trace
 line_same trace b level d =
-    let new : line (trace ++ event.Edge (as_tick b.time) level ∷ []) ≡ record { level = level; edges = (line trace).edges } = line-push trace (event.Edge (as_tick b.time) level) ∙ rw d refl in
+    let new : line (trace ++ event.Edge (as_tick b.time) level ∷ []) ≡ record { level = level; edges = (line trace).edges } = line-push trace
+    (event.Edge (as_tick b.time) level) ∙ rw d refl in
     new ∙ ap (λ (l : Bool). record { level = l; edges = (line trace).edges }) (sym (same_level (line trace).level level d))

@@ -57,11 +57,13 @@ unfolding steps_since
 since-push k log e = fold_push (since_next k) 0 log e
 
 called_from-push : (loaded : Loaded) (nest : Nest) (trace : List Event) (k : Kind) (before : List Turned) (n : ℕ) (log : List Turned) (e : Turned)
-    → called_from loaded nest trace k before n (log ++ e ∷ []) ≡ called_next loaded nest trace k (before ++ log) (called_from loaded nest trace k before n log) e
+    → called_from loaded nest trace k before n (log ++ e ∷ []) ≡ called_next loaded nest trace k (before ++ log)
+    (called_from loaded nest trace k before n log) e
 called_from-push loaded nest trace k before n [] e =
     subst (λ (l : List Turned). called_next loaded nest trace k before n e ≡ called_next loaded nest trace k l n e) (sym (append-nil before)) refl
 called_from-push loaded nest trace k before n (x ∷ log) e =
-    subst (λ (l : List Turned). called_from loaded nest trace k before n ((x ∷ log) ++ e ∷ []) ≡ called_next loaded nest trace k l (called_from loaded nest trace k before n (x ∷ log)) e) (append_assoc before (x ∷ []) log)
+    subst (λ (l : List Turned). called_from loaded nest trace k before n ((x ∷ log) ++ e ∷ []) ≡ called_next loaded nest trace k l
+    (called_from loaded nest trace k before n (x ∷ log)) e) (append_assoc before (x ∷ []) log)
     (called_from-push loaded nest trace k (before ++ x ∷ []) (called_next loaded nest trace k before n x) log e)
 
 pub called-push : (loaded : Loaded) (nest : Nest) (trace : List Event) (log : List Turned) (e : Turned) (k : Kind)

@@ -49,7 +49,8 @@ control_refuses = record {
   demand_without_throttle = λ after h. (let e = (last_fits (armed []) after (ticks 12002404 5001 0 20) h).tick.demand_is in absurd (omega arith));
   demand_too_soon =
       λ after h. (let e = (last_fits (armed (good 12000100 1000 ∷ [])) after (ticks 12002404 5001 0 40) h).tick.demand_is in absurd (omega arith));
-  demand_kept_after_a_frame_with_0 = λ after h. (let e = (last_fits (armed (good 12000100 1000 ∷ ticks 12002404 5001 0 20 ∷ good 12002500 0 ∷ [])) after (ticks 12004804 5002 0 20) h).tick.demand_is in absurd (omega arith));
+  demand_kept_after_a_frame_with_0 = λ after h. (let e = (last_fits (armed (good 12000100 1000 ∷ ticks 12002404 5001 0 20 ∷ good 12002500 0 ∷ [])) after
+      (ticks 12004804 5002 0 20) h).tick.demand_is in absurd (omega arith));
   armed_after_29_frames = λ after h. (let e = (last_fits (frames 29 0 (ticks 12000004 5000 0 0 ∷ [])) after (arms 12000004) h).paid in absurd (cc));
   armed_at_4999 = λ after h. (let e = (last_fits (frames 30 0 (ticks 11997604 4999 0 0 ∷ [])) after (arms 11997604) h).paid in absurd (cc));
   arming_left_out = λ after h. (let e = (last_fits (frames 30 0 (ticks 12000004 5000 0 0 ∷ [])) after (leaves 12000006 2) h).paid in absurd (cc));
@@ -120,19 +121,29 @@ windows_refuse = record {
   second_verdict_on_a_window = λ trace loaded after h. window_fits loaded trace (first_two ++ (enters 5000 3 ∷ nothing 5006 ∷ [])) after (nothing 5008) h;
   verdict_without_an_edge =
       λ loaded after h. (let a = window_fits loaded [] (first_two ++ enters 5000 3 ∷ []) after (nothing 5006) h in none_closes a.closed_at a.closes);
-  entered_before_the_close = λ loaded after h. (let a = window_fits loaded one_edge (first_two ++ enters 3000 3 ∷ []) after (nothing 200000) h in let late = closes_late a.closed_at a.closes in let w = a.waits in absurd (omega arith));
-  detection_from_one_edge = λ loaded after h. (let e = answers_nothing loaded 130000 130006 (found 130006 2) (window_fits loaded one_edge (first_two ++ enters 130000 3 ∷ []) after (found 130006 2) h) in absurd (cc));
-  frame_from_one_edge = λ loaded after h. (let e = answers_nothing loaded 130000 130006 (good 130006 1000) (window_fits loaded one_edge (first_two ++ enters 130000 3 ∷ []) after (good 130006 1000) h) in absurd (cc));
-  fault_where_no_mode_is_known = λ loaded after h. (let e = answers_nothing loaded 130000 130006 (bad 130006 1) (window_fits loaded one_edge (first_two ++ enters 130000 3 ∷ []) after (bad 130006 1) h) in absurd (cc));
+  entered_before_the_close = λ loaded after h. (let a = window_fits loaded one_edge (first_two ++ enters 3000 3 ∷ []) after
+      (nothing 200000) h in let late = closes_late a.closed_at a.closes in let w = a.waits in absurd (omega arith));
+  detection_from_one_edge = λ loaded after h. (let e = answers_nothing loaded 130000 130006 (found 130006 2)
+      (window_fits loaded one_edge (first_two ++ enters 130000 3 ∷ []) after (found 130006 2) h) in absurd (cc));
+  frame_from_one_edge = λ loaded after h. (let e = answers_nothing loaded 130000 130006 (good 130006 1000)
+      (window_fits loaded one_edge (first_two ++ enters 130000 3 ∷ []) after (good 130006 1000) h) in absurd (cc));
+  fault_where_no_mode_is_known = λ loaded after h. (let e = answers_nothing loaded 130000 130006 (bad 130006 1)
+      (window_fits loaded one_edge (first_two ++ enters 130000 3 ∷ []) after (bad 130006 1) h) in absurd (cc));
   no_window_after_a_frame =
-      λ trace loaded after h. (let e = window_fits loaded trace (first_two ++ (enters 5000 3 ∷ good 5080 1000 ∷ [])) after (leaves 5084 3) h refl in absurd (cc));
+      λ trace loaded after h. (let e = window_fits loaded trace (first_two ++ (enters 5000 3 ∷ good 5080 1000 ∷ [])) after
+      (leaves 5084 3) h refl in absurd (cc));
   no_window_after_a_detection =
       λ trace loaded after h. (let e = window_fits loaded trace (first_two ++ (enters 5000 3 ∷ found 5080 2 ∷ [])) after (leaves 5084 3) h refl in absurd (cc));
   window_right_behind_a_bad_one =
       λ trace loaded after h. (let e = (window_fits loaded trace (first_two ++ (enters 5000 3 ∷ bad 5006 1 ∷ [])) after (window 5010 0) h).0 in absurd (cc));
-  window_after_599_ticks = λ trace loaded after h. (let e = (window_fits loaded trace (first_two ++ (enters 5000 3 ∷ nothing 5006 ∷ leaves 5010 3 ∷ enters 5602 3 ∷ [])) after (window 5605 0) h).0 in let r = e.rested in let m = first_more (line trace).edges 5606 in absurd (omega arith));
-  window_on_a_line_not_at_rest = λ loaded after h. (let e = (window_fits loaded late_edge (first_two ++ (enters 5000 3 ∷ nothing 5006 ∷ leaves 5010 3 ∷ enters 5700 3 ∷ [])) after (window 5703 0) h).0 in let r = e.rested in let late = rests_late in absurd (omega arith));
-  window_in_another_mode = λ trace loaded after h. (let e = (window_fits loaded trace (first_two ++ (enters 5000 3 ∷ found 5080 2 ∷ [])) after (window 5084 1) h).1 in absurd (omega arith));
+  window_after_599_ticks = λ trace loaded after h. (let e = (window_fits loaded trace
+      (first_two ++ (enters 5000 3 ∷ nothing 5006 ∷ leaves 5010 3 ∷ enters 5602 3 ∷ [])) after
+      (window 5605 0) h).0 in let r = e.rested in let m = first_more (line trace).edges 5606 in absurd (omega arith));
+  window_on_a_line_not_at_rest = λ loaded after h. (let e = (window_fits loaded late_edge
+      (first_two ++ (enters 5000 3 ∷ nothing 5006 ∷ leaves 5010 3 ∷ enters 5700 3 ∷ [])) after
+      (window 5703 0) h).0 in let r = e.rested in let late = rests_late in absurd (omega arith));
+  window_in_another_mode = λ trace loaded after h. (let e = (window_fits loaded trace (first_two ++ (enters 5000 3 ∷ found 5080 2 ∷ [])) after
+      (window 5084 1) h).1 in absurd (omega arith));
 }
 
 -- ---- nesting
@@ -164,7 +175,8 @@ nesting_refuses = record {
       λ nest loaded after h. not_above nest kind.Cap 2 (omega arith) (omega arith) (nest_fits nest loaded (enters 2400 3 ∷ []) after (enters 2402 2) h).1;
   kind_enters_twice =
       λ nest loaded after h. not_above nest kind.Tick 2 (omega arith) (omega arith) (nest_fits nest loaded (enters 2400 2 ∷ []) after (enters 2402 2) h).1;
-  enters_above_another_with_nest_1 = λ loaded after h. (let zero = (All-head (λ i. (kind_number i ≡ 0) × (0 < 3)) kind.Tick [] (nest_fits One loaded (enters 2400 2 ∷ []) after (enters 2402 3) h).1).0 in absurd (omega arith));
+  enters_above_another_with_nest_1 = λ loaded after h. (let zero = (All-head (λ i. (kind_number i ≡ 0) × (0 < 3)) kind.Tick []
+      (nest_fits One loaded (enters 2400 2 ∷ []) after (enters 2402 3) h).1).0 in absurd (omega arith));
   uart_enters = λ nest loaded after h. (nest_fits nest loaded [] after (enters 2400 1) h).0;
   cmp_enters = λ nest loaded after h. (nest_fits nest loaded [] after (enters 2400 4) h).0;
   pwm_enters = λ nest loaded after h. (nest_fits nest loaded [] after (enters 2400 5) h).0;
@@ -177,10 +189,13 @@ nesting_refuses = record {
   loss_in_main = λ nest loaded after h. (let e = nest_fits nest loaded (enters 2400 0 ∷ []) after (loses 2402 0) h in absurd (cc));
   save_in_tick = λ nest loaded after h. (let e = nest_fits nest loaded (enters 2400 2 ∷ []) after (saves 2402 0) h in absurd (cc));
   tick_returns_without_one = λ nest loaded after h. (let e = (nest_fits nest loaded (enters 2400 2 ∷ []) after (leaves 2408 2) h).1 in absurd (omega arith));
-  tick_returns_with_two = λ nest loaded after h. (let e = (nest_fits nest loaded (enters 4800 2 ∷ ticks 4802 1 0 0 ∷ ticks 4804 2 0 0 ∷ []) after (leaves 4808 2) h).1 in absurd (omega arith));
+  tick_returns_with_two = λ nest loaded after h. (let e = (nest_fits nest loaded (enters 4800 2 ∷ ticks 4802 1 0 0 ∷ ticks 4804 2 0 0 ∷ []) after
+      (leaves 4808 2) h).1 in absurd (omega arith));
   cap_returns_without_either = λ nest loaded after h. neither 0 0 refl refl (nest_fits nest loaded (enters 5000 3 ∷ []) after (leaves 5008 3) h).1;
   cap_returns_with_two_verdicts =
-      λ nest loaded after h. two 2 1 refl (nest_fits nest loaded (enters 5000 3 ∷ good 5006 1000 ∷ window 5008 2 ∷ nothing 5010 ∷ []) after (leaves 5012 3) h).1;
+      λ nest loaded after h. two 2 1 refl (nest_fits nest loaded (enters 5000 3 ∷ good 5006 1000 ∷ window 5008 2 ∷ nothing 5010 ∷ []) after
+      (leaves 5012 3) h).1;
   main_returns_without_one = λ nest loaded after h. (let e = (nest_fits nest loaded (enters 2400 0 ∷ []) after (leaves 2404 0) h).1 in absurd (omega arith));
-  main_returns_with_two = λ nest loaded after h. (let e = (nest_fits nest loaded (enters 2400 0 ∷ saves 2402 0 ∷ saves 2404 0 ∷ []) after (leaves 2406 0) h).1 in absurd (omega arith));
+  main_returns_with_two = λ nest loaded after h. (let e = (nest_fits nest loaded (enters 2400 0 ∷ saves 2402 0 ∷ saves 2404 0 ∷ []) after
+      (leaves 2406 0) h).1 in absurd (omega arith));
 }

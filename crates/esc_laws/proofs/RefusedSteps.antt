@@ -113,7 +113,8 @@ steps_refuse = record {
   own_step_late = late;
   step_before_the_cost = λ loaded nest cost trace before e later lt f. before_cost cost trace before e later lt f.later;
   step_in_a_stall = λ before loaded nest cost f. (let e = f.free_at in let s = stalled in absurd (omega arith));
-  step_49_of_tick = λ trace before t notes all loaded nest cost f. (let most = f.few refl in let next = own-push kind.Tick before (own t kind.Tick notes) in absurd (omega arith));
+  step_49_of_tick = λ trace before t notes all loaded nest cost f. (let most = f.few refl in let next = own-push kind.Tick before
+      (own t kind.Tick notes) in absurd (omega arith));
   open_after_48_steps = λ loaded log open_is all few. (let fewer = few kind.Tick (rw open_is refl) in absurd (omega arith));
   cap_waits_for_nine_steps = λ loaded cost each. (let most = each.1.1.1.1.1.1.1.1.1.0.patient kind.Cap in let nine = waited loaded in absurd (omega arith));
   control_tick_left_out = λ loaded nest cost l. no_log loaded nest cost l.log (rest_is loaded l.rest l.begins ∙ l.steps_are) l.fits l.all_made;

@@ -48,7 +48,8 @@ called_on : (loaded : Loaded) (nest : Nest) (trace : List Event) (before : List 
     → called loaded nest trace (before ++ e ∷ []) kind.Cap ≡ called loaded nest trace before kind.Cap + (if counts nest kind.Cap (Some e.kind) then 1 else 0)
 called_on loaded nest trace before e x y =
     called-push loaded nest trace before e kind.Cap
-    ∙ ap (λ (v : Bool). wait_next nest kind.Cap v (is_called loaded trace (before ++ e ∷ []) e.tick kind.Cap) (Some e.kind) (called loaded nest trace before kind.Cap)) x
+    ∙ ap (λ (v : Bool). wait_next nest kind.Cap v (is_called loaded trace (before ++ e ∷ []) e.tick kind.Cap) (Some e.kind)
+    (called loaded nest trace before kind.Cap)) x
     ∙ ap (λ (v : Bool). wait_next nest kind.Cap true v (Some e.kind) (called loaded nest trace before kind.Cap)) y
     ∙ counted_on nest kind.Cap (counts nest kind.Cap (Some e.kind)) (called loaded nest trace before kind.Cap)
 
@@ -59,15 +60,18 @@ few_steps : (loaded : Loaded) (nest : Nest) (cost : ℕ) (trace : List Event) (b
     → called loaded nest trace before kind.Cap + waiting_steps nest through ≤ 8
 few_steps loaded nest cost trace before [] after f r few each stays = omega arith
 few_steps loaded nest cost trace before (e ∷ through) after f r few each stays =
-    let more = called_on loaded nest trace before e (is_seen loaded trace f r before e.tick stays.0 stays.1) (is_seen loaded trace f r (before ++ e ∷ []) e.tick (stays_head loaded f r _ (before ++ e ∷ []) through stays.2) stays.1) in
+    let more = called_on loaded nest trace before e (is_seen loaded trace f r before e.tick stays.0 stays.1)
+    (is_seen loaded trace f r (before ++ e ∷ []) e.tick (stays_head loaded f r _ (before ++ e ∷ []) through stays.2) stays.1) in
     let rest = few_steps loaded nest cost trace (before ++ e ∷ []) through after f r (each.0.patient kind.Cap) each.1 stays.2 in
     omega arith
 
 pub rest_calls_cap : RestCallsCap
 rest_calls_cap loaded nest cost trace before [] after f r each stays = omega arith
 rest_calls_cap loaded nest cost trace before (e ∷ through) after f r each stays =
-    let each' : EachStep (StepFits loaded nest cost trace) before (e ∷ through ++ after) = steps_rest (StepFits loaded nest cost trace) [] before (e ∷ through ++ after) each in
-    let more = called_on loaded nest trace before e (is_seen loaded trace f r before e.tick stays.0 stays.1) (is_seen loaded trace f r (before ++ e ∷ []) e.tick (stays_head loaded f r _ (before ++ e ∷ []) through stays.2) stays.1) in
+    let each' : EachStep (StepFits loaded nest cost trace) before (e ∷ through ++ after) = steps_rest (StepFits loaded nest cost trace) [] before
+    (e ∷ through ++ after) each in
+    let more = called_on loaded nest trace before e (is_seen loaded trace f r before e.tick stays.0 stays.1)
+    (is_seen loaded trace f r (before ++ e ∷ []) e.tick (stays_head loaded f r _ (before ++ e ∷ []) through stays.2) stays.1) in
     let rest = few_steps loaded nest cost trace (before ++ e ∷ []) through after f r (each'.0.patient kind.Cap) each'.1 stays.2 in
     omega arith
 
@@ -87,7 +91,8 @@ entered_other : (f r : ℕ) (p : Place) (t k : ℕ) → k ≢ 3 → NothingYet f
 entered_other f r p t k ne h = by_tests (k == 3) (k == 2) (k == 0) (kind_of k ∷ p.stack) (ne_eqb k 3 ne)
   where
     by_tests : (x a b : Bool) (stack : List Kind) → x ≡ false
-        → NothingYet f r (if x then record p { stack = stack; cap_entered = t; windows = 0; verdicts = 0; last = t } else if a then record p { stack = stack; ticks = 0; last = t } else if b then record p { stack = stack; saves = 0; last = t } else record p { stack = stack; last = t })
+        → NothingYet f r
+        (if x then record p { stack = stack; cap_entered = t; windows = 0; verdicts = 0; last = t } else if a then record p { stack = stack; ticks = 0; last = t } else if b then record p { stack = stack; saves = 0; last = t } else record p { stack = stack; last = t })
     by_tests true a b stack e = absurd (let z = e in cc)
     by_tests false true b stack e = record { signal = h.signal; windows = h.windows; verdicts = h.verdicts }
     by_tests false false true stack e = record { signal = h.signal; windows = h.windows; verdicts = h.verdicts }
@@ -124,6 +129,8 @@ pub cap_opens_window : CapOpensWindow
 cap_opens_window loaded nest trace before through after f r t u windowed nested rests none =
     let start : List Note = opening loaded ++ before in
     let all : List Note = note.Enter t 3 ∷ through ++ note.Leave u 3 ∷ after in
-    let w : Each (WindowRule loaded trace) start all = each_rest (WindowRule loaded trace) (opening loaded) before all (each_rest (WindowRule loaded trace) [] (opening loaded) (before ++ all) windowed) in
+    let w : Each (WindowRule loaded trace) start all = each_rest (WindowRule loaded trace) (opening loaded) before all
+    (each_rest (WindowRule loaded trace) [] (opening loaded) (before ++ all) windowed) in
     let n : Each (NestRule nest) start all = each_rest (NestRule nest) (opening loaded) before all nested in
-    returns_not loaded nest trace f r (start ++ note.Enter t 3 ∷ []) through after u (rw (place-push start (note.Enter t 3)) (record { signal = rests; windows = refl; verdicts = refl })) none w.1 n.1
+    returns_not loaded nest trace f r (start ++ note.Enter t 3 ∷ []) through after u
+    (rw (place-push start (note.Enter t 3)) (record { signal = rests; windows = refl; verdicts = refl })) none w.1 n.1

@@ -53,7 +53,8 @@ first_more edges t = rested_more edges t
 rested_by : (edges : List Edge) (t u : ℕ) → IsRested edges u → t ≤ u → fold past_change t edges ≤ u
 rested_by [] t u r le = le
 rested_by (e ∷ edges) t u r le =
-    rested_by edges (past e.t.0 t) u (All-tail (λ x. (u ≤ x.t.0) ⊎ (x.t.0 + rest ≤ u)) e edges r) (past_by e.t.0 t u (All-head (λ x. (u ≤ x.t.0) ⊎ (x.t.0 + rest ≤ u)) e edges r) le)
+    rested_by edges (past e.t.0 t) u (All-tail (λ x. (u ≤ x.t.0) ⊎ (x.t.0 + rest ≤ u)) e edges r)
+    (past_by e.t.0 t u (All-head (λ x. (u ≤ x.t.0) ⊎ (x.t.0 + rest ≤ u)) e edges r) le)
 
 pub first_by : (edges : List Edge) (t u : ℕ) → IsRested edges u → t ≤ u → first_rested edges t ≤ u
 unfolding first_rested
@@ -150,7 +151,8 @@ set_grows edges x f since timer until i = rw i.armed (by_reached (nat_le i.at x.
           armed = refl;
           late = (let l = i.late in omega arith);
           rested =
-              All-push (λ e. (at ≤ e.t.0) ⊎ (e.t.0 + rest ≤ at)) edges x (λ j d l. later (slice_index_or edges j d) (until j d l) (i.rested j d l)) (inr (omega arith));
+              All-push (λ e. (at ≤ e.t.0) ⊎ (e.t.0 + rest ≤ at)) edges x (λ j d l. later (slice_index_or edges j d) (until j d l) (i.rested j d l))
+              (inr (omega arith));
           soon = λ t a b. rw (rested-push edges x t) (past_max x.t.0 (first_rested edges t) i.at early (i.soon t a b));
         }
       where
@@ -163,7 +165,8 @@ set_grows edges x f since timer until i = rw i.armed (by_reached (nat_le i.at x.
 pub rest_now : (edges : List Edge) (x : Edge) → All (λ e. e.t.0 ≤ x.t.0) edges → IsRestFrom (edges ++ x ∷ []) (x.t.0 + rest)
 rest_now edges x until = record {
   over =
-      All-push (λ e. e.t.0 + rest ≤ x.t.0 + rest) edges x (λ i d l. (let u : (slice_index_or edges i d).t.0 ≤ x.t.0 = until i d l in omega arith)) (omega arith);
+      All-push (λ e. e.t.0 + rest ≤ x.t.0 + rest) edges x (λ i d l. (let u : (slice_index_or edges i d).t.0 ≤ x.t.0 = until i d l in omega arith))
+      (omega arith);
   first = λ t a. last_over edges x t a;
 }
   where

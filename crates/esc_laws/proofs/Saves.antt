@@ -165,7 +165,8 @@ pub fits_pushes : (loaded : Loaded) (first now : Told) (notes more : List Note) 
     → FlashFits loaded first now (notes ++ more)
 fits_pushes loaded first now notes more a f = record {
   holds =
-      holds_same loaded.settings first.bytes (reverse notes) (reverse (notes ++ more)) now.bytes (λ c. sym (flash_pushes loaded.settings c notes more a)) f.holds;
+      holds_same loaded.settings first.bytes (reverse notes) (reverse (notes ++ more)) now.bytes
+      (λ c. sym (flash_pushes loaded.settings c notes more a)) f.holds;
   counted = rw (refused_pushes notes more a) f.counted;
 }
 
@@ -226,7 +227,8 @@ holds_length (Some byte ∷ places) (c ∷ cells) h = ap suc (holds_length place
 holds_part : (at n : ℕ) (places new : List (Option ℕ)) (cells bytes : List ℕ) → Holds places cells → Holds new bytes
     → Holds (take at places ++ new ++ drop (at + n) places) (take at cells ++ bytes ++ drop (at + n) cells)
 holds_part at n places new cells bytes h k =
-    holds_append (take at places ++ new) (drop (at + n) places) (take at cells ++ bytes) (drop (at + n) cells) (holds_append (take at places) new (take at cells) bytes (holds_take at places cells h) k)
+    holds_append (take at places ++ new) (drop (at + n) places) (take at cells ++ bytes) (drop (at + n) cells)
+    (holds_append (take at places) new (take at cells) bytes (holds_take at places cells h) k)
     (holds_drop (at + n) places cells h)
 
 -- ---- a save that was done
@@ -250,12 +252,14 @@ holds_and (Some byte ∷ places) (c ∷ cells) (b ∷ bytes) h = (ap (λ (x : �
 holds_programmed : (at : ℕ) (places : List (Option ℕ)) (cells bytes : List ℕ) → Holds places cells
     → Holds (take at places ++ and_places (drop at places) bytes) (programmed cells at bytes)
 holds_programmed at places cells bytes h =
-    holds_append (take at places) (and_places (drop at places) bytes) (take at cells) (and_front (drop at cells) bytes) (holds_take at places cells h) (holds_and (drop at places) (drop at cells) bytes (holds_drop at places cells h))
+    holds_append (take at places) (and_places (drop at places) bytes) (take at cells) (and_front (drop at cells) bytes) (holds_take at places cells h)
+    (holds_and (drop at places) (drop at cells) bytes (holds_drop at places cells h))
 
 holds_done : (places : List (Option ℕ)) (cells block : List ℕ) → Holds places cells
     → Holds (after_save 0 block places) (programmed (erased cells 31) 31744 block)
 holds_done places cells block h =
-    holds_programmed 31744 (take 31744 places ++ erased_places 1024 ++ drop 32768 places) (erased cells 31) block (holds_part 31744 1024 places (erased_places 1024) cells (blank 1024) h (holds_erased 1024))
+    holds_programmed 31744 (take 31744 places ++ erased_places 1024 ++ drop 32768 places) (erased cells 31) block
+    (holds_part 31744 1024 places (erased_places 1024) cells (blank 1024) h (holds_erased 1024))
 
 done_holds : (first : Settings) (cells : Option (List ℕ)) (back : List Note) (now now' : Option (List ℕ)) (t : Tick) (block : List ℕ)
     → block ≡ block_of (settings_at first back)
@@ -303,7 +307,8 @@ holds_open at n places cells cells' same len len' h =
     let front : Holds (take at places) (take at cells') = subst (Holds (take at places)) (sym same) (holds_take at places cells h) in
     let few : length (drop at cells') ≡ n = simp length-drop (omega arith) in
     let none : drop (at + n) places ≡ [] = (let l = holds_length places cells h in drop_all (at + n) places (omega arith)) in
-    let both : Holds (take at places ++ any_places n) (take at cells' ++ drop at cells') = holds_append (take at places) (any_places n) (take at cells') (drop at cells') front (holds_any n (drop at cells') few) in
+    let both : Holds (take at places ++ any_places n) (take at cells' ++ drop at cells') = holds_append (take at places) (any_places n) (take at cells')
+    (drop at cells') front (holds_any n (drop at cells') few) in
     rw (none, append-nil (take at places ++ any_places n)) (subst (Holds (take at places ++ any_places n)) (take-append-drop at cells') both)
 
 spoilt_holds : (first : Settings) (cells : Option (List ℕ)) (back : List Note) (now now' : Option (List ℕ)) (t : Tick) → KeepsBelow 31744 now now'

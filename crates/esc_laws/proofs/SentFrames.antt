@@ -103,13 +103,17 @@ both_same false n = omega arith
 keeps_on : (m : Mode) (s word : ℕ) (first : Edge) (rest : List Edge) → HasFrames m → IsMoved ((numbers m).bit / 16) (sent m s word) (first ∷ rest)
     → KeepsOn m (first ∷ []) rest
 keeps_on mode.D300 s word first rest frames moved =
-    close_keeps mode.D300 320 (first ∷ []) rest (λ h. both_same (may_be_high h) 320) (whole_close 10 10 s false (low_bits 16 word) first rest (omega arith) (omega arith) moved)
+    close_keeps mode.D300 320 (first ∷ []) rest (λ h. both_same (may_be_high h) 320)
+    (whole_close 10 10 s false (low_bits 16 word) first rest (omega arith) (omega arith) moved)
 keeps_on mode.D600 s word first rest frames moved =
-    close_keeps mode.D600 160 (first ∷ []) rest (λ h. both_same (may_be_high h) 160) (whole_close 5 5 s false (low_bits 16 word) first rest (omega arith) (omega arith) moved)
+    close_keeps mode.D600 160 (first ∷ []) rest (λ h. both_same (may_be_high h) 160)
+    (whole_close 5 5 s false (low_bits 16 word) first rest (omega arith) (omega arith) moved)
 keeps_on mode.D300Inv s word first rest frames moved =
-    close_keeps mode.D300Inv 320 (first ∷ []) rest (λ h. both_same (may_be_high h) 320) (whole_close 10 10 s true (low_bits 16 word) first rest (omega arith) (omega arith) moved)
+    close_keeps mode.D300Inv 320 (first ∷ []) rest (λ h. both_same (may_be_high h) 320)
+    (whole_close 10 10 s true (low_bits 16 word) first rest (omega arith) (omega arith) moved)
 keeps_on mode.D600Inv s word first rest frames moved =
-    close_keeps mode.D600Inv 160 (first ∷ []) rest (λ h. both_same (may_be_high h) 160) (whole_close 5 5 s true (low_bits 16 word) first rest (omega arith) (omega arith) moved)
+    close_keeps mode.D600Inv 160 (first ∷ []) rest (λ h. both_same (may_be_high h) 160)
+    (whole_close 5 5 s true (low_bits 16 word) first rest (omega arith) (omega arith) moved)
 keeps_on mode.Unknown s word first rest frames moved = absurd (omega arith)
 keeps_on mode.Servo s word first rest frames moved = absurd (omega arith)
 
@@ -157,7 +161,9 @@ sent_frame_is_read loaded trace before after said w m s word frame first rest ea
     let same : mode_of (mode_number m) ≡ m = mode_of-number m in
     let heard : judged m (first ∷ rest) loaded.settings.input (servo_of loaded.settings) ≡ Good frame =
     judged_frame m (first ∷ rest) loaded.settings.input (servo_of loaded.settings) frames
-    ∙ ap by_verdict (verdict_of-moved m ((numbers m).bit / 16) s word (first ∷ rest) frames (omega arith) moved ∙ sym (verdict_of-sent m s word frames) ∙ good) in
-    whole_signal_is_heard loaded trace before after said w (mode_number m) first rest windowed listens is (subst (λ (x : Mode). StandsAlone (line trace).edges w x first rest) (sym same) alone)
+    ∙ ap by_verdict (verdict_of-moved m ((numbers m).bit / 16) s word (first ∷ rest) frames (omega arith) moved ∙ sym (verdict_of-sent m s word frames)
+    ∙ good) in
+    whole_signal_is_heard loaded trace before after said w (mode_number m) first rest windowed listens is
+    (subst (λ (x : Mode). StandsAlone (line trace).edges w x first rest) (sym same) alone)
     ∙ ap (λ (x : Mode). verdict_note (time_of said) (judged x (first ∷ rest) loaded.settings.input (servo_of loaded.settings))) same
     ∙ ap (verdict_note (time_of said)) heard

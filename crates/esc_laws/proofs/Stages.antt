@@ -184,7 +184,8 @@ pub step_made : (k : Kind) (answers : List Answer) (loaded : Loaded) (nest : Nes
     → Stood loaded nest trace c b since rest (k ∷ outer) → since ≤ b.time
     → ((j : Kind) → kind_number k < kind_number j → left_of c j ≡ 0) → 0 < left_of c k
     → Stood loaded nest trace (kind_step k answers (counted_down c b) b).core (accessed b (kind_step k answers (counted_down c b) b).access)
-    (cap_since_step k b.time since) (rest ++ all_notes b k (kind_step k answers (counted_down c b) b)) (open_left k outer (kind_step k answers (counted_down c b) b))
+    (cap_since_step k b.time since) (rest ++ all_notes b k (kind_step k answers (counted_down c b) b))
+    (open_left k outer (kind_step k answers (counted_down c b) b))
     × All (IsOwn k b.time) (all_notes b k (kind_step k answers (counted_down c b) b))
     × ReturnsLast k (all_notes b k (kind_step k answers (counted_down c b) b))
 step_made k answers loaded nest trace c b since rest outer i past above left =
@@ -292,7 +293,11 @@ outside_is b (event.Edge at level) = by_test (differ b.level level)
 outside_is b e = refl
 
 edge_ground : (v : Bool) (w : World) (level : Bool) → differ w.bank.level level ≡ v → Ground w
-    → Ground (record w { trace = w.trace ++ event.Edge (as_tick w.bank.time) level ∷ []; bank = record w.bank { level = (if v then edge_bank w.bank level else w.bank).level; changed = (if v then edge_bank w.bank level else w.bank).changed } })
+    → Ground (record w {
+      trace = w.trace ++ event.Edge
+          (as_tick w.bank.time) level ∷ [];
+      bank = record w.bank { level = (if v then edge_bank w.bank level else w.bank).level; changed = (if v then edge_bank w.bank level else w.bank).changed };
+    })
 edge_ground true w level d g =
     let new = line_changes w.trace w.bank level (subst (λ (l : Bool). differ l level ≡ true) g.level d) in
     record {
@@ -310,7 +315,12 @@ edge_ground false w level d g =
 outside_ground : (w : World) (e : Event) → tick_of e ≡ w.bank.time → Ground w → Ground (after_outside w e)
 outside_ground w (event.Edge at level) is g =
     subst
-    (λ (n : ℕ). Ground (record w { trace = w.trace ++ event.Edge (as_tick n) level ∷ []; bank = record w.bank { level = (after_line w.bank level).level; window = (after_line w.bank level).window; timer = (after_line w.bank level).timer; changed = (after_line w.bank level).changed } }))
+    (λ (n : ℕ). Ground
+    (record w {
+      trace = w.trace ++ event.Edge
+          (as_tick n) level ∷ [];
+      bank = record w.bank { level = (after_line w.bank level).level; window = (after_line w.bank level).window; timer = (after_line w.bank level).timer; changed = (after_line w.bank level).changed };
+    }))
     (sym is)
     (edge_ground (differ w.bank.level level) w level refl g)
 outside_ground w (event.Comp at level) is g = record {

@@ -64,7 +64,8 @@ after_from : (cost : ℕ) (trace : List Event) (e : Event) (i : ℕ) (log : List
     → fold (λ n x. next_step cost (trace ++ e ∷ []) x.tick) (past_stall i e) log ≡ past_stall (fold (λ n x. next_step cost trace x.tick) i log) e
 after_from cost trace e i [] = refl
 after_from cost trace e i (x ∷ log) =
-    ap (λ (n : ℕ). fold (λ m y. next_step cost (trace ++ e ∷ []) y.tick) n log) (free-push trace e (x.tick + cost)) ∙ after_from cost trace e (next_step cost trace x.tick) log
+    ap (λ (n : ℕ). fold (λ m y. next_step cost (trace ++ e ∷ []) y.tick) n log) (free-push trace e (x.tick + cost))
+    ∙ after_from cost trace e (next_step cost trace x.tick) log
 
 pub after_grows : (cost : ℕ) (trace : List Event) (e : Event) (log : List Turned) → after cost (trace ++ e ∷ []) log ≡ past_stall (after cost trace log) e
 unfolding after

@@ -25,10 +25,13 @@ count_from loaded nest trace e k before n [] b = refl
 count_from loaded nest trace e k before n (x ∷ log) b =
     let l : x.tick < tick_of e = All-head (λ (y : Turned). y.tick < tick_of e) x log b in
     let same : called_next loaded nest (trace ++ e ∷ []) k before n x ≡ called_next loaded nest trace k before n x =
-    ap (λ (v : Bool). wait_next nest k v (is_called loaded (trace ++ e ∷ []) (before ++ x ∷ []) x.tick k) (Some x.kind) n) (called_before loaded trace e before x.tick k l)
-    ∙ ap (λ (v : Bool). wait_next nest k (is_called loaded trace before x.tick k) v (Some x.kind) n) (called_before loaded trace e (before ++ x ∷ []) x.tick k l) in
+    ap (λ (v : Bool). wait_next nest k v (is_called loaded (trace ++ e ∷ []) (before ++ x ∷ []) x.tick k) (Some x.kind) n)
+    (called_before loaded trace e before x.tick k l)
+    ∙ ap (λ (v : Bool). wait_next nest k (is_called loaded trace before x.tick k) v (Some x.kind) n)
+    (called_before loaded trace e (before ++ x ∷ []) x.tick k l) in
     ap (λ (y : ℕ). called_from loaded nest (trace ++ e ∷ []) k (before ++ x ∷ []) y log) same
-    ∙ count_from loaded nest trace e k (before ++ x ∷ []) (called_next loaded nest trace k before n x) log (All-tail (λ (y : Turned). y.tick < tick_of e) x log b)
+    ∙ count_from loaded nest trace e k (before ++ x ∷ []) (called_next loaded nest trace k before n x) log
+    (All-tail (λ (y : Turned). y.tick < tick_of e) x log b)
 
 pub count_before : (loaded : Loaded) (nest : Nest) (trace : List Event) (e : Event) (log : List Turned) (k : Kind) → Below (tick_of e) log
     → called loaded nest (trace ++ e ∷ []) log k ≡ called loaded nest trace log k
@@ -68,7 +71,8 @@ steps_from loaded nest cost trace e before [] past b f = tt
 steps_from loaded nest cost trace e before (x ∷ log) past b f =
     let l : x.tick < tick_of e = All-head (λ (y : Turned). y.tick < tick_of e) x log b in (
       step_grows loaded nest cost trace e before x past l f.0,
-      steps_from loaded nest cost trace e (before ++ x ∷ []) log (All-push (λ (y : Turned). y.tick < tick_of e) before x past l) (All-tail (λ (y : Turned). y.tick < tick_of e) x log b) f.1,
+      steps_from loaded nest cost trace e (before ++ x ∷ []) log (All-push (λ (y : Turned). y.tick < tick_of e) before x past l)
+          (All-tail (λ (y : Turned). y.tick < tick_of e) x log b) f.1,
     )
 
 pub fits_grow : (loaded : Loaded) (nest : Nest) (cost : ℕ) (trace : List Event) (e : Event) (log : List Turned) → Below (tick_of e) log

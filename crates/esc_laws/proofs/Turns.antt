@@ -68,7 +68,8 @@ stood loaded nest cost trace next c b stack log l = record {
 -- a kind's count after a step at t
 abbrev pub counted_by : Loaded → Nest → List Event → ℕ → List Kind → List Kind → List Turned → Turned → Kind → ℕ
 counted_by loaded nest trace t stack stack' log e k =
-    wait_next nest k (is_waiting (sees trace (journal loaded log) t) stack k) (is_waiting (sees trace (journal loaded (log ++ e ∷ [])) t) stack' k) (Some e.kind)
+    wait_next nest k (is_waiting (sees trace (journal loaded log) t) stack k) (is_waiting (sees trace (journal loaded (log ++ e ∷ [])) t) stack' k)
+    (Some e.kind)
     (called loaded nest trace log k)
 
 -- what a step of a kind gives, by its log entry

@@ -184,7 +184,8 @@ pub event_later : (r : Runner) (e x : Event) (b' : Bank) (next' : ℕ) → r.lim
 event_later r e x b' next' at reached is bank put_off o now trace steps st =
     let small : r.limit.0 ≤ 1073741824 = r.limit_small in
     rw (is, bank, put_off)
-    (event_logged o.loaded r.machine.nest r.cost trace x r.next.0 r.machine.firmware (advanced r.regs r.limit.0) r.machine.open_kinds steps (rw (← is) (sym at)) st.bound.below
+    (event_logged o.loaded r.machine.nest r.cost trace x r.next.0 r.machine.firmware (advanced r.regs r.limit.0) r.machine.open_kinds steps
+    (rw (← is) (sym at)) st.bound.below
     (time_logged o.loaded r.machine.nest r.cost trace r.next.0 r.machine.firmware r.regs r.machine.open_kinds steps r.limit.0 r.before reached (omega arith)
     st.logged))
 

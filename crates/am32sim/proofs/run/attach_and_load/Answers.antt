@@ -6,5 +6,7 @@ use Rattle.am32sim.proofs.run.attach_and_load.Goals as goal
 
 pub returns-in-Ok-clause-loaded : goal.returns-in-Ok-clause-loaded
 returns-in-Ok-clause-loaded g c =
-    set_out (λ (path : Bor (List ℕ)). path.now) c.args.image (told g.F.FlashDev.bytes g.F.FlashDev.faults c.args.flash.now) (told g.F.FlashDev.bytes g.F.FlashDev.faults c.attach.new.self) (told g.F.FlashDev.bytes g.F.FlashDev.faults c.load.new.dev)
-    c.in-Ok.loaded c.attach.ensures.none c.in-Ok.ensures.loaded c.load.ensures.unchanged (let a = c.attach.ensures.no_fewer in let b = c.load.ensures.no_fewer in omega arith)
+    set_out (λ (path : Bor (List ℕ)). path.now) c.args.image (told g.F.FlashDev.bytes g.F.FlashDev.faults c.args.flash.now)
+    (told g.F.FlashDev.bytes g.F.FlashDev.faults c.attach.new.self) (told g.F.FlashDev.bytes g.F.FlashDev.faults c.load.new.dev)
+    c.in-Ok.loaded c.attach.ensures.none c.in-Ok.ensures.loaded c.load.ensures.unchanged
+    (let a = c.attach.ensures.no_fewer in let b = c.load.ensures.no_fewer in omega arith)

@@ -6,7 +6,9 @@ use Rattle.am32sim.proofs.run.run.Given as goal
 
 abbrev pub invariant-loop-event : goal.invariant-loop-event
 invariant-loop-event g l = record {
-  so_far : SoFar l.fn.cfg (record { loaded = l.fn.loaded; flash = told g.F.FlashDev.bytes g.F.FlashDev.faults l.fn.flash }) (told g.F.FlashDev.bytes g.F.FlashDev.faults l.flash) l.runner l.lines (g.S.Source.left l.fn.src) (g.S.Source.left l.src) (g.K.Sink.given l.fn.out) (g.K.Sink.given l.out);
+  so_far : SoFar l.fn.cfg (record { loaded = l.fn.loaded; flash = told g.F.FlashDev.bytes g.F.FlashDev.faults l.fn.flash })
+      (told g.F.FlashDev.bytes g.F.FlashDev.faults l.flash) l.runner l.lines (g.S.Source.left l.fn.src) (g.S.Source.left l.src) (g.K.Sink.given l.fn.out)
+      (g.K.Sink.given l.out);
   few : (place l.lines).line ≤ 16777216;
   src_faults : g.S.Source.faults l.fn.src ≤ g.S.Source.faults l.src;
   out_faults : g.K.Sink.faults l.fn.out ≤ g.K.Sink.faults l.out;

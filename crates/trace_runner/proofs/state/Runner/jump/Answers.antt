@@ -30,7 +30,8 @@ returns-clause-runs c = λ o now trace steps st.
     record {
       logged =
           rw c.advance.ensures.regs
-          (jump_logged o.loaded r.machine.nest r.cost trace r.machine.firmware r.regs r.machine.open_kinds steps (tick_of due) to.0 c.requires.idle c.next_due.ensures later small j.no_later
+          (jump_logged o.loaded r.machine.nest r.cost trace r.machine.firmware r.regs r.machine.open_kinds steps
+          (tick_of due) to.0 c.requires.idle c.next_due.ensures later small j.no_later
           (subst (λ (n : ℕ). Logged o.loaded r.machine.nest r.cost trace n r.machine.firmware r.regs r.machine.open_kinds steps) (sym now) st.logged));
       bound = st.bound;
       spaced = spaced_later r.cost r.next.0 to.0 steps past st.spaced;
