@@ -4,6 +4,7 @@
 #   frames      DShot600 frames of 32 edges, one every 4000 ticks (N is rounded down to whole frames): first 3100 with
 #               value 0, which arm the controller, then values through the throttle range
 #   comparator  comparator changes, one every 24 ticks, with no frame and no drive: almost nothing but reading
+#   idle        the last line alone, 1074 ticks for each of N, at most at tick 1073741824: the core's own steps and the journal
 lines=${1:-1000000}
 kind=${2:-frames}
 awk -v lines="$lines" -v kind="$kind" '
@@ -26,6 +27,10 @@ BEGIN {
     if (kind == "comparator") {
         for (k = 1; k <= lines; k++) print k * 24 " C " k % 2
         print lines * 24 + 24 " END"
+        exit
+    }
+    if (kind == "idle") {
+        print (lines * 1074 < 1073741824 ? lines * 1074 : 1073741824) " END"
         exit
     }
     frames = int(lines / 32)

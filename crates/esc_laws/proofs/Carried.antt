@@ -131,22 +131,22 @@ stays_shut : (x y : Bool) → x ≡ false → (not x && y) ≡ false → y ≡ f
 stays_shut true y e f = cc
 stays_shut false y e f = f
 
-none_before : (due : Option ℕ) (b : Bank) (k : Kind) (t u : ℕ) → IsNextDue b due → ((d : ℕ) → due ≡ Some d → t ≤ d) → b.time < u → u < t
+pub none_before : (due : Option ℕ) (b : Bank) (k : Kind) (t u : ℕ) → IsNextDue b due → ((d : ℕ) → due ≡ Some d → t ≤ d) → b.time < u → u < t
     → becomes_due b k u ≡ false
 none_before None b k t u is le from below = is k u from
 none_before (Some d) b k t u is le from below = is.none_before k u from (let m = le d refl in omega arith)
 
 -- while nothing is due nothing is seen due
-none_seen : (loaded : Loaded) (nest : Nest) (trace : List Event) (c : Brain) (b : Bank) (log : List Turned) (due : Option ℕ) (t u : ℕ) (k : Kind)
+none_seen : (loaded : Loaded) (nest : Nest) (trace : List Event) (c : Brain) (b : Bank) (log : List Turned) (t u : ℕ) (k : Kind)
     → Keeps c b [] → Ground (world loaded nest trace c b log) → ((j : Kind) → Tie j (world loaded nest trace c b log))
-    → highest (due_now c.orders.save_asked b) ≡ None → IsNextDue b due → ((d : ℕ) → due ≡ Some d → t ≤ d) → b.time ≤ u → u < t → t < 2147483648
-    → sees trace (journal loaded log) u k ≡ false
-none_seen loaded nest trace c b log due t u k keeps g ties none is le from below small = by_seen (sees trace (journal loaded log) u k) refl
+    → highest (due_now c.orders.save_asked b) ≡ None → ((j : Kind) (v : ℕ) → b.time < v → v < t → becomes_due b j v ≡ false) → b.time ≤ u → u < t
+    → t < 2147483648 → sees trace (journal loaded log) u k ≡ false
+none_seen loaded nest trace c b log t u k keeps g ties none quiet from below small = by_seen (sees trace (journal loaded log) u k) refl
   where
     shut_now : due_now c.orders.save_asked (advanced b u) k ≡ false
     shut_now = elim (cases_lt b.time u) [
       | inl later ↦ due_by_regs c.orders.save_asked b u k (highest_none (due_now c.orders.save_asked b) k none)
-          (λ e. stays_shut (is_due b k) (is_due (advanced b u) k) e (none_before due b k t u is le later below))
+          (λ e. stays_shut (is_due b k) (is_due (advanced b u) k) e (quiet k u later below))
       | inr not_later ↦ (let same : b.time ≡ u = omega arith in subst (λ (v : ℕ). due_now c.orders.save_asked (advanced b v) k ≡ false) same
           (subst (λ (x : Bank). due_now c.orders.save_asked x k ≡ false) (advanced-now b) (highest_none (due_now c.orders.save_asked b) k none)))
     ]
@@ -161,11 +161,10 @@ none_seen loaded nest trace c b log due t u k keeps g ties none is le from below
     by_seen false e = e
 
 -- nothing is due, and nothing becomes due before t
-pub jump_logged : (loaded : Loaded) (nest : Nest) (cost : ℕ) (trace : List Event) (c : Brain) (b : Bank) (stack : List Kind) (log : List Turned)
-    (due : Option ℕ) (t : ℕ)
-    → is_idle stack (due_now c.orders.save_asked b) ≡ true → IsNextDue b due → b.time ≤ t → t < 2147483648 → ((d : ℕ) → due ≡ Some d → t ≤ d)
-    → Logged loaded nest cost trace b.time c b stack log → Logged loaded nest cost trace t c (advanced b t) stack log
-jump_logged loaded nest cost trace c b stack log due t idle is later small le l =
+pub quiet_logged : (loaded : Loaded) (nest : Nest) (cost : ℕ) (trace : List Event) (c : Brain) (b : Bank) (stack : List Kind) (log : List Turned) (t : ℕ)
+    → is_idle stack (due_now c.orders.save_asked b) ≡ true → ((k : Kind) (u : ℕ) → b.time < u → u < t → becomes_due b k u ≡ false) → b.time ≤ t
+    → t < 2147483648 → Logged loaded nest cost trace b.time c b stack log → Logged loaded nest cost trace t c (advanced b t) stack log
+quiet_logged loaded nest cost trace c b stack log t idle quiet later small l =
     let rest = none_open stack (due_now c.orders.save_asked b) idle in
     let open_none : open_in loaded log ≡ [] = sym l.marks.stack_is ∙ rest.0 in
     let keeps : Keeps c b [] = subst (λ (st : List Kind). Keeps c b st) rest.0 l.keeps in
@@ -186,7 +185,7 @@ jump_logged loaded nest cost trace c b stack log due t idle is later small le l 
         open_step = λ o. absurd (o open_none);
         idle = λ o u from below f k. elim (cases_lt u b.time) [
           | inl early ↦ l.awaits.idle o u from early f k
-          | inr on ↦ none_seen loaded nest trace c b log due t u k keeps l.ground l.ties rest.1 is le on below small
+          | inr on ↦ none_seen loaded nest trace c b log t u k keeps l.ground l.ties rest.1 quiet on below small
         ];
       };
       time = omega arith;
@@ -194,6 +193,14 @@ jump_logged loaded nest cost trace c b stack log due t idle is later small le l 
       stalls = All-later stall_end trace b.time t later l.stalls;
       at_next = λ o. absurd (o rest.0);
     }
+
+-- the same by the next tick at which something becomes due
+pub jump_logged : (loaded : Loaded) (nest : Nest) (cost : ℕ) (trace : List Event) (c : Brain) (b : Bank) (stack : List Kind) (log : List Turned)
+    (due : Option ℕ) (t : ℕ)
+    → is_idle stack (due_now c.orders.save_asked b) ≡ true → IsNextDue b due → b.time ≤ t → t < 2147483648 → ((d : ℕ) → due ≡ Some d → t ≤ d)
+    → Logged loaded nest cost trace b.time c b stack log → Logged loaded nest cost trace t c (advanced b t) stack log
+jump_logged loaded nest cost trace c b stack log due t idle is later small le l =
+    quiet_logged loaded nest cost trace c b stack log t idle (λ k u from below. none_before due b k t u is le from below) later small l
 
 -- ---- an event
 

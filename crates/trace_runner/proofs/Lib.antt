@@ -1,3 +1,4 @@
+pub mod Quiet
 pub mod Written
 pub mod Goes
 pub mod Steps

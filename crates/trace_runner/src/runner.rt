@@ -1,10 +1,11 @@
 //! All steps before an event's tick, the lines of their notes, and then the event.
-ghost use Rattle.std.specs.Prelude.{◌≡◌, ◌<◌, ◌≤◌, ◌+◌, ◌++◌, ◌∷◌, [], List, OnOk, OnErr, true, false};
+ghost use Rattle.std.specs.Prelude.{◌≡◌, ◌<◌, ◌≤◌, ◌+◌, ◌++◌, ◌∷◌, [], ℕ, List, Some, OnOk, OnErr, true, false};
 ghost use Rattle.esc_base.specs.declared.event.Event.{Event as AnEvent};
 ghost use Rattle.esc_base.specs.Flash.{Told, told};
 ghost use Rattle.esc_base.specs.Outside.{Rose};
 ghost use Rattle.esc_base.specs.Trace.{tick_of as tick_of_event};
 ghost use Rattle.trace_text.specs.Ahead.{StallFits};
+ghost use Rattle.timer_regs.specs.NextDue.{tick_of as tick_of_due};
 ghost use Rattle.interrupt_machine.specs.Open.{due_now, is_idle};
 ghost use Rattle.esc_laws.specs.Steps.{Turned, journal};
 ghost use Rattle.esc_laws.specs.Legal.{Legal};
@@ -23,6 +24,16 @@ fn tick_of(e: Event) -> Tick
         Event::Comp { t, .. } => t,
         Event::Serial { t, .. } => t,
         Event::Stall { t, .. } => t,
+    }
+}
+
+/// The tick before which nothing becomes due.
+fn quiet_until(due: Option<Tick>) -> Tick
+    ensures { (d : ℕ) → tick_of_due due ≡ Some d → result.0 ≤ d }
+{
+    match due {
+        Some(due) => due,
+        None => Tick(u64::MAX),
     }
 }
 
@@ -116,6 +127,10 @@ impl Runner {
         ensures run { RunsOn K.given K.took K.broke K.faults self.old self.new (told D.bytes D.faults dev.old) (told D.bytes D.faults dev.new) result out.old out.new }
         ensures kept { Kept self.old self.new }
     {
+        if self.limit.0 <= self.quiet.0 {
+            self.wait();
+            return Ok(());
+        }
         self.pass();
         if self.machine.idle(&self.regs) {
             self.jump();
@@ -131,9 +146,23 @@ impl Runner {
         ensures now { self.new.regs.time ≡ self.new.next.0 }
         ensures runs { (o : Outset) (now : Told) (trace : List AnEvent) (steps : List Turned) → Runs self.old o now trace steps → Runs self.new o now trace steps }
         ensures next { self.new.next ≡ self.old.next }
+        ensures quiet { self.new.quiet ≡ self.old.quiet }
         ensures kept { Kept self.old self.new }
     {
         self.regs.advance(self.next);
+    }
+
+    /// Idle time goes on to the limit, before which nothing becomes due.
+    fn wait(&mut self)
+        requires below { self.old.next.0 < self.old.limit.0 }
+        requires quiet { self.old.limit.0 ≤ self.old.quiet.0 }
+        ensures later { self.old.next.0 < self.new.next.0 }
+        ensures runs { (o : Outset) (now : Told) (trace : List AnEvent) (steps : List Turned) → Runs self.old o now trace steps → Runs self.new o now trace steps }
+        ensures kept { Kept self.old self.new }
+    {
+        self.pass();
+        self.regs.advance(self.limit);
+        self.next = self.limit;
     }
 
     /// Time goes on to the tick at which a kind becomes due, or to the limit.
@@ -145,7 +174,9 @@ impl Runner {
         ensures runs { (o : Outset) (now : Told) (trace : List AnEvent) (steps : List Turned) → Runs self.old o now trace steps → Runs self.new o now trace steps }
         ensures kept { Kept self.old self.new }
     {
-        let to = match self.regs.next_due() {
+        let next_due = self.regs.next_due();
+        self.quiet = quiet_until(next_due);
+        let to = match next_due {
             Some(due) if due.0 < self.limit.0 => due,
             _ => self.limit,
         };
@@ -162,6 +193,7 @@ impl Runner {
         ensures run { RunsOn K.given K.took K.broke K.faults self.old self.new (told D.bytes D.faults dev.old) (told D.bytes D.faults dev.new) result out.old out.new }
         ensures kept { Kept self.old self.new }
     {
+        self.quiet = Tick(0);
         self.machine.step_into(&mut self.regs, dev, &mut self.notes);
         self.next = Tick(self.next.0 + self.cost as u64);
         put_notes(self.notes.as_slice(), out)
@@ -178,7 +210,10 @@ impl Runner {
     {
         self.regs.advance(self.limit);
         match e {
-            Event::Edge { level, .. } => self.regs.edge(level),
+            Event::Edge { level, .. } => {
+                self.regs.edge(level);
+                self.quiet = self.limit;
+            }
             Event::Comp { level, .. } => self.regs.comp(level),
             Event::Serial { byte, .. } => {
                 let _ = self.regs.serial(byte);

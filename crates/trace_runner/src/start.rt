@@ -53,6 +53,7 @@ impl Runner {
             cost: cfg.cost,
             next: Tick(0),
             limit: Tick(0),
+            quiet: Tick(0),
             fault: loaded.fault,
             notes: ArrayVec::new(),
         }

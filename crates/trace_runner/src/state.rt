@@ -1,6 +1,7 @@
 //! What a runner keeps between two calls.
 ghost use Rattle.std.specs.Prelude.{◌≡◌, ◌+◌, ◌<◌, ◌≤◌, true};
 ghost use Rattle.interrupt_machine.specs.Turn.{IsHeld};
+ghost use Rattle.trace_runner.specs.Quiet.{IsQuiet};
 
 use esc_base::{Failed, Tick};
 use esc_core::Core;
@@ -39,6 +40,8 @@ pub struct Runner {
     pub(crate) next: Tick,
     /// The tick of the newest event. All steps stand below it.
     pub(crate) limit: Tick,
+    /// Where `next` is below it, the core is idle, and nothing becomes due before it while only time goes on.
+    pub(crate) quiet: Tick,
     /// What was wrong with the settings' block, for the first line.
     pub(crate) fault: Option<BlockFault>,
     /// The notes of one step, kept here since a run makes millions of steps.
@@ -50,5 +53,6 @@ pub struct Runner {
     ghost cost_some: { 1 ≤ cost },
     ghost cost_most: { cost ≤ 16 },
     ghost limit_small: { limit.0 ≤ 1073741824 },
+    ghost waits: { next.0 < quiet.0 → IsQuiet machine.open_kinds machine.firmware.orders.save_asked regs quiet.0 },
     ghost next_small: { next.0 ≤ 1090519040 },
 }

@@ -18,7 +18,7 @@ use Rattle.trace_text.specs.declared.parse.Entry.{Entry}
 use Rattle.trace_text.specs.declared.parse.Entry.TheVariants as entry
 use Rattle.trace_text.specs.declared.reader.Lines.{Lines}
 use Rattle.trace_text.specs.Line.{said, after_event}
-use Rattle.trace_text.specs.Read.{Reading, Trace, Refused, with_event, read_from, read_line, Read, events_of, TakenEvents, start}
+use Rattle.trace_text.specs.Read.{Reading, Trace, Refused, with_event, read_from, Read, events_of, TakenEvents, start}
 use Rattle.trace_text.specs.Ahead.{unread, place, ahead, with_events, HasRead, NoEvent, ReadsAs, InTime, Follows, IfEvent, IfEnd, IfRefused, OnStop, IsOfLine, EntryFits, lines_looked_at, Says, next_line, Answers, AnswersWhole, NoLineFeed, IsLine}
 use Rattle.trace_text.proofs.Fields.{no_place}
 use Rattle.trace_text.proofs.Taking.{prepend_both}

@@ -5,6 +5,7 @@ pub mod Saying
 pub mod Cut
 pub mod Taking
 pub mod Answering
+pub mod AtOnce
 pub mod InTime
 pub mod NoteBack
 pub mod OneText

@@ -19,7 +19,8 @@ pub fn split_field(bytes: &[u8]) -> (&[u8], Option<&[u8]>)
     }
 }
 
-fn starts_plainly(digits: &[u8]) -> bool
+/// Whether there are digits, and no leading zero but in `0` itself.
+pub fn starts_plainly(digits: &[u8]) -> bool
     ensures { result ≡ has_plain_start digits.now }
 {
     match digits {

@@ -36,7 +36,7 @@ impl Held {
         ensures { unread result ≡ [] }
     {
         Held {
-            buffer: [0; 4096],
+            buffer: [0; 16384],
             at: 0,
             len: 0,
         }
@@ -84,6 +84,13 @@ impl Held {
             return Ok(true);
         }
         self.fill(src)
+    }
+
+    /// All bytes that are held.
+    pub fn all(&self) -> &[u8]
+        ensures { result.now ≡ unread self.now }
+    {
+        &self.buffer[self.at..self.len]
     }
 
     pub fn len(&self) -> usize

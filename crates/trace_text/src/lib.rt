@@ -12,6 +12,7 @@ mod note_line;
 mod note_parse;
 mod parse;
 mod piece;
+mod plain;
 mod reader;
 #[cfg(test)]
 mod tests;

@@ -1,4 +1,4 @@
-ghost use Rattle.std.specs.Prelude.{◌≡◌, ◌≤◌, ◌<◌, ◌+◌, ◌∷◌, ◌++◌, [], ℕ, List, Option, Some, None, IfOk, IfErr, Ok};
+ghost use Rattle.std.specs.Prelude.{◌≡◌, ◌≤◌, ◌<◌, ◌+◌, ◌∷◌, ◌++◌, [], ℕ, List, Option, Some, None, IfSome, IfNone, IfOk, IfErr, Ok};
 ghost use Rattle.std.specs.Io.KnownBytes.{prepend_known};
 ghost use Rattle.esc_base.specs.Outside.{Rose};
 ghost use Rattle.esc_base.specs.declared.event.Event.{Event as AnEvent};
@@ -7,11 +7,12 @@ ghost use Rattle.trace_text.specs.Read.{Read, Trace, TakenEvents};
 ghost use Rattle.trace_text.specs.Read.{Refused as IsRefused};
 ghost use Rattle.trace_text.specs.Ahead.{unread, place, ahead, HasRead, NoEvent, Follows, InTime, IfEvent, IfEnd, OnFault, OnStop, IfRefused, lines_looked_at, IsLine, NoLineFeed, next_line, Answers, AnswersWhole, SourceEnded};
 ghost use Rattle.trace_text.specs.declared.parse.Entry.TheVariants.{End as IsEnd};
+ghost use Rattle.trace_text.specs.declared.item.Item.TheVariants.{Event as IsEvent};
 
 use crate::parse::Entry;
 use crate::piece::Held;
 use crate::{Item, Lines, Place, Refusal};
-use esc_base::{Source, Tick};
+use esc_base::{Event, Source, Tick};
 
 /// The most bytes of a line, without its line feed.
 const LONGEST_LINE: usize = 40;
@@ -137,6 +138,18 @@ impl Lines {
         }
     }
 
+    /// Reads the next line, where it is held whole and is plain.
+    fn read_plain(&mut self) -> Option<Event>
+        requires few { (place self.old).line < 16777216 }
+        ensures answers { IfSome result (λ e. (left : Option (List ℕ)) → Answers (place self.old) (ahead self.old.held left) (IsEvent e) (place self.new) (ahead self.new.held left)) }
+        ensures kept { IfNone result (self.new ≡ self.old) }
+    {
+        let (event, len) = self.place.plain_event(self.held.all())?;
+        self.held.skip(len + 1);
+        self.place = self.place.after(&event);
+        Some(event)
+    }
+
     /// The next line's event, the end of the trace, or why there is none. After `End`, `Fault` or `Refused` the
     /// reader isn't called again.
     pub fn next<S: Source>(&mut self, src: &mut S) -> Item
@@ -164,6 +177,9 @@ impl Lines {
     {
         if self.place.line == MOST_LINES {
             return self.past_last(src);
+        }
+        if let Some(event) = self.read_plain() {
+            return Item::Event(event);
         }
         match self.find_line(src) {
             Ok(n) => self.read_line(n, src),

@@ -8,7 +8,7 @@ use crate::{Place, Refusal};
 use esc_base::{Event, Tick};
 
 /// The greatest time of a trace, in ticks of 48 MHz.
-const LAST_TICK: u64 = 1073741824;
+pub const LAST_TICK: u64 = 1073741824;
 
 /// The shortest distance of two serial bytes, in ticks.
 const SERIAL_GAP: u64 = 20000;

@@ -3,9 +3,9 @@ ghost use Rattle.std.specs.Prelude.{◌≤◌};
 /// Bytes that the source gave; those from `at` to `len` haven't been read.
 #[derive(Drop)]
 pub struct Held {
-    pub buffer: [u8; 4096],
+    pub buffer: [u8; 16384],
     pub at: usize,
     pub len: usize,
     ghost within: { at ≤ len },
-    ghost fits: { len ≤ 4096 },
+    ghost fits: { len ≤ 16384 },
 }

@@ -4,6 +4,7 @@ ghost use Rattle.arrayvec.specs.ArrayString.{array_string_len};
 ghost use Rattle.trace_text.specs.Text.{spaced, hex, bits};
 
 use arrayvec::ArrayString;
+use itoa::Buffer;
 
 /// A line with its line feed.
 pub type Line = ArrayString<64>;
@@ -19,27 +20,18 @@ pub fn push_byte(line: &mut Line, byte: u8)
     line.push(byte as char);
 }
 
-#[tactic(auto, using(std::proofs::lemmas::Fmt::decimal_step, std::proofs::lemmas::Fmt::decimal_digit, crate::proofs::Digits::length_decimal_step))]
-fn push_digits(line: &mut Line, n: u32)
-    requires { array_string_len line.old + length (decimal n) ≤ 64 }
-    ensures { line.new.bytes ≡ line.old.bytes ++ decimal n }
-{
-    if n < 10 {
-        push_byte(line, b'0' + n as u8);
-    } else {
-        push_digits(line, n / 10);
-        push_byte(line, b'0' + (n % 10) as u8);
-    }
-}
-
 /// Appends a number in decimal, at most ten digits.
-#[tactic(auto, using(crate::proofs::Digits::length_decimal_most))]
+#[tactic(auto, using(std::proofs::lemmas::Fmt::decimal_digit, crate::proofs::Digits::length_decimal_most))]
 pub fn push_number(line: &mut Line, n: u32)
     requires { array_string_len line.old + 10 ≤ 64 }
     ensures bytes { line.new.bytes ≡ line.old.bytes ++ decimal n }
     ensures len { array_string_len line.new ≤ array_string_len line.old + 10 }
 {
-    push_digits(line, n);
+    if n < 10 {
+        push_byte(line, b'0' + n as u8);
+    } else {
+        line.push_str(Buffer::new().format(n));
+    }
 }
 
 /// Appends numbers, each behind a space.

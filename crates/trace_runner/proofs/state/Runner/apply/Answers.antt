@@ -1,4 +1,4 @@
-use Rattle.std.proofs.Common.{◌≡◌, ◌≤◌, max, refl, ◌∙◌, ap, subst, arith, ◌+◌}
+use Rattle.std.proofs.Common.{◌≡◌, ◌≤◌, ◌<◌, max, refl, ◌∙◌, ap, subst, arith, ◌+◌}
 use Rattle.esc_base.specs.declared.event.Event.{Event}
 use Rattle.esc_base.specs.declared.event.Event.TheVariants as event
 use Rattle.esc_base.specs.Trace.{tick_of}
@@ -6,7 +6,31 @@ use Rattle.timer_regs.specs.Bank.{Bank}
 use Rattle.timer_regs.specs.Effects.{after_line}
 use Rattle.trace_runner.specs.declared.state.Runner.{Runner}
 use Rattle.trace_runner.proofs.Steps.{event_later, stall_max, spaced_later}
+use Rattle.trace_runner.proofs.Quiet.{quiet_later}
 use Rattle.trace_runner.proofs.state.Runner.apply.Goals as goal
+
+pub invariant_of-self-in-Comp-clause-waits : goal.invariant_of-self-in-Comp-clause-waits
+invariant_of-self-in-Comp-clause-waits c = λ below.
+    let r : Runner = c.args.self.now in
+    let reached : r.limit.0 ≤ r.next.0 = c.requires.reached in
+    let soon : r.limit.0 < r.quiet.0 = omega arith in
+    rw (c.comp.ensures, c.advance.ensures.regs) (quiet_later r.machine.open_kinds r.machine.firmware.orders.save_asked r.regs r.quiet.0 r.limit.0 r.before soon (r.waits below))
+
+pub invariant_of-self-in-Serial-clause-waits : goal.invariant_of-self-in-Serial-clause-waits
+invariant_of-self-in-Serial-clause-waits c = λ below.
+    let r : Runner = c.args.self.now in
+    let reached : r.limit.0 ≤ r.next.0 = c.requires.reached in
+    let soon : r.limit.0 < r.quiet.0 = omega arith in
+    rw (c.serial.ensures.same, c.advance.ensures.regs) (quiet_later r.machine.open_kinds r.machine.firmware.orders.save_asked r.regs r.quiet.0 r.limit.0 r.before soon (r.waits below))
+
+pub invariant_of-self-in-Stall-clause-waits : goal.invariant_of-self-in-Stall-clause-waits
+invariant_of-self-in-Stall-clause-waits c = λ below.
+    let r : Runner = c.args.self.now in
+    let m : c.max.result ≡ max r.next.0 (c.in-Stall.t.0 + c.in-Stall.n) = c.max.ensures in
+    let reached : r.limit.0 ≤ r.next.0 = c.requires.reached in
+    let soon : r.limit.0 < r.quiet.0 = omega arith in
+    let before : r.next.0 < r.quiet.0 = omega arith in
+    rw c.advance.ensures.regs (quiet_later r.machine.open_kinds r.machine.firmware.orders.save_asked r.regs r.quiet.0 r.limit.0 r.before soon (r.waits before))
 
 pub returns-in-Edge-clause-runs : goal.returns-in-Edge-clause-runs
 returns-in-Edge-clause-runs c = λ o now trace steps st.

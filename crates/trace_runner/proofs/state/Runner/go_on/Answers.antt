@@ -4,6 +4,16 @@ use Rattle.trace_runner.specs.Run.{Runs}
 use Rattle.trace_runner.proofs.Goes.{goes_none, runs_from}
 use Rattle.trace_runner.proofs.state.Runner.go_on.Goals as goal
 
+pub returns-then-self-clause-run : goal.returns-then-self-clause-run
+returns-then-self-clause-run g c =
+    let flash : Told = told g.D.FlashDev.bytes g.D.FlashDev.faults c.args.dev.now in
+    record {
+      goes = λ o. goes_none g.K.Sink.given g.K.Sink.took (Runs c.args.self.now o flash) (Runs c.wait.new.self o flash) _ (λ trace steps st. c.wait.ensures.runs o flash trace steps st);
+      breaks = tt;
+      failed = tt;
+      no_fewer = omega arith;
+    }
+
 pub returns-then-idle-clause-run : goal.returns-then-idle-clause-run
 returns-then-idle-clause-run g c =
     let flash : Told = told g.D.FlashDev.bytes g.D.FlashDev.faults c.args.dev.now in
