@@ -10,7 +10,7 @@ use crate::WriteFault;
 use esc_base::{Note, Sink};
 use trace_text::note_text;
 
-pub(crate) fn put_notes<K: Sink>(notes: &[Note], out: &mut K) -> Result<(), WriteFault>
+fn put_all<K: Sink>(notes: &[Note], out: &mut K) -> Result<(), WriteFault>
     requires { All InRange notes.now }
     ensures took { OnOk result (TookLines K.took out.old notes.now out.new) }
     ensures given { OnOk result (K.given out.new ≡ append_known (K.given out.old) (Text notes.now)) }
@@ -23,4 +23,19 @@ pub(crate) fn put_notes<K: Sink>(notes: &[Note], out: &mut K) -> Result<(), Writ
         out.put(line.as_str().as_bytes())?;
     }
     Ok(())
+}
+
+/// Most steps have no note, and then nothing is made ready for a line.
+pub(crate) fn put_notes<K: Sink>(notes: &[Note], out: &mut K) -> Result<(), WriteFault>
+    requires { All InRange notes.now }
+    ensures took { OnOk result (TookLines K.took out.old notes.now out.new) }
+    ensures given { OnOk result (K.given out.new ≡ append_known (K.given out.old) (Text notes.now)) }
+    ensures broke { OnErr result (BrokeLines K.given K.took K.broke out.old notes.now out.new) }
+    ensures no_fewer { K.faults out.old ≤ K.faults out.new }
+    ensures failed { OnErr result (Rose (K.faults out.old) (K.faults out.new)) }
+{
+    if notes.is_empty() {
+        return Ok(());
+    }
+    put_all(notes, out)
 }

@@ -2,7 +2,7 @@ use Rattle.std.proofs.Common.{◌∙◌, ◌<◌, ℕ, List, length, arith}
 use Rattle.esc_base.specs.declared.note.Note.{Note}
 use Rattle.esc_base.specs.declared.note.Note.TheVariants.{Up}
 use Rattle.trace_runner.proofs.Written.{lines_more, given_more, broke_at, on_err}
-use Rattle.trace_runner.proofs.lines.put_notes.Goals as goal
+use Rattle.trace_runner.proofs.lines.put_all.Goals as goal
 
 abbrev blank : Note
 blank = Up (record { 0 = 0 }) 0

@@ -2,7 +2,7 @@ use Rattle.std.proofs.Common.{◌≡◌, ◌≤◌, take}
 use Rattle.std.specs.Io.KnownBytes.{append_known}
 use Rattle.trace_text.specs.Text.{Text}
 use Rattle.trace_runner.specs.Lines.{TookLines}
-use Rattle.trace_runner.proofs.lines.put_notes.Given as goal
+use Rattle.trace_runner.proofs.lines.put_all.Given as goal
 
 abbrev pub invariant-loop-note : goal.invariant-loop-note
 invariant-loop-note g l = record {
