@@ -70,11 +70,13 @@ not_both : (a b : Bool) → a ≡ true → (a && b) ≡ false → b ≡ false
 not_both true b t e = e
 not_both false b t e = absurd (let f = t in cc)
 
-pub handed_heard : (w : Window) (handed : List Edge) (e : Edge) → IsHanded w handed → window_hears w e ≡ true → IsHanded (record w { edges = w.edges ++ e ∷ [] }) (handed ++ e ∷ [])
+pub handed_heard : (w : Window) (handed : List Edge) (e : Edge) → IsHanded w handed → window_hears w e ≡ true
+    → IsHanded (record w { edges = w.edges ++ e ∷ [] }) (handed ++ e ∷ [])
 handed_heard w handed e h t = record {
   armed = h.armed;
   burst_is =
-      let y : hears w.mode w.opened (burst handed w.opened w.mode) e ≡ true = subst (λ (x : List Edge). hears w.mode w.opened x e ≡ true) h.burst_is (both w.armed _ t) in
+      let y : hears w.mode w.opened (burst handed w.opened w.mode) e ≡ true =
+      subst (λ (x : List Edge). hears w.mode w.opened x e ≡ true) h.burst_is (both w.armed _ t) in
       rw (burst-push handed e w.opened w.mode, y, ← h.burst_is) refl;
 }
 
@@ -82,13 +84,16 @@ pub handed_deaf : (w : Window) (handed : List Edge) (e : Edge) → IsHanded w ha
 handed_deaf w handed e h f = record {
   armed = h.armed;
   burst_is =
-      let n : hears w.mode w.opened (burst handed w.opened w.mode) e ≡ false = subst (λ (x : List Edge). hears w.mode w.opened x e ≡ false) h.burst_is (not_both w.armed _ h.armed f) in
+      let n : hears w.mode w.opened (burst handed w.opened w.mode) e ≡ false =
+      subst (λ (x : List Edge). hears w.mode w.opened x e ≡ false) h.burst_is (not_both w.armed _ h.armed f) in
       rw (burst-push handed e w.opened w.mode, n) h.burst_is;
 }
 
 -- once it is closed no edge changes it
-pub handed_settled : (w : Window) (handed : List Edge) (e : Edge) (t : ℕ) → IsHanded w handed → window_closed w t ≡ true → t ≤ e.t.0 → IsHanded w (handed ++ e ∷ [])
-handed_settled w handed e t h c le = handed_deaf w handed e h (unheard w.armed _ (deaf w.mode w.opened w.edges e (closed_later w.mode w.edges t e.t.0 le (both w.armed _ c)))) where
-  unheard : (a b : Bool) → b ≡ false → (a && b) ≡ false
-  unheard true b e = e
-  unheard false b e = refl
+pub handed_settled : (w : Window) (handed : List Edge) (e : Edge) (t : ℕ) → IsHanded w handed → window_closed w t ≡ true → t ≤ e.t.0
+    → IsHanded w (handed ++ e ∷ [])
+handed_settled w handed e t h c le =
+    handed_deaf w handed e h (unheard w.armed _ (deaf w.mode w.opened w.edges e (closed_later w.mode w.edges t e.t.0 le (both w.armed _ c)))) where
+      unheard : (a b : Bool) → b ≡ false → (a && b) ≡ false
+      unheard true b e = e
+      unheard false b e = refl

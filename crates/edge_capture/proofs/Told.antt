@@ -25,12 +25,15 @@ turns_deaf w t false true h f = absurd (or_true (nat_le t w) f) where
   or_true false e = cc
 turns_deaf w t false false h f = absurd (let x : w < t = grind (arith, nat_tests) in grind (arith, nat_tests))
 
-told_at : (x y : Bool) (m : Mode) (w : ℕ) (heard : List Edge) (e : Edge) (edges : List Edge) → hears m w heard e ≡ x → is_left_out m w heard e ≡ y → Rising e.t.0 edges
+told_at : (x y : Bool) (m : Mode) (w : ℕ) (heard : List Edge) (e : Edge) (edges : List Edge) → hears m w heard e ≡ x → is_left_out m w heard e ≡ y
+    → Rising e.t.0 edges
     → ((h : List Edge) → fold (hear m w) h edges ≡ until_deaf m w h edges)
-    → fold (hear m w) (if x then heard ++ e ∷ [] else heard) edges ≡ (if x then until_deaf m w (heard ++ e ∷ []) edges else (if y then until_deaf m w heard edges else heard))
+    → fold (hear m w) (if x then heard ++ e ∷ [] else heard) edges
+    ≡ (if x then until_deaf m w (heard ++ e ∷ []) edges else (if y then until_deaf m w heard edges else heard))
 told_at true y m w heard e edges hx hy r ih = ih (heard ++ e ∷ [])
 told_at false true m w heard e edges hx hy r ih = ih heard
-told_at false false m w heard e edges hx hy r ih = deaf_stays m w heard edges e.t.0 (turns_deaf w e.t.0 (is_closed m heard e.t.0) (comes_early m heard e) hx hy) r
+told_at false false m w heard e edges hx hy r ih =
+    deaf_stays m w heard edges e.t.0 (turns_deaf w e.t.0 (is_closed m heard e.t.0) (comes_early m heard e) hx hy) r
 
 told_from : (m : Mode) (w t : ℕ) (edges : List Edge) → Rising t edges → (heard : List Edge) → fold (hear m w) heard edges ≡ until_deaf m w heard edges
 told_from m w t [] r heard = refl

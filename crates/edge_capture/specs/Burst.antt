@@ -16,7 +16,7 @@ wait m heard = if nat_le (most m) (length heard) then 0 else limit m heard
 abbrev pub close_of : Mode → List Edge → Option ℕ
 close_of m heard = if length heard == 0 then None else Some (last_at heard + wait m heard)
 
--- it is closed at t
+-- a window of this mode that has heard these edges is closed at t
 abbrev pub is_closed : Mode → List Edge → ℕ → Bool
 is_closed m heard t = not (length heard == 0) && nat_le (last_at heard + wait m heard) t
 

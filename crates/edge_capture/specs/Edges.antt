@@ -16,6 +16,6 @@ last_at edges = (edge_at edges (length edges - 1)).t.0
 abbrev pub last_rose : List Edge → Bool
 last_rose edges = (edge_at edges (length edges - 1)).level
 
--- the ticks don't fall
+-- the edges' ticks don't fall
 abbrev pub IsInOrder : List Edge → Type 0
 IsInOrder edges = (i j : ℕ) → i ≤ j → j < length edges → (edge_at edges i).t.0 ≤ (edge_at edges j).t.0

@@ -15,7 +15,9 @@ use std::marker::Model;
 /// Whether a window hears an edge.
 #[derive(Clone, Copy, Debug, PartialEq, Eq, Drop)]
 pub enum Heard {
+    /// The edge is one more of the window's burst.
     Taken,
+    /// The edge changes nothing of the window.
     Unheard,
 }
 
@@ -96,7 +98,7 @@ impl Capture {
         }
     }
 
-    /// Opens a window in a mode, with no edges. It hears edges at later ticks than `at`.
+    /// Opens a window in a mode at the tick `at`, with no edges. It hears only edges after that tick.
     pub fn arm(&mut self, mode: Mode, at: Tick)
         ensures window { self.new ≡ opened_in mode at.0 }
         ensures burst { (handed : List Edge) → All (λ e. e.t.0 ≤ at.0) handed → IsHanded self.new handed }
@@ -108,7 +110,7 @@ impl Capture {
         self.closes = None;
     }
 
-    /// The line changes to a level. Ticks that are handed in don't fall.
+    /// The signal line changes to a level at tick `t`, below 2^31 and not before the last heard edge.
     pub fn edge(&mut self, t: Tick, level: bool) -> Heard
         requires small { t.0 < 2 ^ 31 }
         requires later { last_at self.old.edges ≤ t.0 }
