@@ -5,7 +5,7 @@ ghost use Rattle.gcr_reply.specs.Reply.{check_of};
 // The greatest mantissa, of nine bits.
 const MANTISSA_MAX: u32 = 511;
 
-// The shortest period whose twelve bits would be those of no period.
+// The shortest period, in microseconds, whose twelve bits would be those of no period.
 const TOO_LONG: u32 = 65408;
 
 // The twelve bits that tell no period.
