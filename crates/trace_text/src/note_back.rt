@@ -40,7 +40,7 @@ fn candidate(bytes: &[u8]) -> Option<Note>
     note(letter[0], Tick(u64::from(t)), a, b, c)
 }
 
-/// The note in range that has this line, with its line feed; None exactly where no note in range has it.
+/// The note in range whose line this is, with its line feed; `None` exactly where it is the line of no note in range.
 pub fn note_read(bytes: &[u8]) -> Option<Note>
     ensures found { IfSome result (λ n. InRange n × (note_bytes n ≡ bytes.now)) }
     ensures every { (n : ANote) → InRange n → note_bytes n ≡ bytes.now → result ≡ Some n }
