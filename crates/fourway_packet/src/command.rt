@@ -95,7 +95,7 @@ impl Command {
         matches!(self, Command::Reset | Command::InitFlash)
     }
 
-    /// Whether it is locked: no session begins while armed, and the flash is only for a session while not armed.
+    /// Whether it is locked: no session begins while armed, and flash commands need a session, while not armed.
     pub(crate) fn is_locked(self, is_active: bool, is_armed: bool) -> bool
         ensures { result ≡ is_locked self is_active is_armed }
     {
@@ -140,7 +140,7 @@ impl Command {
         }
     }
 
-    /// Whether the session is active behind it.
+    /// Whether the session is active after it.
     pub(crate) fn session_after(self, is_active: bool) -> bool
         ensures { result ≡ session_after self is_active }
     {

@@ -9,7 +9,7 @@ use crate::{Ack, Command, Params};
 use esc_base::{Block48, FlashDev};
 use settings_block::{Settings, read_block, save};
 
-/// Reads so many bytes from an address on.
+/// Reads `count` bytes from an address on.
 pub(crate) fn read<D: FlashDev>(at: u16, count: usize, dev: &mut D) -> Result<Params, Ack>
     requires some { 0 < count }
     requires most { count ≤ 256 }
@@ -61,7 +61,7 @@ pub(crate) fn save_block<D: FlashDev>(bytes: &[u8], dev: &mut D) -> Result<Param
     }
 }
 
-/// The settings of 48 bytes that are a valid block.
+/// The settings of these bytes, if they are a block of 48 without a fault.
 pub(crate) fn settings_in(bytes: &[u8]) -> Option<Settings>
     ensures settings { result ≡ settings_of bytes.now }
     ensures block { IfSome result (λ s. block_of s ≡ bytes.now) }
