@@ -41,7 +41,7 @@ pub trait Firmware: Drop {
     /// Whether MAIN is due.
     ghost waits: { Self → Bool };
 
-    /// Opens an activation of this kind, and leaves what is left to the others.
+    /// Opens an activation of this kind; those of the other kinds keep their own steps.
     fn enter(&mut self, kind: Kind)
         ensures came { came self.old kind self.new }
         ensures some { 1 ≤ left self.new kind }

@@ -23,8 +23,8 @@ pub type Notes = ArrayVec<Note, 6>;
 ///
 /// A due kind that isn't open waits a bounded time: it is entered after at most 8 masked steps and one further step,
 /// not counting entries and steps of higher kinds. With `Nest::One` only MAIN's own steps count, since an open handler
-/// above MAIN goes on to its return before any kind enters. `response` of a step and of passing time promises this along
-/// any log: `new` begins one, and each step, and each time that passes, adds to it what was open and due before and after.
+/// above MAIN goes on to its return before any kind enters. The clauses `response` promise this for a log of what happened:
+/// `new` begins one, and each step, and each time that passes, adds to it what was open and due before and after.
 #[derive(Drop)]
 pub struct Machine<F: Firmware> {
     firmware: F,
@@ -122,13 +122,12 @@ impl<F: Firmware> Machine<F> {
         self.stack.depth() == 0 && self.due(regs).is_none()
     }
 
-    /// One step of the machine, at now, and its notes. The machine isn't idle. Where the mask is up, a handler is open
-    /// and the firmware's `hold` isn't 0, and this is so again after the step.
+    /// One step of the machine, at now, and its notes, at most six. The machine must not be idle. Where the mask is up, a
+    /// handler is open and the firmware's `hold` isn't 0, and this is so again after the step.
     ///
     /// Where the mask is down and the highest due kind may enter, it is entered, with an I note, and the flash stays as it
-    /// is. Else the innermost open
-    /// handler makes a step of its own, with at most one access: a G note where the gates changed, then the handler's
-    /// own notes, then an O note where it was the return.
+    /// is. Else the innermost open handler makes a step of its own, with at most one access: a G note where the gates
+    /// changed, then the handler's own notes, then an O note where it was the return.
     pub fn step<D: FlashDev>(&mut self, regs: &mut Regs, dev: &mut D) -> Notes
         requires busy { is_idle self.old.open_kinds (due_now (F.waits self.old.firmware) regs.old) ≡ false }
         requires mask { regs.old.masked ≡ true → IsHeld (F.hold self.old.firmware) self.old.open_kinds }
@@ -159,8 +158,9 @@ impl<F: Firmware> Machine<F> {
         requires later { regs.old.time ≤ to.0 }
         requires small { to.0 < 2 ^ 31 }
         ensures regs { regs.new ≡ advanced regs.old to.0 }
-        ensures response { (log : List Moment) → Responds self.now.nest (F.hold self.now.firmware) regs.old.masked self.now.open_kinds (due_now (F.waits self.now.firmware) regs.old) log
-            → Responds self.now.nest (F.hold self.now.firmware) regs.new.masked self.now.open_kinds (due_now (F.waits self.now.firmware) regs.new)
+        ensures response { (log : List Moment) →
+            Responds self.now.nest (F.hold self.now.firmware) regs.old.masked self.now.open_kinds (due_now (F.waits self.now.firmware) regs.old) log →
+            Responds self.now.nest (F.hold self.now.firmware) regs.new.masked self.now.open_kinds (due_now (F.waits self.now.firmware) regs.new)
             (log ++ Passed self.now.open_kinds (due_now (F.waits self.now.firmware) regs.old) (due_now (F.waits self.now.firmware) regs.new) ∷ []) }
     {
         regs.advance(to);
@@ -168,7 +168,8 @@ impl<F: Firmware> Machine<F> {
 
     /// The kind that enters now, if one does.
     fn entry(&self, regs: &Regs) -> Option<Kind>
-        ensures entry { result ≡ (if regs.now.masked then None else next_entry self.now.nest self.now.open_kinds (due_now (F.waits self.now.firmware) regs.now)) }
+        ensures entry { result ≡ (if regs.now.masked then None
+            else next_entry self.now.nest self.now.open_kinds (due_now (F.waits self.now.firmware) regs.now)) }
     {
         if regs.masked() {
             return None;
