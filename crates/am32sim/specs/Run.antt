@@ -111,7 +111,8 @@ RanFrom cfg o now status.ReadFault left_before left_after before after = IsReadF
 RanFrom cfg o now status.WriteFault left_before left_after before after = IsWriteFault cfg o now left_before left_after before after
 RanFrom cfg o now s left_before left_after before after = ⊥
 
-pub record HasRun (cfg : RunConfig) (image : Option (List ℕ)) (flash now : Told) (s : Status) (left_before left_after before after : Option (List ℕ)) : Type 0 where
+pub record HasRun (cfg : RunConfig) (image : Option (List ℕ)) (flash now : Told) (s : Status)
+    (left_before left_after before after : Option (List ℕ)) : Type 0 where
   pub outset : Outset
   pub begins : IsOutset image flash outset
   pub ran : RanFrom cfg outset now s left_before left_after before after

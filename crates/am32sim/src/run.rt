@@ -29,11 +29,13 @@ fn run<S: Source, K: Sink, F: FlashDev>(
 ) -> Result<Status, WriteFault>
     requires some { 1 ≤ cfg.cost }
     requires most { cfg.cost ≤ 16 }
-    ensures ok { IfOk result (λ s. RanFrom cfg (record { loaded = loaded; flash = F.told flash.old }) (F.told flash.new) s (S.left src.old) (S.left src.new) (K.given out.old) (K.given out.new)) }
+    ensures ok { IfOk result (λ s. RanFrom cfg (record { loaded = loaded; flash = F.told flash.old }) (F.told flash.new) s (S.left src.old) (S.left src.new)
+        (K.given out.old) (K.given out.new)) }
     ensures read_fault { IfOk result (λ s. OnReadFault s (Rose (S.faults src.old) (S.faults src.new))) }
     ensures no_end { IfOk result (λ s. OnNoEnd s (IsAtEnd (S.left src.new))) }
     ensures taken { IfOk result (λ s. OnWriteFault s (Rose (K.faults out.old) (K.faults out.new))) }
-    ensures err { OnErr result (IsWriteFault cfg (record { loaded = loaded; flash = F.told flash.old }) (F.told flash.new) (S.left src.old) (S.left src.new) (K.given out.old) (K.given out.new)) }
+    ensures err { OnErr result (IsWriteFault cfg (record { loaded = loaded; flash = F.told flash.old }) (F.told flash.new) (S.left src.old) (S.left src.new)
+        (K.given out.old) (K.given out.new)) }
     ensures write_fault { OnErr result (Rose (K.faults out.old) (K.faults out.new)) }
 {
     let mut runner = Runner::start(cfg, loaded);
@@ -57,7 +59,8 @@ fn run<S: Source, K: Sink, F: FlashDev>(
 
 /// Attaches the flash and loads the settings from it. `None` where either failed, and then it goes no further.
 fn attach_and_load<F: FlashDev>(flash: &mut F, image: Option<&str>) -> Option<Loaded>
-    ensures loaded { IfSome result (λ loaded. IsOutset (option_map (λ path. path.now) image.entry) (F.told flash.old) (record { loaded = loaded; flash = F.told flash.new })) }
+    ensures loaded { IfSome result (λ loaded. IsOutset (option_map (λ path. path.now) image.entry) (F.told flash.old)
+        (record { loaded = loaded; flash = F.told flash.new })) }
     ensures bound { IfSome result (λ _. F.binds flash.old (option_map (λ path. path.now) image.entry)) }
     ensures failed { IsNone result → Rose (F.told flash.old).faults (F.told flash.new).faults }
     ensures kept { IsNone result → IsNone image.entry → (F.told flash.new).bytes ≡ (F.told flash.old).bytes }
@@ -87,8 +90,10 @@ pub fn sim_main<S: Source, K: Sink, F: FlashDev>(
     // What was read and written, by the status, and what the flash holds then, where source, sink and flash tell their
     // bytes. At a read and a write fault the events read are those of the whole lines among the bytes that were taken. Nothing
     // goes on where the flash didn't bind the image.
-    ensures ran { (a : Wanted) → asked words.now ≡ Some a → a.command ≡ IsRun → Ran a result (F.told flash.old) (F.told flash.new) (S.left src.old) (S.left src.new) (K.given out.old) (K.given out.new) }
-    ensures shown { (a : Wanted) → asked words.now ≡ Some a → a.command ≡ IsShow → Shown a result (F.told flash.old) (F.told flash.new) (K.given out.old) (K.given out.new) }
+    ensures ran { (a : Wanted) → asked words.now ≡ Some a → a.command ≡ IsRun
+        → Ran a result (F.told flash.old) (F.told flash.new) (S.left src.old) (S.left src.new) (K.given out.old) (K.given out.new) }
+    ensures shown { (a : Wanted) → asked words.now ≡ Some a → a.command ≡ IsShow
+        → Shown a result (F.told flash.old) (F.told flash.new) (K.given out.old) (K.given out.new) }
     ensures attached { (a : Wanted) → asked words.now ≡ Some a → OnAttached result (F.binds flash.old (image_of a)) }
     ensures show_reads_nothing { (a : Wanted) → asked words.now ≡ Some a → a.command ≡ IsShow → src.new ≡ src.old }
 
@@ -97,8 +102,10 @@ pub fn sim_main<S: Source, K: Sink, F: FlashDev>(
     ensures write_fault { OnWriteFault result (Rose (K.faults out.old) (K.faults out.new)) }
     ensures attach_fault { OnAttachFault result (Rose (F.told flash.old).faults (F.told flash.new).faults) }
     ensures unread { OnAttachFault result ((src.new ≡ src.old) × (out.new ≡ out.old)) }
-    ensures done { (a : Wanted) → asked words.now ≡ Some a → a.command ≡ IsRun → (text : List ℕ) (trace : List AnEvent) (end : ℕ) → S.left src.old ≡ Some text → Read text ≡ Trace trace end → IsFault result ⊎ (result ≡ Status.Done) }
-    ensures refused { (a : Wanted) → asked words.now ≡ Some a → a.command ≡ IsRun → (text : List ℕ) (trace : List AnEvent) (line : ℕ) (kind : ARefusal) → S.left src.old ≡ Some text → Read text ≡ RefusedBy trace line kind → IsFault result ⊎ (result ≡ Status.Refused line kind) }
+    ensures done { (a : Wanted) → asked words.now ≡ Some a → a.command ≡ IsRun → (text : List ℕ) (trace : List AnEvent) (end : ℕ) → S.left src.old ≡ Some text
+        → Read text ≡ Trace trace end → IsFault result ⊎ (result ≡ Status.Done) }
+    ensures refused { (a : Wanted) → asked words.now ≡ Some a → a.command ≡ IsRun → (text : List ℕ) (trace : List AnEvent) (line : ℕ) (kind : ARefusal)
+        → S.left src.old ≡ Some text → Read text ≡ RefusedBy trace line kind → IsFault result ⊎ (result ≡ Status.Refused line kind) }
     ensures no_end { OnNoEnd result (IsAtEnd (S.left src.new)) }
 {
     let Some(asked) = words.asked() else {

@@ -30,7 +30,8 @@ loop-event-preserved g c =
     let inv = c.loop-event.invariant in
     record {
       so_far = so_far_event g.K.Sink.given g.K.Sink.took g.K.Sink.broke c.args.cfg
-          (record { loaded = c.args.loaded; flash = g.F.FlashDev.told c.args.flash.now }) _ _ c.loop-event.runner c.feed.new.self c.loop-event.lines c.next.new.self
+          (record { loaded = c.args.loaded; flash = g.F.FlashDev.told c.args.flash.now }) _ _
+          c.loop-event.runner c.feed.new.self c.loop-event.lines c.next.new.self
           (g.S.Source.left c.args.src.now) (g.S.Source.left c.loop-event.src) (g.S.Source.left c.next.new.src)
           (g.K.Sink.given c.args.out.now) c.loop-event.out c.feed.new.out c.in-Event.event
           inv.so_far c.feed.ensures.newest c.feed.ensures.nest c.feed.ensures.cost c.in-Event.ensures.goes_on c.in-Event.ensures.event

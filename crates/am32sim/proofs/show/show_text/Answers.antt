@@ -8,7 +8,9 @@ use Rattle.am32sim.proofs.show.show_text.Goals as goal
 pub returns : goal.returns
 returns c =
     let s = c.args.loaded.now.settings in
-    let t0 : c.push_fault.new.text.bytes ≡ fault_text c.args.loaded.now.fault = let none : c.new-text.result.bytes ≡ [] = search rules in c.push_fault.ensures.bytes ∙ ap (λ (xs : List ℕ). xs ++ fault_text c.args.loaded.now.fault) none in
+    let t0 : c.push_fault.new.text.bytes ≡ fault_text c.args.loaded.now.fault =
+    let none : c.new-text.result.bytes ≡ [] = search rules in
+    c.push_fault.ensures.bytes ∙ ap (λ (xs : List ℕ). xs ++ fault_text c.args.loaded.now.fault) none in
     let t1 = line_more c.push_fault.new.text.bytes c.push_field.new.text.bytes
     (codes "direction") c.from.result s.direction _ c.push_field.ensures.bytes t0 (search rules) in
     let t2 = line_more c.push_field.new.text.bytes c.push_field-2.new.text.bytes (codes "three_d") c.from-2.result

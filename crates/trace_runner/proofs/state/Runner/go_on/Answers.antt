@@ -8,7 +8,8 @@ pub returns-then-self-clause-run : goal.returns-then-self-clause-run
 returns-then-self-clause-run g c =
     let flash : Told = g.D.FlashDev.told c.args.dev.now in
     record {
-      goes = λ o. goes_none g.K.Sink.given g.K.Sink.took (Runs c.args.self.now o flash) (Runs c.wait.new.self o flash) _ (λ trace steps st. c.wait.ensures.runs o flash trace steps st);
+      goes = λ o. goes_none g.K.Sink.given g.K.Sink.took (Runs c.args.self.now o flash) (Runs c.wait.new.self o flash) _
+          (λ trace steps st. c.wait.ensures.runs o flash trace steps st);
       breaks = tt;
       failed = tt;
       no_fewer = omega arith;
