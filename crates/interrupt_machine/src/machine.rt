@@ -1,7 +1,7 @@
 ghost use Rattle.std.specs.Prelude.{◌≡◌, ◌≢◌, ◌+◌, ◌<◌, ◌≤◌, ◌^◌, ◌++◌, ℕ, Bool, true, false, if◌then◌else◌, List, [], ◌∷◌, Option, Some, None, All, length};
 ghost use Rattle.esc_base.specs.declared.kind.Kind.{Kind};
 ghost use Rattle.esc_base.specs.Range.{InRange};
-ghost use Rattle.esc_base.specs.Flash.{Told, told};
+ghost use Rattle.esc_base.specs.Flash.{Told};
 ghost use Rattle.interrupt_machine.specs.Did.{notes_of};
 ghost use Rattle.interrupt_machine.specs.Open.{innermost, is_open, due_now, due_in, highest, next_entry, is_idle};
 ghost use Rattle.interrupt_machine.specs.Response.{Moment, Passed, Responds};
@@ -132,7 +132,7 @@ impl<F: Firmware> Machine<F> {
         requires busy { is_idle self.old.open_kinds (due_now (F.waits self.old.firmware) regs.old) ≡ false }
         requires mask { regs.old.masked ≡ true → IsHeld (F.hold self.old.firmware) self.old.open_kinds }
         requires count { regs.old.accesses < 2 ^ 63 }
-        ensures { MachineStepped F.came F.made F.waits F.left F.hold self.old regs.old (told D.bytes D.faults dev.old) result.items self.new regs.new (told D.bytes D.faults dev.new) }
+        ensures { MachineStepped F.came F.made F.waits F.left F.hold self.old regs.old (D.told dev.old) result.items self.new regs.new (D.told dev.new) }
     {
         let mut notes = ArrayVec::new();
         self.step_into(regs, dev, &mut notes);
@@ -144,7 +144,7 @@ impl<F: Firmware> Machine<F> {
         requires busy { is_idle self.old.open_kinds (due_now (F.waits self.old.firmware) regs.old) ≡ false }
         requires mask { regs.old.masked ≡ true → IsHeld (F.hold self.old.firmware) self.old.open_kinds }
         requires count { regs.old.accesses < 2 ^ 63 }
-        ensures { MachineStepped F.came F.made F.waits F.left F.hold self.old regs.old (told D.bytes D.faults dev.old) notes.new.items self.new regs.new (told D.bytes D.faults dev.new) }
+        ensures { MachineStepped F.came F.made F.waits F.left F.hold self.old regs.old (D.told dev.old) notes.new.items self.new regs.new (D.told dev.new) }
     {
         notes.clear();
         match self.entry(regs) {
@@ -205,7 +205,7 @@ impl<F: Firmware> Machine<F> {
         requires held { regs.old.masked ≡ true → 0 < F.hold self.old.firmware }
         requires count { regs.old.accesses < 2 ^ 63 }
         requires empty { notes.old.items ≡ [] }
-        ensures { MachineStepped F.came F.made F.waits F.left F.hold self.old regs.old (told D.bytes D.faults dev.old) notes.new.items self.new regs.new (told D.bytes D.faults dev.new) }
+        ensures { MachineStepped F.came F.made F.waits F.left F.hold self.old regs.old (D.told dev.old) notes.new.items self.new regs.new (D.told dev.new) }
     {
         let Some(kind) = self.stack.innermost() else {
             return;
