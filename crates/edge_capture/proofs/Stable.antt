@@ -79,10 +79,10 @@ closed_later m heard t u le e = still_closed (length heard) (last_at heard + wai
 
 -- ---- edges up to the opening aren't heard
 
-early : (w t : ℕ) (a b : Bool) → t ≤ w → (nat_lt w t && a && b) ≡ false
+pub early : (w t : ℕ) (a b : Bool) → t ≤ w → (nat_lt w t && a && b) ≡ false
 early w t a b le = grind (arith, nat_tests)
 
-passed_over : (w t : ℕ) (early : Bool) → t ≤ w → (nat_le t w || early) ≡ true
+pub passed_over : (w t : ℕ) (early : Bool) → t ≤ w → (nat_le t w || early) ≡ true
 passed_over w t early le = grind (arith, nat_tests)
 
 none_before : (edges : List Edge) (w : ℕ) (m : Mode) → All (λ e. e.t.0 ≤ w) edges → until_deaf m w [] edges ≡ []
