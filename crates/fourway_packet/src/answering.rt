@@ -83,7 +83,8 @@ fn carried<D: FlashDev>(
     armed: bool,
     dev: &mut D,
 ) -> Result<Params, Ack>
-    ensures comes { ComesOf (admitted_of (Packet.Whole cmd addr params.now) s.old.active armed) (Packet.Whole cmd addr params.now) (D.told dev.old).bytes result (D.told dev.new).bytes }
+    ensures comes { ComesOf (admitted_of (Packet.Whole cmd addr params.now) s.old.active armed) (Packet.Whole cmd addr params.now)
+        (D.told dev.old).bytes result (D.told dev.new).bytes }
     ensures session { s.new.active ≡ session_behind (admitted_of (Packet.Whole cmd addr params.now) s.old.active armed) s.old.active }
     ensures untouched { reaches_flash (admitted_of (Packet.Whole cmd addr params.now) s.old.active armed) ≡ false → dev.new ≡ dev.old }
     ensures no_fewer { (D.told dev.old).faults ≤ (D.told dev.new).faults }

@@ -49,7 +49,7 @@ const PAGE: usize = 0x400;
 /// The first pages hold the controller's own start code: they are neither erased nor written.
 const RESERVED_PAGES: u8 = 4;
 
-/// The address behind those pages.
+/// The first address after those pages.
 const RESERVED: u16 = 0x1000;
 
 /// The one mode of the interface.

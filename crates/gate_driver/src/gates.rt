@@ -9,7 +9,7 @@ use esc_base::{GateWord, Leg, Tick};
 use std::marker::Model;
 use timer_regs::{Reg, Regs};
 
-/// A switch turns on only where the other one of its leg has been off for so many ticks: a microsecond.
+/// The dead time: a switch turns on only where the other one of its leg has been off for these 48 ticks, a microsecond.
 const DEAD_TIME: u64 = 48;
 
 /// For each leg the tick from which on the switch of one side no longer keeps that of the other side off.

@@ -91,7 +91,7 @@ impl Lines {
         }
     }
 
-    /// Looks behind the END line.
+    /// Looks whether anything follows the END line.
     fn read_end<S: Source>(&mut self, t: Tick, src: &mut S) -> Item
         requires few { (place self.old).line < 16777216 }
         requires in_time { InTime (place self.old) t.0 }

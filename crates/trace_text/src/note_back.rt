@@ -9,7 +9,7 @@ use crate::note_line::note_text;
 use crate::note_parse::note;
 use esc_base::{Note, Tick};
 
-/// The next word, empty where there is none, and what stands behind it.
+/// The next word, empty where there is none, and the rest after it, if there is one.
 fn next_word(rest: Option<&[u8]>) -> (&[u8], Option<&[u8]>)
     ensures word { result.0.now ≡ word_at 0 (behind rest.entry) }
     ensures rest { behind result.1 ≡ drop 1 (behind rest.entry) }

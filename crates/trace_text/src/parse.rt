@@ -101,7 +101,7 @@ impl Place {
         self.parse_rest(Tick(t), rest)
     }
 
-    /// The kind and the value, behind a good time.
+    /// The kind and the value, after a good time.
     fn parse_rest(&self, t: Tick, rest: &[u8]) -> Result<Entry, Refusal>
         requires in_time { InTime self.now t.0 }
         ensures said { (time : List ℕ) → is_decimal time ≡ true → number time ≡ t.0 → result ≡ said_in self.now (time ∷ fields rest.now) }
