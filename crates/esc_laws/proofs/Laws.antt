@@ -24,16 +24,16 @@ comm_never w t due =
 
 pwm_law : HandlerLaw kind.Pwm
 pwm_law = record {
-  called = λ w g t none s. cc;
-  built = λ w t due. pwm_never w t due;
-  entered = λ w g t none due. absurd (pwm_never w t due);
+  called = λ w g t unheld none s. cc;
+  asked = λ w g t unheld due. absurd (pwm_never w t due);
+  entered = λ w g t unheld none due. absurd (pwm_never w t due);
   beside = λ w. elim [
     | kind.Pwm ↦ λ ne t. absurd (ne refl)
     | kind.Comm ↦ λ ne t.
         (t.0, record { high_off = t.1.high_off; low_off = t.1.low_off; no_duty = t.1.no_duty; no_event = refl; disarmed = t.1.disarmed; no_mark = t.1.no_mark })
     | j ↦ λ ne t. t
   ];
-  steps = λ w answers outer g t above past on left. absurd (let shut = t kind.Pwm in omega arith);
+  steps = λ w answers outer g t above alone past on left. absurd (let shut = t kind.Pwm in omega arith);
   later = λ w u from small g t. t kind.Pwm;
   outside = λ w e at g t. t kind.Pwm;
 }
@@ -54,11 +54,11 @@ comm_later w u t = (
 
 comm_law : HandlerLaw kind.Comm
 comm_law = record {
-  called = λ w g t none s. cc;
-  built = λ w t due. comm_never w t due;
-  entered = λ w g t none due. absurd (comm_never w t due);
+  called = λ w g t unheld none s. cc;
+  asked = λ w g t unheld due. absurd (comm_never w t due);
+  entered = λ w g t unheld none due. absurd (comm_never w t due);
   beside = λ w. elim [ kind.Comm ↦ λ ne t. absurd (ne refl) | kind.Pwm ↦ λ ne t. t | j ↦ λ ne t. t ];
-  steps = λ w answers outer g t above past on left. absurd (let shut = (t kind.Comm).0 in omega arith);
+  steps = λ w answers outer g t above alone past on left. absurd (let shut = (t kind.Comm).0 in omega arith);
   later = λ w u from small g t. comm_later w u (t kind.Comm);
   outside = λ w e at g t. t kind.Comm;
 }
@@ -71,9 +71,9 @@ law kind.Pwm = pwm_law
 law kind.Comm = comm_law
 -- those that aren't built are never due, so they stay shut
 law k = record {
-  called = λ w g t none s. cc;
-  built = λ w t due. cc;
-  entered = λ w g t none due. cc;
+  called = λ w g t unheld none s. cc;
+  asked = λ w g t unheld due. cc;
+  entered = λ w g t unheld none due. cc;
   beside = λ w. elim [
     | kind.Main ↦ λ ne t. t
     | kind.Tick ↦ λ ne t. t
@@ -81,7 +81,7 @@ law k = record {
     | kind.Comm ↦ λ ne t. ((entered_others k w.core kind.Comm ne).0 ∙ t.0, t.1)
     | j ↦ λ ne t. (entered_others k w.core j ne).0 ∙ t
   ];
-  steps = λ w answers outer g t above past on left. absurd (let shut = t k in omega arith);
+  steps = λ w answers outer g t above alone past on left. absurd (let shut = t k in omega arith);
   later = λ w u from small g t. t k;
   outside = λ w e at g t. t k;
 }

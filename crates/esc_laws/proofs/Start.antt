@@ -22,14 +22,17 @@ use Rattle.arming.proofs.FrameTies.{start_stands, other_stands}
 use Rattle.esc_core.specs.Firmware.{left_of, need_of, new_core}
 use Rattle.esc_laws.specs.Place.{Listens, Place, place, nowhere}
 use Rattle.esc_laws.specs.Seen.{sees}
-use Rattle.esc_laws.specs.Steps.{first_notes, load_number, opening, journal, after, called}
+use Rattle.esc_laws.specs.Steps.{stall_end, first_notes, load_number, opening, journal, after, called}
 use Rattle.esc_laws.specs.Windowed.{Windowed}
-use Rattle.esc_laws.specs.Tied.{Keeps}
+use Rattle.esc_base.specs.declared.gate.Leg.{Leg}
+use Rattle.esc_base.specs.declared.gate.Leg.TheVariants as leg
+use Rattle.gate_driver.specs.Gated.{at_leg, no_legs}
+use Rattle.esc_laws.specs.Tied.{Keeps, Told}
 use Rattle.esc_laws.specs.World.{world}
 use Rattle.esc_laws.specs.Rooms.{Ground, Tie}
-use Rattle.esc_laws.specs.Logged.{Marks, Logged, stall_end, first_bank}
+use Rattle.esc_laws.specs.Logged.{Marks, Logged, first_bank}
 use Rattle.esc_laws.proofs.Notes.{Said}
-use Rattle.esc_laws.proofs.Pushes.{after-none, free-none, past-none, called-none}
+use Rattle.esc_laws.proofs.Pushes.{after-none, free-none, made-none, called-none}
 
 place-opening : (loaded : Loaded) → place (opening loaded) ≡ record nowhere { signal = Listens 0 0; windows = 1; last = 0 }
 unfolding place
@@ -68,6 +71,9 @@ pub start_said : (loaded : Loaded) (nest : Nest) (trace : List Event) (t : ℕ) 
 start_said loaded nest trace t = record {
   in_time = opening_in_time loaded;
   windowed = opening_windowed loaded trace;
+  dead_safe = (tt, (tt, tt));
+  driven = (tt, (tt, tt));
+  commutated = (tt, (tt, tt));
   nested = tt;
   past = All-cons (λ n. time_of n ≤ t) (note.Up (as_tick 0) (load_number loaded.fault)) (note.Window (as_tick 0) 0 ∷ []) (omega arith)
       (All-cons (λ n. time_of n ≤ t) (note.Window (as_tick 0) 0) [] (omega arith) (All-nil (λ n. time_of n ≤ t)));
@@ -95,14 +101,24 @@ start_keeps loaded = record {
     none_masked kind.Main n = omega arith
     none_masked k n = omega arith
 
+none_free : (x : Leg) → 0 ≡ at_leg no_legs x
+none_free leg.A = refl
+none_free leg.B = refl
+none_free leg.C = refl
+
+start_told : (loaded : Loaded) → Told (new_core loaded.settings) first_bank (reverse (journal loaded []))
+start_told loaded = record { hi_is = refl; lo_is = refl; hi_free = none_free; lo_free = none_free }
+
 start_marks : (loaded : Loaded) (nest : Nest) → Marks loaded nest [] first_bank [] []
 start_marks loaded nest = record {
   in_time = (start_said loaded nest [] 0).in_time;
   windowed = (start_said loaded nest [] 0).windowed;
+  dead_safe = (start_said loaded nest [] 0).dead_safe;
+  driven = (start_said loaded nest [] 0).driven;
+  commutated = (start_said loaded nest [] 0).commutated;
   nested = tt;
   stack_is = ap (λ (p : Place). p.stack) (sym (place-opening loaded));
   past = (start_said loaded nest [] 0).past;
-  gates = record { high = refl; low = refl };
 }
 
 no_burst : [] ≡ burst (line []).edges 0 (mode_of 0)
@@ -111,7 +127,7 @@ no_burst = sym (ap (λ (l : Line). burst l.edges 0 (mode_of 0)) line-none ∙ bu
 start_ground : (loaded : Loaded) (nest : Nest) → Ground (world loaded nest [] (new_core loaded.settings) first_bank [])
 start_ground loaded nest = record {
   control = opening_stands loaded;
-  orders = record { settings_are = refl; save_is = refl };
+  orders = record { settings_are = refl; spin_is = refl; save_is = refl };
   level = ap (λ (l : Line). l.level) (sym line-none);
   edges = rw line-none (All-nil (λ e. e.t.0 ≤ 0));
   rested = rw line-none (record { over = All-nil (λ e. e.t.0 + 200 ≤ 0); first = λ t a. omega arith });
@@ -146,6 +162,7 @@ logged_start loaded nest cost =
       keeps = start_keeps loaded;
       sorted = tt;
       marks = start_marks loaded nest;
+      gates = start_told loaded;
       ground = start_ground loaded nest;
       ties = start_ties loaded nest;
       patient = start_patient loaded nest;
@@ -154,7 +171,7 @@ logged_start loaded nest cost =
       reached_by = λ k o. cc;
       fits = tt;
       past = omega arith;
-      cap_past = (let z = past-none kind.Cap in omega arith);
+      made_past = rw made-none (record { all = omega arith; cap = omega arith });
       awaits = record { open_step = λ o. omega arith; idle = λ o t from below f k. absurd (omega arith) };
       time = omega arith;
       put_off = λ u from below. absurd (omega arith);

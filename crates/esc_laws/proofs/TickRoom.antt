@@ -20,10 +20,10 @@ use Rattle.esc_core.specs.Tick.{number_step, outcome_note, ticked, tick_step}
 use Rattle.esc_core.specs.Firmware.{tick_left}
 use Rattle.esc_laws.specs.Tied.{TickTied}
 use Rattle.esc_laws.specs.World.{World, so_far}
-use Rattle.esc_laws.specs.Rooms.{Ground, TickTie, StepKeeps}
+use Rattle.esc_laws.specs.Rooms.{Undriven, Ground, TickTie, StepKeeps}
 use Rattle.esc_laws.proofs.Facts.{due_tick, tick_due}
 use Rattle.esc_laws.proofs.Saves.{orders_other}
-use Rattle.esc_laws.proofs.RoomSteps.{ground_noted, inside, popped, if_true}
+use Rattle.esc_laws.proofs.RoomSteps.{quiet_gates, ground_noted, inside, popped, if_true}
 use Rattle.esc_laws.proofs.Law.{HandlerLaw}
 
 -- ---- its steps
@@ -43,8 +43,8 @@ asks (Some cause) armed_now w outer demand kept g none on st number =
     let k : Note = note.Control (as_tick w.bank.time) (w.bank.time / 2400) 0 demand in
     let here = inside (so_far w).stack kind.Tick outer on in
     record {
-      gate = λ word moved. absurd (moved refl refl);
-      fits = (record { at = refl; owned = refl; window = tt; nest = here }, (record { at = refl; owned = refl; window = tt; nest = here }, tt));
+      gates = quiet_gates w _ refl refl refl;
+      fits = λ told. (record { at = refl; owned = refl; window = tt; nest = here; driven = tt; turns = tt }, (record { at = refl; owned = refl; window = tt; nest = here; driven = tt; turns = tt }, tt));
       ground = record {
         control = st;
         orders = orders_other w.loaded w.core.orders (note.Lost (as_tick w.bank.time) (cause_number cause)) (k ∷ w.back) refl
@@ -62,8 +62,8 @@ asks None true w outer demand kept g none on st number =
     let k : Note = note.Control (as_tick w.bank.time) (w.bank.time / 2400) 0 demand in
     let here = inside (so_far w).stack kind.Tick outer on in
     record {
-      gate = λ word moved. absurd (moved refl refl);
-      fits = (record { at = refl; owned = refl; window = tt; nest = here }, (record { at = refl; owned = refl; window = tt; nest = here }, tt));
+      gates = quiet_gates w _ refl refl refl;
+      fits = λ told. (record { at = refl; owned = refl; window = tt; nest = here; driven = tt; turns = tt }, (record { at = refl; owned = refl; window = tt; nest = here; driven = tt; turns = tt }, tt));
       ground = record {
         control = st;
         orders = orders_other w.loaded w.core.orders (note.Armed (as_tick w.bank.time)) (k ∷ w.back) refl
@@ -80,8 +80,8 @@ asks None true w outer demand kept g none on st number =
 asks None false w outer demand kept g none on st number =
     let k : Note = note.Control (as_tick w.bank.time) (w.bank.time / 2400) 0 demand in
     record {
-      gate = λ word moved. absurd (moved refl refl);
-      fits = (record { at = refl; owned = refl; window = tt; nest = inside (so_far w).stack kind.Tick outer on }, tt);
+      gates = quiet_gates w _ refl refl refl;
+      fits = λ told. (record { at = refl; owned = refl; window = tt; nest = inside (so_far w).stack kind.Tick outer on; driven = tt; turns = tt }, tt);
       ground = record { control = st; orders = orders_other w.loaded w.core.orders k w.back refl g.orders; level = g.level; edges = g.edges; rested = g.rested; small = g.small };
       tie = (ap (λ (n : ℕ). n + 1) none, sym number, omega arith);
       others = elim [ kind.Tick ↦ λ ne t. absurd (ne refl) | j ↦ λ ne t. t ];
@@ -95,11 +95,11 @@ outcome_number (Some cause) armed_now t n s d back = refl
 outcome_number None true t n s d back = refl
 outcome_number None false t n s d back = refl
 
-reads : (w : World) (outer : List Kind) → Ground w → TickTie w → w.bank.stuck ≡ false → w.bank.number_read < w.bank.time / 2400 → (so_far w).ticks ≡ 0
+reads : (w : World) (outer : List Kind) → Ground w → TickTie w → Undriven w.bank.hi w.bank.lo w.bank.duty w.bank.flag w.bank.comm w.bank.stuck → w.bank.number_read < w.bank.time / 2400 → (so_far w).ticks ≡ 0
     → (so_far w).stack ≡ kind.Tick ∷ outer
     → StepKeeps kind.Tick outer w (tick_step tick.Read w.core w.bank)
-reads w outer g t unmarked below none on = subst (λ (v : Bool). StepKeeps kind.Tick outer w
-    (number_step (if v then w.bank.time / 2400 + 1073741824 else w.bank.time / 2400) w.core w.bank)) (sym unmarked) (
+reads w outer g t off below none on = subst (λ (v : Bool). StepKeeps kind.Tick outer w
+    (number_step (if v then w.bank.time / 2400 + 1073741824 else w.bank.time / 2400) w.core w.bank)) (sym off.no_mark) (
     let n : ℕ = w.bank.time / 2400 in
     let answer = ticked w.core n 0 in
     let less : w.core.control.number < n = (let same = t.1 in omega arith) in
@@ -108,31 +108,41 @@ reads w outer g t unmarked below none on = subst (λ (v : Bool). StepKeeps kind.
     (asks answer.lost answer.armed_now w outer answer.demand (after_tick w.core.control n (decide (view_of w.core.control) n 0)) g none on st
     (st.ties.number_is ∙ outcome_number answer.lost answer.armed_now w.bank.time n 0 answer.demand w.back)))
 
-steps : (at : TickAt) (w : World) (outer : List Kind) → Ground w → TickTie w → w.bank.stuck ≡ false
+steps : (at : TickAt) (w : World) (outer : List Kind) → Ground w → TickTie w → Undriven w.bank.hi w.bank.lo w.bank.duty w.bank.flag w.bank.comm w.bank.stuck
     → TickTied at w.bank.number_read w.bank.time (so_far w).ticks
     → (so_far w).stack ≡ kind.Tick ∷ outer → 0 < tick_left at
     → StepKeeps kind.Tick outer w (tick_step at w.core w.bank)
-steps tick.Shut w outer g t unmarked i on left = absurd (omega arith)
-steps tick.Raise w outer g t unmarked i on left = record {
-  gate = λ word moved. absurd (moved refl refl);
-  fits = tt;
+steps tick.Shut w outer g t off i on left = absurd (omega arith)
+steps tick.Raise w outer g t off i on left = record {
+  gates = quiet_gates w _ refl refl refl;
+  fits = λ told. tt;
   ground = g;
   tie = (i, t.1, t.2);
   others = elim [ kind.Tick ↦ λ ne t. absurd (ne refl) | j ↦ λ ne t. t ];
   stack_is = on;
 }
-steps tick.Read w outer g t unmarked i on left = reads w outer g t unmarked i.0 i.1 on
-steps tick.Lower w outer g t unmarked i on left = record {
-  gate = λ word moved. absurd (moved refl refl);
-  fits = tt;
+steps tick.Read w outer g t off i on left = reads w outer g t off i.0 i.1 on
+steps tick.Lower w outer g t off i on left = record {
+  gates = quiet_gates w _ refl refl refl;
+  fits = λ told. tt;
   ground = g;
   tie = (i, t.1, t.2);
   others = elim [ kind.Tick ↦ λ ne t. absurd (ne refl) | j ↦ λ ne t. t ];
   stack_is = on;
 }
-steps tick.Back w outer g t unmarked i on left = record {
-  gate = λ word moved. absurd (moved refl refl);
-  fits = (record { at = refl; owned = refl; window = λ e. cc; nest = (inside (so_far w).stack kind.Tick outer on, i) }, tt);
+steps tick.Back w outer g t off i on left = record {
+  gates = quiet_gates w _ refl refl refl;
+  fits = λ told. (
+    record {
+      at = refl;
+      owned = refl;
+      window = λ e. cc;
+      nest = (inside (so_far w).stack kind.Tick outer on, i);
+      driven = λ e demand. (told.hi_is ∙ off.high_off, told.lo_is ∙ off.low_off);
+      turns = tt;
+    },
+    tt,
+  );
   ground = ground_noted w (note.Leave (as_tick w.bank.time) 2) refl refl tt refl g;
   tie = (tt, t.1, t.2);
   others = elim [ kind.Tick ↦ λ ne t. absurd (ne refl) | j ↦ λ ne t. t ];
@@ -148,12 +158,12 @@ later at read t u ticks le i = i
 
 pub tick_law : HandlerLaw kind.Tick
 tick_law = record {
-  called = λ w g t none s.
+  called = λ w g t unheld none s.
       tick_due w.core.orders.save_asked w.bank (rw ((t kind.Tick).1, g.control.ties.number_is) (ltb-true (number_at w.back) (w.bank.time / 2400) s));
-  built = λ w t due. tt;
-  entered = λ w g t none due. ((due_tick w.core.orders.save_asked w.bank (t kind.Tick).2 due, refl), (t kind.Tick).1, (t kind.Tick).2);
+  asked = λ w g t unheld due. (tt, tt);
+  entered = λ w g t unheld none due. ((due_tick w.core.orders.save_asked w.bank (t kind.Tick).2 due, refl), (t kind.Tick).1, (t kind.Tick).2);
   beside = λ w. elim [ kind.Tick ↦ λ ne t. absurd (ne refl) | j ↦ λ ne t. t ];
-  steps = λ w answers outer g t above past on left. steps w.core.tick_at w outer g (t kind.Tick) (t kind.Comm).1.no_mark (t kind.Tick).0 on left;
+  steps = λ w answers outer g t above alone past on left. steps w.core.tick_at w outer g (t kind.Tick) (t kind.Comm).1 (t kind.Tick).0 on left;
   later = λ w u from small g t. (
     later w.core.tick_at w.bank.number_read w.bank.time u (so_far w).ticks from (t kind.Tick).0,
     (t kind.Tick).1,

@@ -15,16 +15,21 @@ use Rattle.arming.specs.Kept.{Kept}
 use Rattle.arming.specs.Stands.{Stands}
 use Rattle.esc_core.specs.declared.orders.Orders.{Orders}
 use Rattle.esc_core.specs.Stepped.{Stepped}
-use Rattle.esc_core.specs.Firmware.{left_of}
+use Rattle.esc_core.specs.Firmware.{left_of, need_of}
 use Rattle.esc_base.specs.Numbers.{kind_number, as_tick}
 use Rattle.timer_regs.specs.Bank.{Bank}
 use Rattle.timer_regs.specs.Rest.{rests_from}
 use Rattle.interrupt_machine.specs.Did.{accessed}
 use Rattle.interrupt_machine.specs.Open.{kind_of}
+use Rattle.commutation.specs.Commutated.{TurnRule}
+use Rattle.gate_driver.specs.Gated.{Gated, gates_after}
+use Rattle.gate_driver.specs.Acted.{KeepsDeadTime}
 use Rattle.esc_laws.specs.Windowed.{WindowRuleAt}
+use Rattle.esc_laws.specs.Driven.{IsDriven}
+use Rattle.esc_laws.specs.Saves.{forward_at}
 use Rattle.esc_laws.specs.Nested.{NestRuleAt}
-use Rattle.esc_laws.specs.Tied.{SignalTied, CapView, cap_view, WindowSound, TimerTied, IsRestFrom, TickTied, MainTied, OrdersTied, GatesTied}
-use Rattle.esc_laws.specs.World.{World, so_far, noted, step_notes, after_step, open_left}
+use Rattle.esc_laws.specs.Tied.{SignalTied, CapView, cap_view, WindowSound, TimerTied, IsRestFrom, TickTied, MainTied, OrdersTied, gates_of, Told}
+use Rattle.esc_laws.specs.World.{Made, World, so_far, noted, step_notes, after_step, open_left}
 
 -- ---- what all handlers share
 
@@ -58,7 +63,7 @@ abbrev pub CapTie : World → Type 0
 CapTie w =
     SignalTied (so_far w).signal w.core.cap_at (cap_seen w)
     × WindowSound w.bank.window w.bank.time
-    × TimerTied (so_far w).signal w.core.cap_at (line w.trace).edges w.cap_since w.bank.timer
+    × TimerTied (so_far w).signal w.core.cap_at (line w.trace).edges w.made.cap_past w.bank.timer
 
 -- the number that was read last is that of control's newest tick
 abbrev pub TickTie : World → Type 0
@@ -84,6 +89,19 @@ Ties w = (j : Kind) → Tie j w
 abbrev pub Above : Kind → World → Type 0
 Above k w = (j : Kind) → kind_number k < kind_number j → left_of w.core j ≡ 0
 
+-- no handler stands under the mask, as it is while the mask is down
+abbrev pub Unheld : World → Type 0
+Unheld w = (j : Kind) → 8 < need_of w.core j
+
+-- none but this one does, as it is while it makes a step
+abbrev pub HoldsAlone : Kind → World → Type 0
+HoldsAlone k w = (j : Kind) → j ≢ k → 8 < need_of w.core j
+
+-- all steps so far stand before now
+pub record Past (made : Made) (t : ℕ) : Type 0 where
+  pub all : made.past ≤ t
+  pub cap : made.cap_past ≤ t
+
 -- ---- what a step of a handler keeps
 
 -- the kind whose own steps alone give a note. An I is given by an entry, and a G by a step of any kind; the others that are
@@ -100,6 +118,7 @@ owner (note.Control t n s d) = Some kind.Tick
 owner (note.Armed t) = Some kind.Tick
 owner (note.Lost t c) = Some kind.Tick
 owner (note.Saved t r) = Some kind.Main
+owner (note.Step t s) = Some kind.Comm
 owner n = None
 
 -- a note of its own stands at its tick and fits where it stands
@@ -107,7 +126,9 @@ pub record Fits (k : Kind) (w : World) (n : Note) : Type 0 where
   pub at : time_of n ≡ w.bank.time
   pub owned : owner n ≡ Some k
   pub window : WindowRuleAt w.loaded w.trace (so_far w) w.back n
-  pub nest : NestRuleAt w.nest (so_far w) n
+  pub nest : NestRuleAt w.nest (so_far w) w.back n
+  pub driven : IsDriven w.back n
+  pub turns : TurnRule w.loaded.settings.advance (forward_at w.loaded.settings) w.back n
 
 abbrev pub AllFit : Kind → World → List Note → Type 0
 AllFit k w [] = Unit {0}
@@ -117,14 +138,24 @@ AllFit k w (n ∷ notes) = Fits k w n × AllFit k (noted w n) notes
 abbrev pub WordMoves : Bank → Bank → Type 0
 WordMoves b after = after.hi ≡ b.hi → after.lo ≡ b.lo → ⊥
 
--- where a step changes the gate word, its G fits before the step's own notes
-abbrev pub GateFits : World → Bank → Type 0
-GateFits w after =
-    GatesTied w.bank.hi w.bank.lo w.back → WordMoves w.bank after → NestRuleAt w.nest (so_far w) (note.Gate (as_tick w.bank.time) after.hi after.lo)
+-- the G of a changed word fits before the step's own notes
+pub record GateFits (w : World) (after : Bank) (gates : Gated) : Type 0 where
+  pub nest : NestRuleAt w.nest (so_far w) w.back (note.Gate (as_tick w.bank.time) after.hi after.lo)
+  pub dead_time : KeepsDeadTime w.bank gates after
+  pub driven : IsDriven w.back (note.Gate (as_tick w.bank.time) after.hi after.lo)
+
+-- what a step does to the gates: what the core keeps of them follows exactly, and a G fits where the word becomes another one
+pub record GatesKeep (w : World) (s : Stepped) : Type 0 where
+  pub off_times : gates_of s.core ≡ gates_after (gates_of w.core) w.bank (accessed w.bank s.access)
+  pub fits : Told w.core w.bank w.back → WordMoves w.bank (accessed w.bank s.access) → GateFits w (accessed w.bank s.access) (gates_of s.core)
+
+-- the notes before a step's own, its G among them, tell the gates that the step leaves
+abbrev pub StepTold : World → Stepped → Type 0
+StepTold w s = Told s.core (accessed w.bank s.access) w.back
 
 pub record StepKeeps (k : Kind) (outer : List Kind) (w : World) (s : Stepped) : Type 0 where
-  pub gate : GateFits w (accessed w.bank s.access)
-  pub fits : AllFit k w (step_notes w.bank.time k s)
+  pub gates : GatesKeep w s
+  pub fits : StepTold w s → AllFit k w (step_notes w.bank.time k s)
   pub ground : Ground (after_step k w s)
   pub tie : Tie k (after_step k w s)
   pub others : (j : Kind) → j ≢ k → Tie j w → Tie j (after_step k w s)
