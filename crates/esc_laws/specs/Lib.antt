@@ -16,6 +16,7 @@ pub mod Refused
 pub mod Allowed
 -- the machinery that proves a run legal
 pub mod Tied
+pub mod DriveTied
 pub mod World
 pub mod Rooms
 pub mod Logged

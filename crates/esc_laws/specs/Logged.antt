@@ -7,7 +7,7 @@ use Rattle.esc_base.specs.declared.kind.Kind.TheVariants as kind
 use Rattle.esc_base.specs.declared.event.Event.{Event}
 use Rattle.esc_base.specs.declared.note.Note.{Note}
 use Rattle.esc_base.specs.Flash.{Told}
-use Rattle.esc_base.specs.Journal.{Journal, time_of}
+use Rattle.esc_base.specs.Journal.{Each, Journal, time_of}
 use Rattle.settings_block.specs.declared.stored.Loaded.{Loaded}
 use Rattle.timer_regs.specs.Bank.{Bank}
 use Rattle.timer_regs.specs.Effects.{reset, written}
@@ -28,9 +28,9 @@ use Rattle.esc_laws.specs.Saves.{forward_at}
 use Rattle.esc_laws.specs.Nested.{NestedAfter}
 use Rattle.esc_laws.specs.Seen.{sees}
 use Rattle.esc_laws.specs.Steps.{Turned, stall_end, opening, notes_in, journal, open_in, free, after, uses, own_steps, steps_since, entered_at, called, EachStep, StepFits, Awaits, Below}
-use Rattle.esc_laws.specs.Tied.{Keeps, Told}
+use Rattle.esc_laws.specs.Tied.{Keeps, WordTold}
 use Rattle.esc_laws.specs.World.{made, world}
-use Rattle.esc_laws.specs.Rooms.{Past, Ground, Tie}
+use Rattle.esc_laws.specs.Rooms.{Past, Ground, Tie, TurnWaits}
 
 -- the registers at the start of a run: the first window is open in mode 0
 abbrev pub first_bank : Bank
@@ -44,6 +44,7 @@ pub record Marks (loaded : Loaded) (nest : Nest) (trace : List Event) (b : Bank)
   pub driven : Driven (journal loaded log)
   pub commutated : Commutated loaded.settings.advance (forward_at loaded.settings) (journal loaded log)
   pub nested : NestedAfter nest (opening loaded) (notes_in log)
+  pub waits : Each (λ before n. TurnWaits (reverse before) n) [] (journal loaded log)
   pub stack_is : stack ≡ open_in loaded log
   pub past : All (λ n. time_of n ≤ b.time) (journal loaded log)
 
@@ -53,7 +54,7 @@ pub record Logged (loaded : Loaded) (nest : Nest) (cost : ℕ) (trace : List Eve
   pub keeps : Keeps c b stack
   pub sorted : IsStack stack
   pub marks : Marks loaded nest trace b stack log
-  pub gates : Told c b (reverse (journal loaded log))
+  pub gates : WordTold c b (reverse (journal loaded log))
   pub ground : Ground (world loaded nest trace c b log)
   pub ties : (k : Kind) → Tie k (world loaded nest trace c b log)
   pub patient : Patient nest c.hold b.masked stack (sees trace (journal loaded log) b.time) (called loaded nest trace log)

@@ -27,7 +27,6 @@ use Rattle.esc_core.specs.declared.state.MainAt.TheVariants as main
 use Rattle.esc_core.specs.declared.orders.Orders.{Orders}
 use Rattle.esc_core.specs.Brain.{Brain}
 use Rattle.esc_core.specs.Firmware.{left_of, need_of}
-use Rattle.gate_driver.specs.Gated.{Gated, never_off}
 use Rattle.gate_driver.specs.DeadSafe.{IsTied}
 use Rattle.esc_laws.specs.Saves.{settings_at, spin_at}
 use Rattle.esc_laws.specs.Rested.{IsRested, first_rested}
@@ -166,8 +165,7 @@ abbrev pub TickTied : TickAt → ℕ → ℕ → ℕ → Type 0
 TickTied tick.Shut read time ticks = Unit {0}
 TickTied tick.Raise read time ticks = (read < time / 2400) × (ticks ≡ 0)
 TickTied tick.Read read time ticks = (read < time / 2400) × (ticks ≡ 0)
-TickTied tick.Lower read time ticks = ticks ≡ 1
-TickTied tick.Back read time ticks = ticks ≡ 1
+TickTied at read time ticks = ticks ≡ 1
 
 -- how far MAIN has come: whether a save is asked for, and the P since its entry
 abbrev pub MainTied : MainAt → Bool → ℕ → Type 0
@@ -181,13 +179,9 @@ pub record OrdersTied (loaded : Loaded) (o : Orders) (back : List Note) : Type 0
   pub spin_is : o.spin ≡ spin_at back
   pub save_is : o.save_asked ≡ asked_at back
 
--- what the core keeps of the gates
-abbrev pub gates_of : Brain → Gated
-gates_of c = never_off
-
 -- the notes tell the word of switches, and when each went off
-abbrev pub Told : Brain → Bank → List Note → Type 0
-Told c b back = IsTied (gates_of c) b.hi b.lo back
+abbrev pub WordTold : Brain → Bank → List Note → Type 0
+WordTold c b back = IsTied c.drive.gates b.hi b.lo back
 
 -- what holds between any two steps of the core, the registers and the open kinds
 pub record Keeps (c : Brain) (b : Bank) (stack : List Kind) : Type 0 where
