@@ -1,5 +1,5 @@
 -- What is kept of the drive, and how a start and a sector change change it.
-use Rattle.std.specs.Prelude.{ℕ, ◌+◌, Bool, true, false, ◌==◌, nat_le, min, if◌then◌else◌}
+use Rattle.std.specs.Prelude.{ℕ, ◌+◌, Bool, true, false, nat_le, min, if◌then◌else◌}
 use Rattle.commutation.specs.Kept.{fresh, after_restart, after_gap}
 use Rattle.commutation.specs.Sectors.{low_of}
 use Rattle.gate_driver.specs.Gated.{never_off, at_leg}

@@ -21,7 +21,6 @@ use Rattle.esc_core.specs.declared.state.BareAt.{BareAt}
 use Rattle.esc_core.specs.declared.state.BareAt.TheVariants as bare
 use Rattle.settings_block.specs.declared.settings.Settings.{Settings}
 use Rattle.esc_core.specs.Orders.{first_orders}
-use Rattle.gate_driver.specs.declared.all_off.AllOff.TheVariants as off
 use Rattle.gate_driver.specs.declared.chop.Chop.TheVariants as chop
 use Rattle.gate_driver.specs.declared.to_sector.ChangeAt.{ChangeAt}
 use Rattle.gate_driver.specs.AllOff.{all_off_left}
@@ -54,7 +53,7 @@ tick_left tick.Read = 8
 tick_left (tick.Off at) = all_off_left at + 5
 tick_left tick.DutyOff = 4
 tick_left tick.DriveOff = 3
-tick_left (tick.DutyOn start) = 4
+tick_left (tick.DutyOn is_start) = 4
 tick_left tick.Start = 3
 tick_left tick.Lower = 2
 tick_left tick.Back = 1
@@ -98,7 +97,7 @@ tick_need tick.Read = 7
 tick_need (tick.Off at) = all_off_left at + 4
 tick_need tick.DutyOff = 3
 tick_need tick.DriveOff = 2
-tick_need (tick.DutyOn start) = 3
+tick_need (tick.DutyOn is_start) = 3
 tick_need tick.Start = 2
 tick_need tick.Lower = 1
 tick_need tick.Raise = 9

@@ -1,5 +1,5 @@
 -- The steps of PWM: it chops once, under the mask, and returns.
-use Rattle.std.specs.Prelude.{ℕ, true, false, []}
+use Rattle.std.specs.Prelude.{ℕ, false, []}
 use Rattle.timer_regs.specs.Bank.{Bank}
 use Rattle.gate_driver.specs.declared.progress.Progress.{Progress}
 use Rattle.gate_driver.specs.declared.progress.Progress.TheVariants.{More, Done, Later}

@@ -116,7 +116,11 @@ fn number(state: u32) -> u32
 fn marks(state: u32) -> Marks
     ensures { bits_of result ≡ marks_in state }
 {
-    if state < STUCK { Marks::empty() } else { Marks::STUCK }
+    if state < STUCK {
+        Marks::empty()
+    } else {
+        Marks::STUCK
+    }
 }
 
 fn after_number(answer: Ticked) -> TickAt
