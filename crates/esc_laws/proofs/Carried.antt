@@ -35,7 +35,7 @@ use Rattle.esc_laws.specs.Windowed.{WindowRule, Windowed}
 use Rattle.esc_laws.specs.Driven.{IsDriven, Driven}
 use Rattle.esc_laws.specs.Saves.{forward_at}
 use Rattle.esc_laws.specs.Nested.{NestRule, NestedAfter}
-use Rattle.esc_laws.specs.Tied.{Keeps}
+use Rattle.esc_laws.specs.Tied.{Keeps, WordTold}
 use Rattle.esc_laws.specs.Legal.{Legal, LegalFront}
 use Rattle.esc_laws.specs.Logged.{first_bank, Logged, CoreTurn, turned}
 use Rattle.esc_laws.specs.World.{Made, made, world, after_event, enters}
@@ -120,7 +120,7 @@ time_logged loaded nest cost trace next c b stack log t later le small l = recor
 }
 
 past_later : (m : Made) (t u : ℕ) → t ≤ u → Past m t → Past m u
-past_later m t u le p = record { all = (let a = p.all in omega arith); cap = (let a = p.cap in omega arith) }
+past_later m t u le p = record { cap = (let a = p.cap in omega arith); comm = (let a = p.comm in omega arith) }
 
 none_open : (stack : List Kind) (due : Kind → Bool) → is_idle stack due ≡ true → (stack ≡ []) × (highest due ≡ None)
 none_open [] due idle = (refl, none_of (highest due) idle)
@@ -147,10 +147,10 @@ none_before (Some d) b k t u is le from below = is.none_before k u from (let m =
 
 -- while nothing is due nothing is seen due
 none_seen : (loaded : Loaded) (nest : Nest) (trace : List Event) (c : Brain) (b : Bank) (log : List Turned) (t u : ℕ) (k : Kind)
-    → Keeps c b [] → Ground (world loaded nest trace c b log) → ((j : Kind) → Tie j (world loaded nest trace c b log))
+    → Keeps c b [] → Ground (world loaded nest trace c b log) → ((j : Kind) → Tie j (world loaded nest trace c b log)) → WordTold c b (reverse (journal loaded log))
     → highest (due_now c.orders.save_asked b) ≡ None → ((j : Kind) (v : ℕ) → b.time < v → v < t → becomes_due b j v ≡ false) → b.time ≤ u → u < t
     → t < 2147483648 → sees trace (journal loaded log) u k ≡ false
-none_seen loaded nest trace c b log t u k keeps g ties none quiet from below small = by_seen (sees trace (journal loaded log) u k) refl
+none_seen loaded nest trace c b log t u k keeps g ties told none quiet from below small = by_seen (sees trace (journal loaded log) u k) refl
   where
     shut_now : due_now c.orders.save_asked (advanced b u) k ≡ false
     shut_now = elim (cases_lt b.time u) [
@@ -165,7 +165,8 @@ none_seen loaded nest trace c b log t u k keeps g ties none quiet from below sma
         let d =
         sees_due loaded nest trace c (advanced b u) [] log (keeps_later c b [] u keeps)
         (later_ground (world loaded nest trace c b log) u from (omega arith) g)
-        (λ j. (law j).later (world loaded nest trace c b log) u from (omega arith) g ties) (unheld_idle c b keeps) k (rw e refl) in
+        (λ j. (law j).later (world loaded nest trace c b log) u from (omega arith) g ties) (record { hi_is = told.hi_is; lo_is = told.lo_is; hi_free = told.hi_free; lo_free = told.lo_free })
+        (unheld_idle c b keeps) k (rw e refl) in
         absurd (let z : true ≡ false = sym d ∙ shut_now in cc)
     by_seen false e = e
 
@@ -195,7 +196,7 @@ quiet_logged loaded nest cost trace c b stack log t idle quiet later small l =
         open_step = λ o. absurd (o open_none);
         idle = λ o u from below f k. elim (cases_lt u b.time) [
           | inl early ↦ l.awaits.idle o u from early f k
-          | inr on ↦ none_seen loaded nest trace c b log t u k keeps l.ground l.ties rest.1 quiet on below small
+          | inr on ↦ none_seen loaded nest trace c b log t u k keeps l.ground l.ties l.gates rest.1 quiet on below small
         ];
       };
       time = omega arith;

@@ -18,7 +18,7 @@ use Rattle.esc_core.specs.Brain.{Brain}
 use Rattle.esc_laws.specs.Seen.{sees}
 use Rattle.esc_laws.specs.Steps.{Turned, journal, called, Below}
 use Rattle.esc_base.specs.declared.note.Note.{Note}
-use Rattle.esc_laws.specs.Tied.{Keeps, Told}
+use Rattle.esc_laws.specs.Tied.{Keeps, WordTold}
 use Rattle.esc_laws.specs.World.{after_event}
 use Rattle.esc_laws.specs.Logged.{Marks}
 use Rattle.esc_laws.proofs.Pushes.{All-later}
@@ -39,6 +39,7 @@ marks_later loaded nest trace b stack log u le m = record {
   driven = m.driven;
   commutated = m.commutated;
   nested = m.nested;
+  waits = m.waits;
   stack_is = m.stack_is;
   past = All-later time_of (journal loaded log) b.time u le m.past;
 }
@@ -100,11 +101,12 @@ marks_grow loaded nest trace e b stack log at m = record {
   driven = m.driven;
   commutated = m.commutated;
   nested = m.nested;
+  waits = m.waits;
   stack_is = m.stack_is;
   past = All-later time_of (journal loaded log) b.time (after_event b e).time (let s = event_time b e in omega arith) m.past;
 }
 
-pub told_grows : (e : Event) (c : Brain) (b : Bank) (back : List Note) → Told c b back → Told c (after_event b e) back
+pub told_grows : (e : Event) (c : Brain) (b : Bank) (back : List Note) → WordTold c b back → WordTold c (after_event b e) back
 told_grows e c b back t = let same : SameRegs b (after_event b e) = same_regs b e in rw (same.high, same.low) t
 
 pub keeps_grow : (e : Event) (c : Brain) (b : Bank) (stack : List Kind) → Keeps c b stack → Keeps c (after_event b e) stack

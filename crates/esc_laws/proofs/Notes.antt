@@ -3,7 +3,7 @@ use Rattle.std.proofs.Common.{◌≡◌, ◌≤◌, ℕ, List, [], ◌∷◌, �
 use Rattle.std.proofs.lemmas.List.Elements.{All-nil, All-cons, All-head, All-tail, All-push}
 use Rattle.esc_base.specs.declared.event.Event.{Event}
 use Rattle.esc_base.specs.declared.note.Note.{Note}
-use Rattle.esc_base.specs.Journal.{Journal, IsLater, time_of}
+use Rattle.esc_base.specs.Journal.{Each, Journal, IsLater, time_of}
 use Rattle.settings_block.specs.declared.stored.Loaded.{Loaded}
 use Rattle.interrupt_machine.specs.declared.nest.Nest.{Nest}
 use Rattle.arming.proofs.InOrder.{each_push}
@@ -14,6 +14,7 @@ use Rattle.esc_laws.specs.Driven.{IsDriven, Driven}
 use Rattle.esc_laws.specs.Saves.{forward_at}
 use Rattle.esc_laws.specs.Nested.{NestRule, NestedAfter}
 use Rattle.esc_laws.specs.Steps.{opening}
+use Rattle.esc_laws.specs.Rooms.{TurnWaits}
 
 -- the notes keep the laws, in the order of their times, up to t
 pub record Said (loaded : Loaded) (nest : Nest) (trace : List Event) (t : ℕ) (rest : List Note) : Type 0 where
@@ -23,6 +24,7 @@ pub record Said (loaded : Loaded) (nest : Nest) (trace : List Event) (t : ℕ) (
   pub driven : Driven (opening loaded ++ rest)
   pub commutated : Commutated loaded.settings.advance (forward_at loaded.settings) (opening loaded ++ rest)
   pub nested : NestedAfter nest (opening loaded) rest
+  pub waits : Each (λ before n. TurnWaits (reverse before) n) [] (opening loaded ++ rest)
   pub past : All (λ n. time_of n ≤ t) (opening loaded ++ rest)
 
 at_end : (t u : ℕ) (xs : List Note) → t ≡ u → All (λ n. time_of n ≤ u) xs → All (λ n. time_of n ≤ t) xs
@@ -34,7 +36,8 @@ pub record NoteFits (loaded : Loaded) (nest : Nest) (trace : List Event) (before
   pub safe : IsSafe (reverse before) n
   pub driven : IsDriven (reverse before) n
   pub turns : TurnRule loaded.settings.advance (forward_at loaded.settings) (reverse before) n
-  pub nest : NestRule nest before n
+  pub nesting : NestRule nest before n
+  pub waits : TurnWaits (reverse before) n
 
 -- one more note at t
 pub said_push : (loaded : Loaded) (nest : Nest) (trace : List Event) (t : ℕ) (rest : List Note) (n : Note) → Said loaded nest trace t rest → time_of n ≡ t
@@ -47,7 +50,8 @@ said_push loaded nest trace t rest n s at f =
       driven = each_push (λ before n. IsDriven (reverse before) n) [] (opening loaded ++ rest) n s.driven f.driven;
       commutated = each_push (λ before n. TurnRule loaded.settings.advance (forward_at loaded.settings) (reverse before) n) [] (opening loaded ++ rest) n
           s.commutated f.turns;
-      nested = each_push (NestRule nest) (opening loaded) rest n s.nested f.nest;
+      nested = each_push (NestRule nest) (opening loaded) rest n s.nested f.nesting;
+      waits = each_push (λ before n. TurnWaits (reverse before) n) [] (opening loaded ++ rest) n s.waits f.waits;
       past = All-push (λ x. time_of x ≤ t) (opening loaded ++ rest) n s.past (rw at (omega arith));
     }
 

@@ -172,11 +172,11 @@ nesting_refuses = record {
   return_of_an_outer_kind =
       λ nest loaded after h. (let e = (nest_fits nest loaded (enters 2400 2 ∷ enters 2402 3 ∷ []) after (leaves 2404 2) h).0 in absurd (cc));
   lower_kind_enters =
-      λ nest loaded after h. not_above nest kind.Cap 2 (omega arith) (omega arith) (nest_fits nest loaded (enters 2400 3 ∷ []) after (enters 2402 2) h).1.0;
+      λ nest loaded after h. not_above nest kind.Cap 2 (omega arith) (omega arith) (nest_fits nest loaded (enters 2400 3 ∷ []) after (enters 2402 2) h).1;
   kind_enters_twice =
-      λ nest loaded after h. not_above nest kind.Tick 2 (omega arith) (omega arith) (nest_fits nest loaded (enters 2400 2 ∷ []) after (enters 2402 2) h).1.0;
+      λ nest loaded after h. not_above nest kind.Tick 2 (omega arith) (omega arith) (nest_fits nest loaded (enters 2400 2 ∷ []) after (enters 2402 2) h).1;
   enters_above_another_with_nest_1 = λ loaded after h. (let zero = (All-head (λ i. (kind_number i ≡ 0) × (0 < 3)) kind.Tick []
-      (nest_fits One loaded (enters 2400 2 ∷ []) after (enters 2402 3) h).1.0).0 in absurd (omega arith));
+      (nest_fits One loaded (enters 2400 2 ∷ []) after (enters 2402 3) h).1).0 in absurd (omega arith));
   uart_enters = λ nest loaded after h. (nest_fits nest loaded [] after (enters 2400 1) h).0;
   cmp_enters = λ nest loaded after h. (nest_fits nest loaded [] after (enters 2400 4) h).0;
   window_in_tick = λ nest loaded after h. (let e = nest_fits nest loaded (enters 2400 2 ∷ []) after (window 2402 0) h in absurd (cc));

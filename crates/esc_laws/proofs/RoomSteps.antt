@@ -1,6 +1,7 @@
 -- What all rooms use: the shared ground after a note, and notes that fit.
-use Rattle.std.proofs.Common.{◌≡◌, ◌∙◌, Bool, true, false, if◌then◌else◌, List, ◌∷◌, None, Some, ap}
+use Rattle.std.proofs.Common.{◌≡◌, ◌≢◌, ◌∙◌, Bool, true, false, if◌then◌else◌, List, ◌∷◌, None, Some, ap}
 use Rattle.esc_base.specs.declared.kind.Kind.{Kind}
+use Rattle.esc_base.specs.declared.kind.Kind.TheVariants as kind
 use Rattle.esc_base.specs.declared.note.Note.{Note}
 use Rattle.arming.specs.Controlled.{IsSave, says}
 use Rattle.arming.specs.Stands.{changes_control}
@@ -9,7 +10,6 @@ use Rattle.interrupt_machine.specs.Open.{innermost, outer_ones}
 use Rattle.esc_core.specs.Stepped.{Stepped}
 use Rattle.interrupt_machine.specs.Did.{accessed}
 use Rattle.gate_driver.proofs.OffTimes.{gates_same}
-use Rattle.esc_laws.specs.Tied.{gates_of}
 use Rattle.esc_laws.specs.World.{World, noted}
 use Rattle.esc_laws.specs.Rooms.{Ground, GatesKeep, StepKeeps}
 use Rattle.esc_laws.proofs.Saves.{changes_orders, orders_other}
@@ -26,12 +26,13 @@ ground_noted w n c s p o g = record {
   small = g.small;
 }
 
--- a step that leaves the gates
-pub quiet_gates : (w : World) (s : Stepped) → gates_of s.core ≡ gates_of w.core → (accessed w.bank s.access).hi ≡ w.bank.hi
-    → (accessed w.bank s.access).lo ≡ w.bank.lo → GatesKeep w s
-quiet_gates w s e hi lo = record {
-  off_times = e ∙ gates_same (gates_of w.core) w.bank (accessed w.bank s.access) hi lo;
+-- a step that leaves the gates, of a handler without a part in the drive
+pub quiet_gates : (k : Kind) (w : World) (s : Stepped) → k ≢ kind.Pwm → s.core.drive.gates ≡ w.core.drive.gates
+    → (accessed w.bank s.access).hi ≡ w.bank.hi → (accessed w.bank s.access).lo ≡ w.bank.lo → GatesKeep k w s
+quiet_gates k w s ne e hi lo = record {
+  off_times = e ∙ gates_same w.core.drive.gates w.bank (accessed w.bank s.access) hi lo;
   fits = λ told moved. absurd (moved hi lo);
+  drive = record { low = λ o d. lo; high = λ o p d. hi; chops = λ is own. absurd (ne is); back = λ is over. absurd (ne is) };
 }
 
 pub inside : (stack : List Kind) (k : Kind) (outer : List Kind) → stack ≡ k ∷ outer → innermost stack ≡ Some k

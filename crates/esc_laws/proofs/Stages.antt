@@ -1,5 +1,5 @@
 -- Each stage of a run, once for all handlers: an entry, an own step, time, an event.
-use Rattle.std.proofs.Common.{◌≡◌, ◌≤◌, ◌<◌, ℕ, Bool, true, false, ◌&&◌, ◌==◌, if◌then◌else◌, List, [], ◌∷◌, ◌++◌, reverse, Some, None, ◌⊎◌, refl, sym, ◌∙◌, ap, subst, arith, All, inl, inr, append-nil, append_assoc}
+use Rattle.std.proofs.Common.{◌≡◌, ◌≢◌, ◌≤◌, ◌<◌, ℕ, Bool, true, false, ◌&&◌, ◌==◌, if◌then◌else◌, List, [], ◌∷◌, ◌++◌, reverse, Some, None, ◌⊎◌, refl, sym, ◌∙◌, ap, subst, arith, All, inl, inr, append-nil, append_assoc}
 use Rattle.std.proofs.lemmas.Bool.{cases_Bool}
 use Rattle.std.proofs.lemmas.Bool.Decides.{nat_tests}
 use Rattle.std.proofs.lemmas.List.{reverse-append, reverse-reverse}
@@ -37,9 +37,9 @@ use Rattle.esc_laws.specs.Driven.{IsDriven}
 use Rattle.esc_laws.specs.Nested.{NestRuleAt, IsAboveAll, IsBuilt, IsAsked}
 use Rattle.esc_laws.specs.Steps.{opening, is_entry, ReturnsLast}
 use Rattle.esc_laws.specs.Saves.{is_save, forward_at}
-use Rattle.esc_laws.specs.Tied.{gates_of, Told}
+use Rattle.esc_laws.specs.Tied.{WordTold}
 use Rattle.esc_laws.specs.World.{Made, made_next, World, placed, so_far, onto, noted, enters, after_enter, after_step, step_notes, all_notes, gated, counted, open_left, at_time, after_event, after_outside}
-use Rattle.esc_laws.specs.Rooms.{Above, HoldsAlone, Past, Ground, Tie, Ties, owner, AllFit, WordMoves, GatesKeep, StepTold, StepKeeps}
+use Rattle.esc_laws.specs.Rooms.{Above, HoldsAlone, Past, Ground, Tie, Ties, owner, TurnWaits, AllFit, WordMoves, GatesKeep, StepTold, StepKeeps}
 use Rattle.esc_laws.proofs.Pushes.{All-later, place-push}
 use Rattle.esc_laws.proofs.Notes.{Said, NoteFits, said_push}
 use Rattle.esc_laws.proofs.Facts.{access_time}
@@ -76,7 +76,7 @@ world_of loaded nest trace c b made rest =
 
 pub record Stood (loaded : Loaded) (nest : Nest) (trace : List Event) (c : Brain) (b : Bank) (made : Made) (rest : List Note) (stack : List Kind) : Type 0 where
   pub said : Said loaded nest trace b.time rest
-  pub gates : Told c b (reverse (opening loaded ++ rest))
+  pub gates : WordTold c b (reverse (opening loaded ++ rest))
   pub ground : Ground (world_of loaded nest trace c b made rest)
   pub ties : (j : Kind) → Tie j (world_of loaded nest trace c b made rest)
   pub stack_is : (place (opening loaded ++ rest)).stack ≡ stack
@@ -84,15 +84,16 @@ pub record Stood (loaded : Loaded) (nest : Nest) (trace : List Event) (c : Brain
 -- a note fits the place that it finds, and so the notes before it
 note_fits : (w : World) (before : List Note) (n : Note) → reverse before ≡ w.back → WindowRuleAt w.loaded w.trace (so_far w) w.back n → IsSafe w.back n
     → IsDriven w.back n → TurnRule w.loaded.settings.advance (forward_at w.loaded.settings) w.back n → NestRuleAt w.nest (so_far w) w.back n
-    → NoteFits w.loaded w.nest w.trace before n
-note_fits w before n e window safe driven turns nest =
+    → TurnWaits w.back n → NoteFits w.loaded w.nest w.trace before n
+note_fits w before n e window safe driven turns nest waits =
     let at : placed w.back ≡ place before = ap placed (sym e) ∙ placed-is before in
     record {
       window = rw (e, ← at) window;
       safe = rw e safe;
       driven = rw e driven;
       turns = rw e turns;
-      nest = rw (e, ← at) nest;
+      nesting = rw (e, ← at) nest;
+      waits = rw e waits;
     }
 
 -- a note of an own step is no G
@@ -106,7 +107,7 @@ all_said : (k : Kind) (w : World) (rest notes : List Note) → reverse (opening 
 all_said k w rest [] e s f = subst (λ (r : List Note). Said w.loaded w.nest w.trace w.bank.time r) (sym (append-nil rest)) s
 all_said k w rest (n ∷ notes) e s f =
     let fits : NoteFits w.loaded w.nest w.trace (opening w.loaded ++ rest) n =
-    note_fits w (opening w.loaded ++ rest) n e f.0.window (owned_safe n k w.back f.0.owned) f.0.driven f.0.turns f.0.nest in
+    note_fits w (opening w.loaded ++ rest) n e f.0.window (owned_safe n k w.back f.0.owned) f.0.driven f.0.turns f.0.nest f.0.waits in
     subst (λ (r : List Note). Said w.loaded w.nest w.trace w.bank.time r) (append_assoc rest (n ∷ []) notes)
     (all_said k (noted w n) (rest ++ n ∷ []) notes (reverse-push (opening w.loaded ++ rest) n ∙ ap (λ (back : List Note). n ∷ back) e)
     (said_push w.loaded w.nest w.trace w.bank.time rest n s f.0.at fits) f.1)
@@ -139,11 +140,11 @@ all_own k w (n ∷ notes) f =
     All-cons (IsOwn k w.bank.time) n notes (f.0.at, owned_no_entry n k f.0.owned, owned_save n k f.0.owned) (all_own k (noted w n) notes f.1)
 
 -- they leave what the G before tell of the gates
-told_other : (n : Note) (k : Kind) (c : Brain) (b : Bank) (back : List Note) → owner n ≡ Some k → Told c b back → Told c b (n ∷ back)
+told_other : (n : Note) (k : Kind) (c : Brain) (b : Bank) (back : List Note) → owner n ≡ Some k → WordTold c b back → WordTold c b (n ∷ back)
 told_other (note.Gate t h l) k c b back e g = absurd (let z : None ≡ Some k = e in cc)
 told_other n k c b back e g = record { hi_is = g.hi_is; lo_is = g.lo_is; hi_free = g.hi_free; lo_free = g.lo_free }
 
-told_kept : (k : Kind) (w : World) (notes : List Note) (c : Brain) (b : Bank) → AllFit k w notes → Told c b w.back → Told c b (onto notes w.back)
+told_kept : (k : Kind) (w : World) (notes : List Note) (c : Brain) (b : Bank) → AllFit k w notes → WordTold c b w.back → WordTold c b (onto notes w.back)
 told_kept k w [] c b f g = g
 told_kept k w (n ∷ notes) c b f g = told_kept k (noted w n) notes c b f.1 (told_other n k c b w.back f.0.owned g)
 
@@ -162,10 +163,10 @@ kept_stood k w rest outer s e said ties told keeps =
     ap (λ (ns : List Note). onto notes ns) (sym e) ∙ onto-reverse (opening w.loaded ++ rest) notes ∙ ap reverse (append_assoc (opening w.loaded) rest notes) in
     record {
       said = subst (λ (t : ℕ). Said w.loaded w.nest w.trace t (rest ++ notes)) (sym (access_time w.bank s.access)) (all_said k w rest notes e said fits);
-      gates = subst (λ (ns : List Note). Told s.core after ns) back (told_kept k w notes s.core after fits told);
+      gates = subst (λ (ns : List Note). WordTold s.core after ns) back (told_kept k w notes s.core after fits told);
       ground = subst (λ (ns : List Note). Ground (record (after_step k w s) { back = ns })) back keeps.ground;
       ties = λ j. subst (λ (ns : List Note). Tie j (record (after_step k w s) { back = ns })) back (elim (same_kind j k) [
-        | inl e ↦ subst (λ (x : Kind). Tie x (after_step k w s)) (sym e) keeps.tie
+        | inl e ↦ subst (λ (x : Kind). Tie x (after_step k w s)) (sym e) (keeps.tie told)
         | inr ne ↦ keeps.others j ne (ties j)
       ]);
       stack_is = ap (λ (p : Place). p.stack) (sym (placed-is whole) ∙ ap placed (sym back)) ∙ keeps.stack_is;
@@ -203,27 +204,27 @@ word_after b after at = elim (cases_Bool ((after.hi == b.hi) && (after.lo == b.l
     other_word m n p q e s t = grind (arith, nat_tests)
 
 -- where the word stays, what was told of the gates is so still
-told_same : (w : World) (s : Stepped) → GatesKeep w s → Told w.core w.bank w.back → SameWord w.bank (accessed w.bank s.access) → StepTold w s
-told_same w s keep told same =
+told_same : (k : Kind) (w : World) (s : Stepped) → GatesKeep k w s → WordTold w.core w.bank w.back → SameWord w.bank (accessed w.bank s.access) → StepTold w s
+told_same k w s keep told same =
     let after : Bank = accessed w.bank s.access in
-    let gates : gates_of s.core ≡ gates_of w.core = keep.off_times ∙ sym (gates_same (gates_of w.core) w.bank after same.high same.low) in
+    let gates : s.core.drive.gates ≡ w.core.drive.gates = keep.off_times ∙ sym (gates_same w.core.drive.gates w.bank after same.high same.low) in
     rw (gates, same.high, same.low) told
 
 -- and where it becomes another one, the G keeps the dead time and tells the rest
-gate_said : (w : World) (s : Stepped) → GatesKeep w s → Told w.core w.bank w.back → OtherWord w.bank (accessed w.bank s.access)
+gate_said : (k : Kind) (w : World) (s : Stepped) → GatesKeep k w s → WordTold w.core w.bank w.back → OtherWord w.bank (accessed w.bank s.access)
     → IsSafe w.back (note.Gate (as_tick w.bank.time) (accessed w.bank s.access).hi (accessed w.bank s.access).lo)
     × StepTold (gated w (accessed w.bank s.access)) s
-gate_said w s keep told other =
+gate_said k w s keep told other =
     let after : Bank = accessed w.bank s.access in
     let at : after.time ≡ w.bank.time = access_time w.bank s.access in
     let test : ((after.hi == high_at w.back) && (after.lo == low_at w.back)) ≡ false = rw (told.hi_is, told.lo_is) other.test in
-    let said = said_after (gates_of w.core) (gates_of s.core) w.bank after w.back at keep.off_times told (keep.fits told other.moves).dead_time in
-    let tied : IsTied (gates_of s.core) after.hi after.lo (note.Gate (as_tick after.time) after.hi after.lo ∷ w.back) =
-    subst (λ (v : Bool). IsTied (gates_of s.core) after.hi after.lo (if v then w.back else note.Gate (as_tick after.time) after.hi after.lo ∷ w.back)) test
+    let said = said_after w.core.drive.gates s.core.drive.gates w.bank after w.back at keep.off_times told (keep.fits told other.moves).dead_time in
+    let tied : IsTied s.core.drive.gates after.hi after.lo (note.Gate (as_tick after.time) after.hi after.lo ∷ w.back) =
+    subst (λ (v : Bool). IsTied s.core.drive.gates after.hi after.lo (if v then w.back else note.Gate (as_tick after.time) after.hi after.lo ∷ w.back)) test
     said.tied in
     (
       subst (λ (t : ℕ). IsSafe w.back (note.Gate (as_tick t) after.hi after.lo)) at (said.safe test),
-      subst (λ (t : ℕ). IsTied (gates_of s.core) after.hi after.lo (note.Gate (as_tick t) after.hi after.lo ∷ w.back)) at tied,
+      subst (λ (t : ℕ). IsTied s.core.drive.gates after.hi after.lo (note.Gate (as_tick t) after.hi after.lo ∷ w.back)) at tied,
     )
 
 counted_need : (k : Kind) (c : Brain) (b : Bank) → need_of (counted_down c b) k ≡ need_of c k
@@ -250,21 +251,21 @@ step_made k answers loaded nest trace c b made rest outer i past above alone lef
     let shut : Above k w = (λ j l. counted_left j c b ∙ above j l) in
     let some : 0 < left_of w.core k = rw (counted_left k c b) left in
     let holds : HoldsAlone k w = (λ j ne. rw (counted_need j c b) (alone j ne)) in
-    let was : Told w.core w.bank w.back = i.gates in
+    let was : WordTold w.core w.bank w.back = i.gates in
     let plain : StepKeeps k outer w s = (law k).steps w answers outer i.ground ties shut holds past on some in
     elim (word_after b after (access_time b s.access)) [
       | inl same ↦ rw same.none (
-        kept_stood k w rest outer s refl i.said ties (told_same w s plain.gates was same) plain,
-        all_own k w (step_notes b.time k s) (plain.fits (told_same w s plain.gates was same)),
-        returns_last k outer w s on (told_same w s plain.gates was same) plain,
+        kept_stood k w rest outer s refl i.said ties (told_same k w s plain.gates was same) plain,
+        all_own k w (step_notes b.time k s) (plain.fits (told_same k w s plain.gates was same)),
+        returns_last k outer w s on (told_same k w s plain.gates was same) plain,
       )
       | inr other ↦ (
           let told : StepKeeps k outer (gated w after) s =
           (law k).steps (gated w after) answers outer (ground_noted w g refl refl tt refl i.ground) (λ j. gate_tie j w after (ties j)) shut holds past on some in
-          let by = gate_said w s plain.gates was other in
+          let by = gate_said k w s plain.gates was other in
           let gate = plain.gates.fits was other.moves in
           let said : Said loaded nest trace b.time (rest ++ g ∷ []) =
-          said_push loaded nest trace b.time rest g i.said refl (note_fits w (opening loaded ++ rest) g refl tt by.0 gate.driven tt gate.nest) in
+          said_push loaded nest trace b.time rest g i.said refl (note_fits w (opening loaded ++ rest) g refl tt by.0 gate.driven tt gate.nest tt) in
           let back : reverse (opening loaded ++ (rest ++ g ∷ [])) ≡ g ∷ reverse (opening loaded ++ rest) =
           ap reverse (sym (append_assoc (opening loaded) rest (g ∷ []))) ∙ reverse-push (opening loaded ++ rest) g in
           let stood =
@@ -283,7 +284,7 @@ ground_enter : (k : Kind) (w : World) → Ground w → Ground (after_enter k w)
 ground_enter kind.Main w g = ground_noted w (enters kind.Main w.bank.time) refl refl tt refl g
 ground_enter k w g = ground_noted w (enters k w.bank.time) refl refl tt refl g
 
-enter_told : (k : Kind) (c : Brain) (b : Bank) (back : List Note) → Told c b back → Told (entered_core c k) (after_entry b k) (enters k b.time ∷ back)
+enter_told : (k : Kind) (c : Brain) (b : Bank) (back : List Note) → WordTold c b back → WordTold (entered_core c k) (after_entry b k) (enters k b.time ∷ back)
 enter_told kind.Main c b back g = record { hi_is = g.hi_is; lo_is = g.lo_is; hi_free = g.hi_free; lo_free = g.lo_free }
 enter_told k c b back g = record { hi_is = g.hi_is; lo_is = g.lo_is; hi_free = g.hi_free; lo_free = g.lo_free }
 
@@ -304,14 +305,14 @@ enter_fits k w before stack e open_is asked above =
       subst (λ (st : List Kind). IsAboveAll w.nest st (kind_number k))
           (sym (ap (λ (p : Place). p.stack) (ap placed (sym e) ∙ placed-is before) ∙ open_is)) above,
       rw (kind_of-number k) asked.1,
-    )
+    ) tt
 
 pub enter_stood : (k : Kind) (loaded : Loaded) (nest : Nest) (trace : List Event) (c : Brain) (b : Bank) (made : Made) (rest : List Note)
     (stack : List Kind)
-    → Stood loaded nest trace c b made rest stack → left_of c k ≡ 0 → ((j : Kind) → 8 < need_of c j) → due_now c.orders.save_asked b k ≡ true
+    → Stood loaded nest trace c b made rest stack → Past made b.time → left_of c k ≡ 0 → ((j : Kind) → 8 < need_of c j) → due_now c.orders.save_asked b k ≡ true
     → IsAboveAll nest stack (kind_number k)
     → Stood loaded nest trace (entered_core c k) (after_entry b k) (made_next k true b.time made) (rest ++ enters k b.time ∷ []) (k ∷ stack)
-enter_stood k loaded nest trace c b made rest stack i none unheld due above =
+enter_stood k loaded nest trace c b made rest stack i past none unheld due above =
     let w : World = world_of loaded nest trace c b made rest in
     let n : Note = enters k b.time in
     let back : n ∷ reverse (opening loaded ++ rest) ≡ reverse (opening loaded ++ (rest ++ n ∷ [])) =
@@ -319,11 +320,11 @@ enter_stood k loaded nest trace c b made rest stack i none unheld due above =
     record {
       said = subst (λ (t : ℕ). Said loaded nest trace t (rest ++ n ∷ [])) (sym (enter_time k b)) (said_push loaded nest trace b.time rest n i.said refl
           (enter_fits k w (opening loaded ++ rest) stack refl i.stack_is ((law k).asked w i.ground i.ties unheld due) above));
-      gates = subst (λ (ns : List Note). Told (entered_core c k) (after_entry b k) ns) back (enter_told k c b (reverse (opening loaded ++ rest)) i.gates);
+      gates = subst (λ (ns : List Note). WordTold (entered_core c k) (after_entry b k) ns) back (enter_told k c b (reverse (opening loaded ++ rest)) i.gates);
       ground = subst (λ (ns : List Note). Ground (record (after_enter k w) { back = ns })) back (ground_enter k w i.ground);
       ties = λ j. subst (λ (ns : List Note). Tie j (record (after_enter k w) { back = ns })) back (elim (same_kind j k) [
         | inl e ↦ subst (λ (x : Kind). Tie x (after_enter k w)) (sym e) ((law k).entered w i.ground i.ties unheld none due)
-        | inr ne ↦ (law k).beside w j ne (i.ties j)
+        | inr ne ↦ (law k).beside w i.ground i.ties unheld none due past j ne
       ]);
       stack_is = ap (λ (ns : List Note). (place ns).stack) (sym (append_assoc (opening loaded) rest (n ∷ [])))
           ∙ ap (λ (p : Place). p.stack) (place-push (opening loaded ++ rest) n) ∙ enter_stack k (place (opening loaded ++ rest)) b.time

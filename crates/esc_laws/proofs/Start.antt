@@ -1,5 +1,5 @@
 -- The log of a run that has made no step.
-use Rattle.std.proofs.Common.{◌≡◌, ◌≤◌, ℕ, false, List, [], ◌∷◌, reverse, refl, sym, ◌∙◌, ap, arith, lit<, All, Option, Some, None, ◌+◌}
+use Rattle.std.proofs.Common.{◌≡◌, ◌≤◌, ℕ, true, false, List, [], ◌∷◌, reverse, refl, sym, ◌∙◌, ap, arith, lit<, All, Option, Some, None, ◌+◌}
 use Rattle.std.proofs.lemmas.List.Elements.{All-nil, All-cons}
 use Rattle.esc_base.specs.declared.kind.Kind.{Kind}
 use Rattle.esc_base.specs.declared.kind.Kind.TheVariants as kind
@@ -26,10 +26,12 @@ use Rattle.esc_laws.specs.Steps.{stall_end, first_notes, load_number, opening, j
 use Rattle.esc_laws.specs.Windowed.{Windowed}
 use Rattle.esc_base.specs.declared.gate.Leg.{Leg}
 use Rattle.esc_base.specs.declared.gate.Leg.TheVariants as leg
+use Rattle.esc_base.specs.Legs.{is_on}
 use Rattle.gate_driver.specs.Gated.{at_leg, no_legs}
-use Rattle.esc_laws.specs.Tied.{Keeps, Told}
+use Rattle.esc_laws.specs.DriveTied.{DriveTied}
+use Rattle.esc_laws.specs.Tied.{Keeps, WordTold}
 use Rattle.esc_laws.specs.World.{world}
-use Rattle.esc_laws.specs.Rooms.{Ground, Tie}
+use Rattle.esc_laws.specs.Rooms.{Ground, Tie, drive_seen}
 use Rattle.esc_laws.specs.Logged.{Marks, Logged, first_bank}
 use Rattle.esc_laws.proofs.Notes.{Said}
 use Rattle.esc_laws.proofs.Pushes.{after-none, free-none, made-none, called-none}
@@ -75,6 +77,7 @@ start_said loaded nest trace t = record {
   driven = (tt, (tt, tt));
   commutated = (tt, (tt, tt));
   nested = tt;
+  waits = (tt, (tt, tt));
   past = All-cons (λ n. time_of n ≤ t) (note.Up (as_tick 0) (load_number loaded.fault)) (note.Window (as_tick 0) 0 ∷ []) (omega arith)
       (All-cons (λ n. time_of n ≤ t) (note.Window (as_tick 0) 0) [] (omega arith) (All-nil (λ n. time_of n ≤ t)));
 }
@@ -106,7 +109,7 @@ none_free leg.A = refl
 none_free leg.B = refl
 none_free leg.C = refl
 
-start_told : (loaded : Loaded) → Told (new_core loaded.settings) first_bank (reverse (journal loaded []))
+start_told : (loaded : Loaded) → WordTold (new_core loaded.settings) first_bank (reverse (journal loaded []))
 start_told loaded = record { hi_is = refl; lo_is = refl; hi_free = none_free; lo_free = none_free }
 
 start_marks : (loaded : Loaded) (nest : Nest) → Marks loaded nest [] first_bank [] []
@@ -117,6 +120,7 @@ start_marks loaded nest = record {
   driven = (start_said loaded nest [] 0).driven;
   commutated = (start_said loaded nest [] 0).commutated;
   nested = tt;
+  waits = (start_said loaded nest [] 0).waits;
   stack_is = ap (λ (p : Place). p.stack) (sym (place-opening loaded));
   past = (start_said loaded nest [] 0).past;
 }
@@ -134,6 +138,37 @@ start_ground loaded nest = record {
   small = lit< tt;
 }
 
+none_on : (x : Leg) → is_on 0 x ≡ true → ⊥
+none_on leg.A e = cc
+none_on leg.B e = cc
+none_on leg.C e = cc
+
+-- nothing drives
+start_drive : (loaded : Loaded) (nest : Nest) → DriveTied (drive_seen (world loaded nest [] (new_core loaded.settings) first_bank []))
+start_drive loaded nest = record {
+  sector_is = refl;
+  sectors = omega arith;
+  pair = record { high = λ x e. absurd (none_on x e); low = λ x e. absurd (none_on x e) };
+  held = λ x e. absurd (none_on x e);
+  soon = λ x. rw (← none_free x) (omega arith);
+  outer = λ s x ne. absurd (omega arith);
+  unused = λ z x. sym (none_free x);
+  past = omega arith;
+  since = λ s. absurd (omega arith);
+  to_is = λ e s. absurd (omega arith);
+  at_low = λ e. cc;
+  due = λ d. absurd (omega arith);
+  first = λ z d. absurd (omega arith);
+  turned = λ d. absurd (omega arith);
+  forced = refl;
+  rest_unmarked = λ z. refl;
+  stuck = λ d. absurd (omega arith);
+  marked = λ d. absurd (omega arith);
+  place = tt;
+  low = λ e d. absurd (omega arith);
+  postponed = λ e d. absurd (omega arith);
+}
+
 -- the first window listens, and the other handlers are shut
 start_ties : (loaded : Loaded) (nest : Nest) (k : Kind) → Tie k (world loaded nest [] (new_core loaded.settings) first_bank [])
 start_ties loaded nest kind.Cap = (
@@ -141,9 +176,29 @@ start_ties loaded nest kind.Cap = (
   record { past = λ k d l. absurd (omega arith); order = λ x y le l. absurd (omega arith); few = omega arith },
   tt,
 )
-start_ties loaded nest kind.Tick = (tt, refl, omega arith)
+start_ties loaded nest kind.Tick = (
+  tt,
+  refl,
+  omega arith,
+  refl,
+  λ z. record {
+    rest = record { high_off = refl; low_off = refl; no_event = refl; disarmed = refl; prompt = refl; no_mark = refl };
+    pwm_shut = refl;
+    comm_shut = refl;
+  },
+)
 start_ties loaded nest kind.Main = tt
-start_ties loaded nest kind.Comm = (refl, record { high_off = refl; low_off = refl; no_duty = refl; no_event = refl; disarmed = refl; no_mark = refl })
+start_ties loaded nest kind.Pwm = (
+  tt,
+  record {
+    new = λ e. cc;
+    asks = λ l e. absurd (omega arith);
+    counted = λ l e c. absurd (omega arith);
+    only = λ l e. absurd (omega arith);
+    past = omega arith;
+  },
+)
+start_ties loaded nest kind.Comm = start_drive loaded nest
 start_ties loaded nest k = refl
 
 start_patient : (loaded : Loaded) (nest : Nest) → Patient nest 0 false [] (sees [] (journal loaded []) 0) (called loaded nest [] [])
@@ -171,7 +226,7 @@ logged_start loaded nest cost =
       reached_by = λ k o. cc;
       fits = tt;
       past = omega arith;
-      made_past = rw made-none (record { all = omega arith; cap = omega arith });
+      made_past = rw made-none (record { cap = omega arith; comm = omega arith });
       awaits = record { open_step = λ o. omega arith; idle = λ o t from below f k. absurd (omega arith) };
       time = omega arith;
       put_off = λ u from below. absurd (omega arith);

@@ -27,7 +27,7 @@ use Rattle.esc_core.proofs.Bounds.{Bounds, need_some, mask_down, goes_bounds}
 use Rattle.esc_laws.specs.Place.{Place}
 use Rattle.esc_laws.specs.Seen.{sees, sees_at}
 use Rattle.esc_laws.specs.Steps.{Turned, notes_in, journal, after, uses, is_of, is_entry, ReturnsLast, own_steps, steps_since, entered_at, called, StepFits, Below}
-use Rattle.esc_laws.specs.Tied.{Keeps}
+use Rattle.esc_laws.specs.Tied.{Keeps, WordTold}
 use Rattle.esc_laws.specs.World.{made, world, enters, all_notes, open_left}
 use Rattle.esc_laws.specs.Rooms.{Ground, Tie}
 use Rattle.esc_laws.specs.Logged.{Logged}
@@ -43,18 +43,18 @@ use Rattle.esc_laws.proofs.Turns.{reached_on, reached_new, by_on, by_new, stood,
 -- ---- what is seen due, and isn't open, is due
 
 waits_due : (loaded : Loaded) (nest : Nest) (trace : List Event) (c : Brain) (b : Bank) (stack : List Kind) (log : List Turned) → Keeps c b stack
-    → Ground (world loaded nest trace c b log) → ((j : Kind) → Tie j (world loaded nest trace c b log)) → ((j : Kind) → 8 < need_of c j)
-    → (k : Kind) → sees trace (journal loaded log) b.time k ≡ true → is_open stack k ≡ false → due_now c.orders.save_asked b k ≡ true
-waits_due loaded nest trace c b stack log keeps g t unheld k s f =
-    (law k).called (world loaded nest trace c b log) g t unheld (keeps.shut k f)
+    → Ground (world loaded nest trace c b log) → ((j : Kind) → Tie j (world loaded nest trace c b log)) → WordTold c b (reverse (journal loaded log))
+    → ((j : Kind) → 8 < need_of c j) → (k : Kind) → sees trace (journal loaded log) b.time k ≡ true → is_open stack k ≡ false → due_now c.orders.save_asked b k ≡ true
+waits_due loaded nest trace c b stack log keeps g t told unheld k s f =
+    (law k).called (world loaded nest trace c b log) g t told unheld (keeps.shut k f)
     (subst (λ (p : Place). sees_at trace p (reverse (journal loaded log)) b.time k ≡ true) (sym (placed-is (journal loaded log))) s)
 
 pub sees_due : (loaded : Loaded) (nest : Nest) (trace : List Event) (c : Brain) (b : Bank) (stack : List Kind) (log : List Turned) → Keeps c b stack
-    → Ground (world loaded nest trace c b log) → ((j : Kind) → Tie j (world loaded nest trace c b log)) → ((j : Kind) → 8 < need_of c j)
-    → (k : Kind) → is_waiting (sees trace (journal loaded log) b.time) stack k ≡ true → due_now c.orders.save_asked b k ≡ true
-sees_due loaded nest trace c b stack log keeps g t unheld k e =
+    → Ground (world loaded nest trace c b log) → ((j : Kind) → Tie j (world loaded nest trace c b log)) → WordTold c b (reverse (journal loaded log))
+    → ((j : Kind) → 8 < need_of c j) → (k : Kind) → is_waiting (sees trace (journal loaded log) b.time) stack k ≡ true → due_now c.orders.save_asked b k ≡ true
+sees_due loaded nest trace c b stack log keeps g t told unheld k e =
     let parts = and_parts (sees trace (journal loaded log) b.time k) (not (is_open stack k)) e in
-    waits_due loaded nest trace c b stack log keeps g t unheld k parts.0 (not-true (is_open stack k) parts.1)
+    waits_due loaded nest trace c b stack log keeps g t told unheld k parts.0 (not-true (is_open stack k) parts.1)
 
 -- ---- an entry
 
@@ -76,7 +76,7 @@ entry_fits loaded nest cost trace c b stack log k l down chosen calls = record {
   first = λ o. (
     refl,
     λ j s. highest_most (due_now c.orders.save_asked b) k j
-        (waits_due loaded nest trace c b stack log l.keeps l.ground l.ties (unheld_down c b stack l.keeps down) j s (empty_open stack j (l.marks.stack_is ∙ o)))
+        (waits_due loaded nest trace c b stack log l.keeps l.ground l.ties l.gates (unheld_down c b stack l.keeps down) j s (empty_open stack j (l.marks.stack_is ∙ o)))
         (entry_highest nest stack (due_now c.orders.save_asked b) k chosen),
   );
   entry = λ e. refl;
@@ -138,14 +138,14 @@ entry_turn loaded nest cost trace c b stack log k some l down chosen =
       time = enter_time k b;
       out =
           rw (made-push log (entry_of b.time k))
-          (enter_stood k loaded nest trace c b (made log) (notes_in log) stack (stood loaded nest cost trace b.time c b stack log l) none
+          (enter_stood k loaded nest trace c b (made log) (notes_in log) stack (stood loaded nest cost trace b.time c b stack log l) l.made_past none
           (unheld_down c b stack l.keeps down) due
           (entry_above_all nest stack (due_now c.orders.save_asked b) k l.sorted chosen));
       patient =
           rw still
           (entry_patient nest stack (due_now c.orders.save_asked b) (sees trace (journal loaded log) b.time)
           (sees trace (journal loaded (log ++ entry_of b.time k ∷ [])) b.time) k c.hold (entered_core c k).hold (called loaded nest trace log)
-          (sees_due loaded nest trace c b stack log l.keeps l.ground l.ties (unheld_down c b stack l.keeps down)) chosen (rw down at l.patient));
+          (sees_due loaded nest trace c b stack log l.keeps l.ground l.ties l.gates (unheld_down c b stack l.keeps down)) chosen (rw down at l.patient));
       owes = entry_owes c b stack log k l.owes;
       reached = entry_reached cost trace b stack log k l.at_next l.reached;
       reached_by = entry_by cost trace b stack log k l.at_next l.reached;
@@ -230,7 +230,7 @@ own_turn loaded nest cost trace c b outer log k answers some l none =
       patient =
           own_patient nest k outer (open_left k outer s) (due_now c.orders.save_asked b) (sees trace (journal loaded log) b.time)
           (sees trace (journal loaded (log ++ own_of b.time k notes ∷ [])) b.time) b.masked b'.masked c.hold s.core.hold (called loaded nest trace log)
-          (λ m. sees_due loaded nest trace c b (k ∷ outer) log l.keeps l.ground l.ties (unheld_down c b (k ∷ outer) l.keeps m)) none
+          (λ m. sees_due loaded nest trace c b (k ∷ outer) log l.keeps l.ground l.ties l.gates (unheld_down c b (k ∷ outer) l.keeps m)) none
           (left_goes s.over b'.masked k outer (mask_down k (need_of c k) c.hold b s bound.mask)) held (λ m. bound.mask.most) bound.mask.less l.patient;
       owes = own_owes c s.core outer log k b.time notes s.over l.owes bound.moves.less (λ j ne. (bound.moves.others j ne).0);
       reached = λ j o. reached_on cost trace log (own_of b.time k notes) j refl (l.at_next (λ e. cc)) (l.reached j (left_open s.over k j outer o));

@@ -65,6 +65,7 @@ stood loaded nest cost trace next c b stack log l = record {
     driven = l.marks.driven;
     commutated = l.marks.commutated;
     nested = l.marks.nested;
+    waits = l.marks.waits;
     past = l.marks.past;
   };
   gates = l.gates;
@@ -134,6 +135,7 @@ logged_after loaded nest cost trace c c' b b' stack stack' log e some at l g =
         driven = out.said.driven;
         commutated = out.said.commutated;
         nested = out.said.nested;
+        waits = out.said.waits;
         stack_is = sym out.stack_is;
         past = out.said.past;
       };
@@ -151,7 +153,7 @@ logged_after loaded nest cost trace c c' b b' stack stack' log e some at l g =
           (patient_most nest c'.hold b'.masked stack' (sees trace (journal loaded (log ++ e ∷ [])) b.time) (called loaded nest trace (log ++ e ∷ [])) patient));
       past = rw next (omega arith);
       made_past = rw (made-push log e) (past_soon e.kind e.enters e.tick (made log) (omega arith)
-          (record { all = (let p = l.made_past.all in omega arith); cap = (let p = l.made_past.cap in omega arith) }));
+          (record { cap = (let p = l.made_past.cap in omega arith); comm = (let p = l.made_past.comm in omega arith) }));
       awaits = record { open_step = λ o. rw next (omega arith); idle = λ o t from below f k. absurd (let n = next in omega arith) };
       time = rw g.time (omega arith);
       put_off = λ u from below past f. absurd (let n = next in omega arith);
@@ -161,7 +163,8 @@ logged_after loaded nest cost trace c c' b b' stack stack' log e some at l g =
   where
     past_soon : (k : Kind) (enters : Bool) (t : ℕ) (m : Made) → t + 1 ≤ b.time + cost → Past m (b.time + cost)
         → Past (made_next k enters t m) (b.time + cost)
-    past_soon kind.Cap false t m a p = record { all = a; cap = a }
-    past_soon kind.Pwm true t m a p = record { all = a; cap = p.cap }
-    past_soon kind.Pwm false t m a p = record { all = a; cap = p.cap }
-    past_soon k enters t m a p = record { all = a; cap = p.cap }
+    past_soon kind.Cap false t m a p = record { cap = a; comm = p.comm }
+    past_soon kind.Comm enters t m a p = record { cap = p.cap; comm = a }
+    past_soon kind.Pwm true t m a p = record { cap = p.cap; comm = p.comm }
+    past_soon kind.Pwm false t m a p = record { cap = p.cap; comm = p.comm }
+    past_soon k enters t m a p = p

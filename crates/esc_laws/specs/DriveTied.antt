@@ -92,8 +92,8 @@ RestAt tick.Back hi lo flag timer postponed stuck = Still hi lo flag timer postp
 -- PWM and COMM are shut
 pub record Rests (at : TickAt) (pwm_at : PwmAt) (comm_at : CommAt) (hi lo : ℕ) (flag : Bool) (timer : Option ℕ) (postponed stuck : Bool) : Type 0 where
   pub rest : RestAt at hi lo flag timer postponed stuck
-  pub pwm : pwm_at ≡ pwm.Shut
-  pub comm : comm_at ≡ comm.Shut
+  pub pwm_shut : pwm_at ≡ pwm.Shut
+  pub comm_shut : comm_at ≡ comm.Shut
 
 -- ---- the drive
 
@@ -109,7 +109,7 @@ pub record DriveView : Type 0 where
   pub sector : ℕ
   pub timer : Option ℕ
   pub stuck : Bool
-  -- from this tick on no step has been made
+  -- from this tick on COMM has made no step
   pub past : ℕ
   -- what the notes say: of the newest K, of the newest Q, of the direction, of the drive
   pub demand : ℕ
@@ -291,7 +291,7 @@ pub record DriveTied (v : DriveView) : Type 0 where
   pub to_is : is_turning v.comm_at v.drive.turn.at ≡ false → 0 < v.sector → v.drive.turn.to ≡ v.sector
   pub at_low : v.drive.postponed ≡ true → v.drive.turn.at ≡ change.Low
   -- the next one
-  pub change : 0 < v.demand → ChangeTied v.turn v.drive.change v.time
+  pub due : 0 < v.demand → ChangeTied v.turn v.drive.change v.time
   pub first : v.sector ≡ 0 → 0 < v.demand → v.drive.change ≤ v.time
   -- the row of forced ones, and the stuck mark
   pub turned : 0 < v.demand → v.drive.turned ≡ is_forced v.turn
@@ -300,6 +300,6 @@ pub record DriveTied (v : DriveView) : Type 0 where
   pub stuck : 0 < v.demand → v.told_stuck ≡ (v.stuck || is_stuck v.drive)
   pub marked : 0 < v.demand → is_marking v.comm_at v.drive.turn.at ≡ false → is_stuck v.drive ≡ true → v.stuck ≡ true
   -- COMM, and what it has left
-  pub comm : CommTied v.comm_at v
+  pub place : CommTied v.comm_at v
   pub low : v.comm_at ≡ comm.Shut → 0 < v.demand → LowTied v.tick_at v
   pub postponed : v.comm_at ≡ comm.Shut → 0 < v.demand → v.drive.postponed ≡ true → v.told_postponed ≡ true

@@ -87,7 +87,7 @@ drive_seen w = record {
   sector = w.bank.sector;
   timer = w.bank.comm;
   stuck = w.bank.stuck;
-  past = w.made.past;
+  past = w.made.comm_past;
   demand = demand_at w.back;
   told_sector = sector_at w.back;
   turned_at = turned_at w.back;
@@ -127,10 +127,10 @@ Unheld w = (j : Kind) → 8 < need_of w.core j
 abbrev pub HoldsAlone : Kind → World → Type 0
 HoldsAlone k w = (j : Kind) → j ≢ k → 8 < need_of w.core j
 
--- all steps so far stand before now
+-- these steps stand before now
 pub record Past (made : Made) (t : ℕ) : Type 0 where
-  pub all : made.past ≤ t
   pub cap : made.cap_past ≤ t
+  pub comm : made.comm_past ≤ t
 
 -- ---- what a step of a handler keeps
 
