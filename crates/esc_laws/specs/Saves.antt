@@ -1,11 +1,12 @@
 -- A law, or what a law is said with: what `Legal` means rests on this.
--- What the notes say of the settings and of the flash. Places are bytes that are known, or not.
+-- What the notes say of the settings, of the direction and of the flash. Places are bytes that are known, or not.
 use Rattle.std.specs.Prelude.{◌≡◌, ◌≤◌, ◌⊎◌, ℕ, Bool, true, false, ◌+◌, ◌*◌, ◌==◌, if◌then◌else◌, List, [], ◌∷◌, ◌++◌, take, drop, map, replicate, reverse, bit_and, Option, Some, None}
 use Rattle.std.specs.Option.{option_map}
 use Rattle.esc_base.specs.declared.note.Note.{Note}
 use Rattle.esc_base.specs.declared.note.Note.TheVariants as note
 use Rattle.esc_base.specs.Flash.{Told}
 use Rattle.dshot_commands.specs.declared.act.Act.{Act}
+use Rattle.dshot_commands.specs.declared.act.Act.TheVariants.{Spin}
 use Rattle.dshot_commands.specs.Act.{act_of}
 use Rattle.settings_block.specs.declared.settings.Settings.{Settings}
 use Rattle.settings_block.specs.declared.stored.Loaded.{Loaded}
@@ -22,6 +23,23 @@ abbrev pub settings_at : Settings → List Note → Settings
 settings_at first [] = first
 settings_at first (note.Command t c ∷ back) = changed_by (act_of c) (settings_at first back)
 settings_at first (n ∷ back) = settings_at first back
+
+-- ---- the direction
+
+-- the spin: that of the newest spin command that acted, 0 at the start
+abbrev pub spun_by : Option Act → ℕ → ℕ
+spun_by None spin = spin
+spun_by (Some (Spin side)) spin = side
+spun_by (Some act) spin = spin
+
+abbrev pub spin_at : List Note → ℕ
+spin_at [] = 0
+spin_at (note.Command t c ∷ back) = spun_by (act_of c) (spin_at back)
+spin_at (n ∷ back) = spin_at back
+
+-- the drive is forward where direction and spin are equal
+abbrev pub forward_at : Settings → List Note → Bool
+forward_at first back = (settings_at first back).direction == spin_at back
 
 -- a note of a save
 abbrev pub is_save : Note → Bool
