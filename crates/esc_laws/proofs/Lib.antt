@@ -15,6 +15,7 @@ pub mod Lines
 pub mod RoomSteps
 pub mod Returns
 pub mod DriveFacts
+pub mod CommFacts
 pub mod Law
 pub mod MainRoom
 pub mod TickRoom
