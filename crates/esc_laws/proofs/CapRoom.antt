@@ -392,7 +392,7 @@ cap_law = record {
   called = λ w g t told unheld none s. cap_called w.core.orders.save_asked (so_far w).signal w.trace w.core w.bank (so_far w) w.made.cap_past (shut_tie w (t kind.Cap) none)
       (shut_timer w (t kind.Cap) none) s;
   asked = λ w g t unheld due. (tt, tt);
-  entered = λ w g t unheld none due. (
+  entered = λ w g t unheld none due past. (
     cap_entered w.core.orders.save_asked (so_far w).signal w.trace w.core w.bank (so_far w) w.made.cap_past refl (shut_tie w (t kind.Cap) none)
         (shut_timer w (t kind.Cap) none) due,
     (t kind.Cap).1,

@@ -19,7 +19,8 @@ pub record HandlerLaw (k : Kind) : Type 0 where
   -- only a handler that is built comes due, and PWM only where it is called
   pub asked : (w : World) → Ground w → Ties w → Unheld w → due_now w.core.orders.save_asked w.bank k ≡ true → IsBuilt k × IsAsked k w.back w.bank.time
   -- its entry ties it, and leaves the ties of the others
-  pub entered : (w : World) → Ground w → Ties w → Unheld w → left_of w.core k ≡ 0 → due_now w.core.orders.save_asked w.bank k ≡ true → Tie k (after_enter k w)
+  pub entered : (w : World) → Ground w → Ties w → Unheld w → left_of w.core k ≡ 0 → due_now w.core.orders.save_asked w.bank k ≡ true → Past w.made w.bank.time
+      → Tie k (after_enter k w)
   pub beside : (w : World) → Ground w → Ties w → Unheld w → left_of w.core k ≡ 0 → due_now w.core.orders.save_asked w.bank k ≡ true → Past w.made w.bank.time
       → (j : Kind) → j ≢ k → Tie j (after_enter k w)
   -- each of its steps, the return too, whatever the flash answers

@@ -20,7 +20,7 @@ law kind.Comm = comm_law
 law k = record {
   called = λ w g t told unheld none s. cc;
   asked = λ w g t unheld due. cc;
-  entered = λ w g t unheld none due. cc;
+  entered = λ w g t unheld none due past. cc;
   beside = λ w g t unheld none due. cc;
   steps = λ w answers outer g t above alone past on left. absurd (let shut = t k in omega arith);
   later = λ w u from small g t. t k;

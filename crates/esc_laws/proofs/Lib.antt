@@ -15,6 +15,8 @@ pub mod Lines
 pub mod RoomSteps
 pub mod Returns
 pub mod DriveFacts
+pub mod CommFacts
+pub mod TickFacts
 pub mod Law
 pub mod MainRoom
 pub mod TickRoom

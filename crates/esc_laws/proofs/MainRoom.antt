@@ -54,7 +54,7 @@ pub main_law : HandlerLaw kind.Main
 main_law = record {
   called = λ w g t told unheld none s. g.orders.save_is ∙ s;
   asked = λ w g t unheld due. (tt, tt);
-  entered = λ w g t unheld none due. (due, refl);
+  entered = λ w g t unheld none due past. (due, refl);
   beside = λ w g t unheld none due past. elim [ kind.Main ↦ λ ne. absurd (ne refl) | j ↦ λ ne. t j ];
   steps = λ w answers outer g t above alone past on left. steps w.core.main_at w answers outer g (t kind.Main) on left;
   later = λ w u from small g t. (t kind.Main);

@@ -425,7 +425,7 @@ pwm_law = record {
     flag_calls w.core.tick_at w.bank.flag (pwm_asked_at w.back) (demand_at w.back) (pwm_entered_at w.back) w.bank.time (flag_drives w t unheld due)
         (t kind.Pwm).1 due,
   );
-  entered = λ w g t unheld none due. (
+  entered = λ w g t unheld none due past. (
     refl,
     record {
       new = λ e. (let z : false ≡ true = sym (duty_written w.core.tick_at (unheld kind.Tick)) ∙ e in cc);

@@ -201,7 +201,7 @@ CommTied comm.Decide v = Decides v
 CommTied comm.Turn v = TurnTied v.drive.turn.at v
 CommTied comm.Low v = Resumes v
 CommTied comm.Arm v = HasActed v
-CommTied comm.Stick v = HasArmed v
+CommTied comm.Stick v = HasArmed v × (is_stuck v.drive ≡ true)
 CommTied comm.Back v = HasArmed v
 
 -- how many steps it has made since the newest Q, at least
@@ -291,11 +291,13 @@ pub record DriveTied (v : DriveView) : Type 0 where
   pub to_is : is_turning v.comm_at v.drive.turn.at ≡ false → 0 < v.sector → v.drive.turn.to ≡ v.sector
   pub at_low : v.drive.postponed ≡ true → v.drive.turn.at ≡ change.Low
   -- the next one
+  pub idle : v.demand ≡ 0 → v.turn ≡ Idle
   pub due : 0 < v.demand → ChangeTied v.turn v.drive.change v.time
   pub first : v.sector ≡ 0 → 0 < v.demand → v.drive.change ≤ v.time
   -- the row of forced ones, and the stuck mark
   pub turned : 0 < v.demand → v.drive.turned ≡ is_forced v.turn
   pub forced : v.drive.forced ≡ min 60 v.told_forced
+  pub unforced : v.turn ≡ Started → v.told_forced ≡ 0
   pub rest_unmarked : v.demand ≡ 0 → v.told_stuck ≡ false
   pub stuck : 0 < v.demand → v.told_stuck ≡ (v.stuck || is_stuck v.drive)
   pub marked : 0 < v.demand → is_marking v.comm_at v.drive.turn.at ≡ false → is_stuck v.drive ≡ true → v.stuck ≡ true
