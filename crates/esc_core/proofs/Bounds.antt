@@ -573,7 +573,10 @@ under_mask : (k : Kind) (need : ℕ) (c : Brain) (b : Bank) (s : Stepped) → s.
     → s.over ≡ false → need_of s.core k < need → need ≤ 8 → c.hold ≤ 8 → (b.masked && nat_lt c.hold need) ≡ false → Masks k need c.hold b s
 under_mask k need c b s hold same goes fewer most le e = record {
   most = rw hold (counted_most b.masked c.hold le);
-  enough = λ m. (rw hold (counted_some b.masked c.hold (need_of s.core k) (λ up. let stand = may_stand b.masked c.hold need e up in omega arith) (sym same ∙ m)), goes);
+  enough = λ m. (
+    rw hold (counted_some b.masked c.hold (need_of s.core k) (λ up. let stand = may_stand b.masked c.hold need e up in omega arith) (sym same ∙ m)),
+    goes,
+  );
   less = λ m m'. rw hold (counted_less b.masked c.hold m (let stand = may_stand b.masked c.hold need e m in omega arith));
   stands = λ f l. (same ∙ f most, goes);
 }
