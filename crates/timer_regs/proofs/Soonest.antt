@@ -49,7 +49,9 @@ first_of_both now p q (Some x) (Some y) f g = of_both (nat_lt y x) now x y p q r
 
 -- some kind becomes due
 abbrev some_due : Bank → ℕ → Bool
-some_due b u = either (either (becomes_due b kinds.Tick) (becomes_due b kinds.Cap)) (either (becomes_due b kinds.Pwm) (becomes_due b kinds.Comm)) u
+some_due b u =
+    either (either (either (becomes_due b kinds.Tick) (becomes_due b kinds.Cap)) (becomes_due b kinds.Cmp))
+    (either (becomes_due b kinds.Pwm) (becomes_due b kinds.Comm)) u
 
 left_none : (a b : Bool) → (a || b) ≡ false → a ≡ false
 left_none true b e = e
@@ -60,25 +62,26 @@ right_none true b e = absurd (cc)
 right_none false b e = e
 
 none_due : (b : Bank) (k : Kind) (u : ℕ) → some_due b u ≡ false → becomes_due b k u ≡ false
-none_due b kinds.Tick u e = left_none _ _ (left_none _ _ e)
-none_due b kinds.Cap u e = right_none _ _ (left_none _ _ e)
+none_due b kinds.Tick u e = left_none _ _ (left_none _ _ (left_none _ _ e))
+none_due b kinds.Cap u e = right_none _ _ (left_none _ _ (left_none _ _ e))
+none_due b kinds.Cmp u e = right_none _ _ (left_none _ _ e)
 none_due b kinds.Pwm u e = left_none _ _ (right_none _ _ e)
 none_due b kinds.Comm u e = right_none _ _ (right_none _ _ e)
 none_due b kinds.Main u e = refl
 none_due b kinds.Uart u e = refl
-none_due b kinds.Cmp u e = refl
 
-which_due : (b : Bank) (u : ℕ) (t c p : Bool) → becomes_due b kinds.Tick u ≡ t → becomes_due b kinds.Cap u ≡ c → becomes_due b kinds.Pwm u ≡ p
-    → ((t || c) || (p || becomes_due b kinds.Comm u)) ≡ true → (k : Kind) × (becomes_due b k u ≡ true)
-which_due b u true c p et ec ep e = (kinds.Tick, et)
-which_due b u false true p et ec ep e = (kinds.Cap, ec)
-which_due b u false false true et ec ep e = (kinds.Pwm, ep)
-which_due b u false false false et ec ep e = (kinds.Comm, e)
+which_due : (b : Bank) (u : ℕ) (t c z p : Bool) → becomes_due b kinds.Tick u ≡ t → becomes_due b kinds.Cap u ≡ c → becomes_due b kinds.Cmp u ≡ z
+    → becomes_due b kinds.Pwm u ≡ p → (((t || c) || z) || (p || becomes_due b kinds.Comm u)) ≡ true → (k : Kind) × (becomes_due b k u ≡ true)
+which_due b u true c z p et ec ez ep e = (kinds.Tick, et)
+which_due b u false true z p et ec ez ep e = (kinds.Cap, ec)
+which_due b u false false true p et ec ez ep e = (kinds.Cmp, ez)
+which_due b u false false false true et ec ez ep e = (kinds.Pwm, ep)
+which_due b u false false false false et ec ez ep e = (kinds.Comm, e)
 
 next_of : (b : Bank) (at : Option ℕ) → IsFirstAfter b.time (some_due b) at → IsNextDue b at
 next_of b None f = λ k u lo. none_due b k u (f u lo)
 next_of b (Some t) f =
-    let which = which_due b t _ _ _ refl refl refl f.due in
+    let which = which_due b t _ _ _ _ refl refl refl refl f.due in
     record {
       later = f.later;
       kind = which.0;
@@ -86,8 +89,10 @@ next_of b (Some t) f =
       none_before = λ k u lo hi. none_due b k u (f.none_before u lo hi);
     }
 
-pub soonest : (b : Bank) (t c p m : Option ℕ) → IsFirstDue b kinds.Tick t → IsFirstDue b kinds.Cap c → IsFirstDue b kinds.Pwm p → IsFirstDue b kinds.Comm m
-    → IsNextDue b (sooner (sooner t c) (sooner p m))
-soonest b t c p m ft fc fp fm =
-    next_of b (sooner (sooner t c) (sooner p m))
-    (first_of_both b.time _ _ (sooner t c) (sooner p m) (first_of_both b.time _ _ t c ft fc) (first_of_both b.time _ _ p m fp fm))
+pub soonest : (b : Bank) (t c z p m : Option ℕ) → IsFirstDue b kinds.Tick t → IsFirstDue b kinds.Cap c → IsFirstDue b kinds.Cmp z
+    → IsFirstDue b kinds.Pwm p → IsFirstDue b kinds.Comm m → IsNextDue b (sooner (sooner (sooner t c) z) (sooner p m))
+soonest b t c z p m ft fc fz fp fm =
+    let lower = first_of_both b.time _ _ t c ft fc in
+    let middle = first_of_both b.time _ _ (sooner t c) z lower fz in
+    let upper = first_of_both b.time _ _ p m fp fm in
+    next_of b (sooner (sooner (sooner t c) z) (sooner p m)) (first_of_both b.time _ _ (sooner (sooner t c) z) (sooner p m) middle upper)

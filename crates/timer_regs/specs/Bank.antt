@@ -30,5 +30,16 @@ pub record Bank : Type 0 where
   pub timer : Option ℕ
   -- the newest change of the signal line
   pub changed : Option ℕ
+  -- the comparator's level, and whether it changed since that was last cleared
+  pub comp : Bool
+  pub comp_changed : Bool
+  -- a change of the comparator asks for CMP
+  pub comp_enabled : Bool
+  -- the tick for which the crossing timer is armed
+  pub crossing : Option ℕ
+  -- the sum of six gaps of sectors that was last written, 0 for none
+  pub period : ℕ
+  -- the tick at which the last reply ends, 0 before any
+  pub reply_end : ℕ
   -- the control tick number that was last read
   pub number_read : ℕ

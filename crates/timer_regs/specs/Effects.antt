@@ -1,17 +1,18 @@
 -- What reads, writes, time, entries and outside events do to the registers. A register that a list doesn't name has no effect
 -- there yet; one that gets an effect becomes a field of the bank, and a line of each list that it changes.
-use Rattle.std.specs.Prelude.{◌≡◌, ℕ, ◌+◌, ◌-◌, ◌/◌, ◌%◌, ◌<◌, ◌≤◌, ◌^◌, bit_and, bit_or, Bool, false, not, ◌&&◌, ◌||◌, ◌==◌, if◌then◌else◌, nat_lt, nat_le, max, length, Option, Some, None}
+use Rattle.std.specs.Prelude.{◌≡◌, ℕ, ◌+◌, ◌-◌, ◌*◌, ◌/◌, ◌%◌, ◌<◌, ◌≤◌, ◌^◌, bit_and, bit_or, Bool, true, false, not, ◌&&◌, ◌||◌, ◌==◌, if◌then◌else◌, nat_lt, nat_le, max, length, Option, Some, None}
 use Rattle.esc_base.specs.declared.kind.Kind.{Kind}
 use Rattle.esc_base.specs.declared.kind.Kind.TheVariants as kind
 use Rattle.esc_base.specs.declared.signal.Edge.{Edge}
-use Rattle.esc_base.specs.Numbers.{mode_of}
+use Rattle.esc_base.specs.Numbers.{mode_of, bit_of}
 use Rattle.esc_base.specs.Times.{is_reached, pwm_period}
 use Rattle.esc_base.specs.Trace.{differ}
 use Rattle.edge_capture.specs.Edges.{edge_at}
 use Rattle.edge_capture.specs.Window.{unarmed, opened_in, after_edge, window_closed}
 use Rattle.timer_regs.specs.declared.regs.Reg.{Reg}
-use Rattle.timer_regs.specs.declared.regs.Reg.TheVariants.{GhSet, GlSet, GhClr, GlClr, Mask, Duty, PwmPos, Sector, CommAt, DriveOff, Stuck, CmpEn, CapState, CapEdge, CapArm, CapAt, Reply, TickState, Txd, TxOn}
+use Rattle.timer_regs.specs.declared.regs.Reg.TheVariants.{GhSet, GlSet, GhClr, GlClr, Mask, Duty, PwmPos, Sector, CommAt, DriveOff, Stuck, CmpState, CmpAck, CmpEn, CmpAt, CapState, CapEdge, CapArm, CapAt, Reply, Period, TickState, Txd, TxOn}
 use Rattle.timer_regs.specs.Rest.{rests_from, put_off}
+use Rattle.timer_regs.specs.Reply.{end_of_reply}
 use Rattle.timer_regs.specs.Bank.{Bank}
 use Rattle.timer_regs.specs.Pwm.{has_edge}
 
@@ -32,6 +33,12 @@ reset = record {
   taken = false;
   timer = None;
   changed = None;
+  comp = false;
+  comp_changed = false;
+  comp_enabled = false;
+  crossing = None;
+  period = 0;
+  reply_end = 0;
   number_read = 0;
 }
 
@@ -62,6 +69,10 @@ tick_state b = if b.stuck then number_at b.time + 1073741824 else number_at b.ti
 abbrev pub without : ℕ → ℕ → ℕ
 without word off = bit_and word (7 - off)
 
+-- the comparator as it is read: its level in bit 0, and whether it changed in bit 1
+abbrev pub comp_state : Bank → ℕ
+comp_state b = 2 * bit_of b.comp_changed + bit_of b.comp
+
 abbrev pub counted : Bank → Bank
 counted b = record b { accesses = b.accesses + 1 }
 
@@ -73,6 +84,9 @@ read_value b TickState = tick_state b
 read_value b Duty = b.duty
 read_value b PwmPos = b.time % pwm_period
 read_value b Sector = b.sector
+read_value b CmpState = comp_state b
+read_value b Reply = b.reply_end
+read_value b Period = b.period
 read_value b r = 0
 
 -- what a read leaves: it is counted, and the control tick's number counts as read
@@ -92,8 +106,13 @@ written b GlClr v = record b { accesses = b.accesses + 1; lo = without b.lo v }
 written b Duty v = record b { accesses = b.accesses + 1; duty = v; flag = nat_lt 0 v }
 written b Sector v = record b { accesses = b.accesses + 1; sector = v }
 written b CommAt v = record b { accesses = b.accesses + 1; comm = Some v }
-written b DriveOff v = record b { accesses = b.accesses + 1; comm = None; stuck = false }
+written b DriveOff v = record b { accesses = b.accesses + 1; comm = None; crossing = None; comp_enabled = false; stuck = false; period = 0 }
 written b Stuck v = record b { accesses = b.accesses + 1; stuck = b.stuck || (v == 1) }
+written b CmpAck v = record b { accesses = b.accesses + 1; comp_changed = false }
+written b CmpEn v = record b { accesses = b.accesses + 1; comp_changed = b.comp_changed && not (v == 1); comp_enabled = b.comp_enabled || (v == 1) }
+written b CmpAt v = record b { accesses = b.accesses + 1; comp_enabled = false; crossing = Some v }
+written b Reply v = record b { accesses = b.accesses + 1; reply_end = end_of_reply b.window b.time }
+written b Period v = record b { accesses = b.accesses + 1; period = v }
 written b r v = counted b
 
 -- the values that may be written
@@ -121,6 +140,9 @@ IsSmall TickState v = v < 2 ^ 31
 IsSmall Duty v = v ≤ 1900
 IsSmall PwmPos v = v < 2000
 IsSmall Sector v = v ≤ 6
+IsSmall CmpState v = v ≤ 3
+IsSmall Reply v = v < 2 ^ 32
+IsSmall Period v = v < 2 ^ 32
 IsSmall r v = v ≡ 0
 
 -- time alone goes on to a tick, and a PWM event on the way sets the flag
@@ -140,18 +162,24 @@ after_line b level =
     }
     else b
 
+-- the comparator has a level: where it is a new one, it has changed
+abbrev pub after_comp : Bank → Bool → Bank
+after_comp b level = if differ b.comp level then record b { comp = level; comp_changed = true } else b
+
 -- which kinds are due; MAIN is the firmware's matter
 abbrev pub is_due : Bank → Kind → Bool
 is_due b kind.Cap = (is_readable b && not b.taken) || is_reached b.timer b.time
+is_due b kind.Cmp = is_reached b.crossing b.time || (b.comp_enabled && b.comp_changed)
 is_due b kind.Tick = not (number_at b.time == b.number_read)
 is_due b kind.Comm = is_reached b.comm b.time
 is_due b kind.Pwm = b.flag
 is_due b k = false
 
--- what entering a kind clears: COMM disarms its timer, PWM takes the event, CAP disarms its timer and takes the closed
--- window, which stays readable
+-- what entering a kind clears: COMM disarms its timer, PWM takes the event, CMP disarms its timer and is asked for by no
+-- change of the comparator, CAP disarms its timer and takes the closed window, which stays readable
 abbrev pub after_entry : Bank → Kind → Bank
 after_entry b kind.Cap = record b { taken = b.taken || is_readable b; timer = None }
+after_entry b kind.Cmp = record b { crossing = None; comp_enabled = false }
 after_entry b kind.Comm = record b { comm = None }
 after_entry b kind.Pwm = record b { flag = false }
 after_entry b k = b

@@ -1,5 +1,6 @@
 pub mod Kinds
 pub mod Rest
+pub mod Reply
 pub mod Bank
 pub mod Pwm
 pub mod Effects

@@ -16,6 +16,10 @@ pub record IsSound (b : Bank) : Type 0 where
   pub read : b.number_read ≤ b.time / 2400
   -- no change of the line later than now stands
   pub changed : rests_from b.changed ≤ b.time + rest
+  -- a period fits in its register
+  pub period : b.period < 2 ^ 32
+  -- a reply that was loaded by now ends soon
+  pub reply : b.reply_end ≤ b.time + 4128
   -- no edge later than now was heard
   pub last : last_at b.window.edges ≤ b.time
 

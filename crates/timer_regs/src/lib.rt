@@ -2,6 +2,7 @@
 //! kinds are due.
 #![tactic(auto)]
 
+mod comparator;
 mod kinds;
 mod regs;
 #[cfg(test)]

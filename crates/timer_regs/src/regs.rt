@@ -1,4 +1,4 @@
-ghost use Rattle.std.specs.Prelude.{◌≡◌, ◌+◌, ◌<◌, ◌≤◌, ◌^◌, bit_or, ℕ, max, true};
+ghost use Rattle.std.specs.Prelude.{◌≡◌, ◌+◌, ◌<◌, ◌≤◌, ◌^◌, bit_or, ℕ, max, true, false, None};
 ghost use Rattle.esc_base.specs.declared.kind.Kind.{Kind};
 ghost use Rattle.esc_base.specs.declared.kind.Kind.TheVariants as kinds;
 ghost use Rattle.esc_base.specs.Numbers.{mode_of};
@@ -6,18 +6,26 @@ ghost use Rattle.esc_base.specs.Times.{is_reached as reached};
 ghost use Rattle.timer_regs.specs.Kinds.{has_kind};
 ghost use Rattle.timer_regs.specs.Sound.{IsSound};
 ghost use Rattle.timer_regs.specs.Rest.{rests_from, put_off as put_off_at};
+ghost use Rattle.timer_regs.specs.Reply.{answers_from, end_of_reply as end_of};
+ghost use Rattle.edge_capture.specs.Edges.{last_at};
 ghost use Rattle.timer_regs.specs.Pwm.{edge_after};
-ghost use Rattle.timer_regs.specs.Effects.{reset, counted, read_value, IsSmall, after_read, IsRange, written, advanced, after_line, is_due, after_entry, edges_read, edge_read, shown_edge, number_at, tick_state as tick_state_of, without as word_without};
+ghost use Rattle.timer_regs.specs.Effects.{reset, counted, comp_state, read_value, IsSmall, after_read, IsRange, written, advanced, after_line, after_comp, is_due, after_entry, edges_read, edge_read, shown_edge, number_at, tick_state as tick_state_of, without as word_without};
 ghost use Rattle.timer_regs.specs.NextDue.{tick_of, sooner as sooner_of, IsFirstDue, IsNextDue};
 
 use crate::KindSet;
-use edge_capture::{Capture, Edge};
+use crate::comparator::Comparator;
+use edge_capture::{Burst, Capture, Edge};
 use esc_base::{Arrived, GateWord, Kind, Mode, Tick};
 use std::marker::Model;
 
 // How long the line has to rest, in ticks, before the window timer is reached: longer than any gap between two edges of a
 // good frame.
 const REST: u64 = 200;
+
+// A reply starts 30 microseconds after the last edge that it answers, and has so many bits.
+const REPLY_DELAY: u64 = 1440;
+
+const REPLY_BITS: u32 = 21;
 
 /// A register. Times in registers are ticks of 48 MHz; a word of switches has bit 0 for leg A, bit 1 for
 /// leg B and bit 2 for leg C.
@@ -42,17 +50,17 @@ pub enum Reg {
     Sector,
     /// Arms the commutation timer for that tick.
     CommAt,
-    /// Disarms the commutation and crossing timers, and clears the stuck mark.
+    /// Disarms the commutation and crossing timers, disables comparator interrupts, clears the stuck mark, and sets the period to 0.
     DriveOff,
     /// 1 sets the stuck mark.
     Stuck,
-    /// The comparator's level in bit 0, and in bit 1 whether it changed.
+    /// The comparator's level in bit 0, and in bit 1 whether it changed since that was last cleared.
     CmpState,
     /// Clears the comparator's changed bit.
     CmpAck,
-    /// 1 enables comparator interrupts.
+    /// 1 clears the changed bit and enables comparator interrupts: a change makes CMP due from then on.
     CmpEn,
-    /// Arms the crossing timer for that tick.
+    /// Arms the crossing timer for that tick, and disables comparator interrupts.
     CmpAt,
     /// The number of edges of the closed window, or 0 where none is closed.
     CapState,
@@ -63,9 +71,10 @@ pub enum Reg {
     CapArm,
     /// Arms the window timer for that tick, or for the end of the line's rest of 200 ticks, if that is later.
     CapAt,
-    /// The end tick of the last reply; a write loads 21 line bits.
+    /// The end tick of the last reply, 0 before any. A write loads 21 line bits, each of 64 ticks where the last window was in the
+    /// mode D600Inv, else of 128. The reply starts 1440 ticks after that window's last edge, and at the next tick at the earliest.
     Reply,
-    /// The sum of six gaps of sectors, 0 for none.
+    /// The sum of six gaps of sectors in ticks, 0 for none.
     Period,
     /// The number of the control tick, which then counts as read, plus 2^30 with the stuck mark. Control ticks
     /// are 2400 ticks apart.
@@ -102,6 +111,11 @@ pub struct Regs {
     timer: Option<Tick>,
     // the newest change of the signal line
     changed: Option<Tick>,
+    comparator: Comparator,
+    /// The sum of six gaps of sectors, 0 for none.
+    period: u32,
+    /// The tick at which the last reply ends, 0 before any.
+    reply_end: u32,
     number_read: u32,
 }
 
@@ -128,6 +142,12 @@ impl Model for Regs {
       taken = r.taken;
       timer = tick_of r.timer;
       changed = tick_of r.changed;
+      comp = r.comparator.level;
+      comp_changed = r.comparator.changed;
+      comp_enabled = r.comparator.enabled;
+      crossing = tick_of r.comparator.timer;
+      period = r.period;
+      reply_end = r.reply_end;
       number_read = r.number_read;
     } };
 
@@ -147,6 +167,12 @@ impl Model for Regs {
       taken = r.taken;
       timer = tick_of r.timer;
       changed = tick_of r.changed;
+      comp = r.comparator.level;
+      comp_changed = r.comparator.changed;
+      comp_enabled = r.comparator.enabled;
+      crossing = tick_of r.comparator.timer;
+      period = r.period;
+      reply_end = r.reply_end;
       number_read = r.number_read;
     }) (tick_of r.pwm_edge) };
 }
@@ -172,6 +198,9 @@ impl Regs {
             taken: false,
             timer: None,
             changed: None,
+            comparator: Comparator::new(),
+            period: 0,
+            reply_end: 0,
             number_read: 0,
         }
     }
@@ -224,6 +253,9 @@ impl Regs {
             Reg::Duty => self.duty as u32,
             Reg::PwmPos => (self.time.0 % 2000) as u32,
             Reg::Sector => self.sector as u32,
+            Reg::CmpState => self.comparator.state(),
+            Reg::Reply => self.reply_end,
+            Reg::Period => self.period,
             _ => 0,
         }
     }
@@ -249,16 +281,18 @@ impl Regs {
             }
             Reg::Sector => self.sector = v as u8,
             Reg::CommAt => self.comm = Some(Tick(v as u64)),
-            Reg::DriveOff => {
-                self.comm = None;
-                self.stuck = false;
-            }
+            Reg::DriveOff => self.drive_off(),
             Reg::Stuck => self.stuck = self.stuck || v == 1,
             Reg::CapArm => {
                 self.window.arm(mode_numbered(v), self.time);
                 self.taken = false;
             }
             Reg::CapAt => self.timer = Some(later(Tick(v as u64), resting_from(self.changed))),
+            Reg::CmpAck => self.comparator.changed = false,
+            Reg::CmpEn => self.comparator.enable(v == 1),
+            Reg::CmpAt => self.comparator.arm(Tick(v as u64)),
+            Reg::Reply => self.reply_end = end_of_reply(&self.window, self.time),
+            Reg::Period => self.period = v,
             _ => {}
         }
     }
@@ -284,8 +318,9 @@ impl Regs {
         ensures { IsNextDue self.now (tick_of result) }
     {
         let lower = sooner(self.next_tick(), self.next_cap());
+        let middle = sooner(lower, self.next_cmp());
         let upper = sooner(self.next_pwm(), self.next_comm());
-        sooner(lower, upper)
+        sooner(middle, upper)
     }
 
     /// The kinds that are due, without MAIN, which only the firmware knows of.
@@ -295,6 +330,7 @@ impl Regs {
         KindSet::none()
             .with(Kind::Tick, self.tick_due())
             .with(Kind::Cap, self.cap_due())
+            .with(Kind::Cmp, self.cmp_due())
             .with(Kind::Pwm, self.flag)
             .with(Kind::Comm, self.comm_due())
     }
@@ -309,6 +345,7 @@ impl Regs {
                 self.taken = self.taken || self.window.closed(self.time);
                 self.timer = None;
             }
+            Kind::Cmp => self.comparator.rest(),
             Kind::Pwm => self.flag = false,
             Kind::Comm => self.comm = None,
             _ => {}
@@ -328,11 +365,11 @@ impl Regs {
         }
     }
 
-    /// The comparator changes to a level, at now. No register shows it yet.
+    /// The comparator has a level from now on. An equal level again has no effect.
     pub fn comp(&mut self, level: bool)
-        ensures { self.new ≡ self.old }
+        ensures { self.new ≡ after_comp self.old level }
     {
-        let _ = level;
+        self.comparator.set(level);
     }
 
     /// A watcher of the gates trips. No register shows it yet.
@@ -354,6 +391,16 @@ impl Regs {
         ensures { self.new ≡ counted self.old }
     {
         self.accesses += 1;
+    }
+
+    /// No timer of the drive and no change of the comparator makes a kind due, and what the drive was is forgotten.
+    fn drive_off(&mut self)
+        ensures { self.new ≡ record self.old { comm = None; crossing = None; comp_enabled = false; stuck = false; period = 0 } }
+    {
+        self.comm = None;
+        self.comparator.rest();
+        self.stuck = false;
+        self.period = 0;
     }
 
     fn tick_state(&mut self) -> u32
@@ -403,6 +450,12 @@ impl Regs {
         (self.window.closed(self.time) && !self.taken) || is_reached(self.timer, self.time)
     }
 
+    fn cmp_due(&self) -> bool
+        ensures { result ≡ is_due self.now kinds.Cmp }
+    {
+        self.comparator.due(self.time)
+    }
+
     fn comm_due(&self) -> bool
         ensures { result ≡ is_due self.now kinds.Comm }
     {
@@ -430,6 +483,16 @@ impl Regs {
             self.window.idle_at()
         };
         sooner(closes, self.timer)
+    }
+
+    fn next_cmp(&self) -> Option<Tick>
+        ensures { IsFirstDue self.now kinds.Cmp (tick_of result) }
+    {
+        if self.cmp_due() {
+            None
+        } else {
+            self.comparator.timer
+        }
     }
 
     fn next_pwm(&self) -> Option<Tick>
@@ -535,6 +598,32 @@ fn put_off(timer: Option<Tick>, now: Tick) -> Option<Tick>
     match timer {
         Some(at) if now.0 < at.0 => Some(later(at, Tick(now.0 + REST))),
         other => other,
+    }
+}
+
+// The end of a reply that is loaded at `now`.
+fn end_of_reply(window: &Capture, now: Tick) -> u32
+    requires small { now.0 < 2 ^ 31 }
+    requires heard { last_at window.now.edges ≤ now.0 }
+    ensures end { result ≡ end_of window.now now.0 }
+    ensures soon { result ≤ now.0 + 4128 }
+{
+    let bit = match window.mode() {
+        Mode::D600Inv => 64,
+        _ => 128,
+    };
+    let start = later(Tick(now.0 + 1), answered_from(window.burst()));
+    start.0 as u32 + REPLY_BITS * bit
+}
+
+// The tick from which on a reply to these edges may start.
+fn answered_from(burst: &Burst) -> Tick
+    requires small { last_at burst.now < 2 ^ 31 }
+    ensures { result.0 ≡ answers_from burst.now }
+{
+    match burst.len() {
+        0 => Tick(0),
+        n => Tick(burst.at(n - 1).t.0 + REPLY_DELAY),
     }
 }
 

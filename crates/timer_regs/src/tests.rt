@@ -1,5 +1,8 @@
+ghost use Rattle.std.specs.Prelude.{◌≤◌, ◌<◌, ◌^◌};
+
 use crate::{KindSet, Reg, Regs};
 use esc_base::{Arrived, GateWord, Kind, Tick};
+use std::process::Abort;
 
 #[test]
 fn control_tick_comes_due(rt: HostRuntime) {
@@ -123,4 +126,95 @@ fn commutation_timer_and_stuck_mark(rt: HostRuntime) {
     regs.write(Reg::DriveOff, 0);
     assert_eq!(rt; regs.due(), KindSet::none());
     assert_eq!(rt; regs.read(Reg::TickState), 0);
+}
+
+#[test]
+fn comparator_asks_for_a_crossing(rt: HostRuntime) {
+    let mut regs = Regs::new();
+    regs.comp(false);
+    assert_eq!(rt; regs.read(Reg::CmpState), 0);
+    regs.comp(true);
+    assert_eq!(rt; regs.read(Reg::CmpState), 3);
+    assert_eq!(rt; regs.due(), KindSet::none());
+    regs.write(Reg::CmpAck, 0);
+    assert_eq!(rt; regs.read(Reg::CmpState), 1);
+    regs.comp(false);
+    regs.comp(true);
+    assert_eq!(rt; regs.read(Reg::CmpState), 3);
+    regs.write(Reg::CmpEn, 1);
+    assert_eq!(rt; regs.read(Reg::CmpState), 1);
+    assert_eq!(rt; regs.due(), KindSet::none());
+    regs.comp(true);
+    assert_eq!(rt; regs.due(), KindSet::none());
+    regs.comp(false);
+    assert_eq!(rt; regs.read(Reg::CmpState), 2);
+    assert_eq!(rt; regs.due(), KindSet::only(Kind::Cmp));
+    regs.entered(Kind::Cmp);
+    assert_eq!(rt; regs.due(), KindSet::none());
+    assert_eq!(rt; regs.read(Reg::CmpState), 2);
+}
+
+#[test]
+fn crossing_timer(rt: HostRuntime) {
+    let mut regs = Regs::new();
+    regs.write(Reg::CmpEn, 1);
+    regs.write(Reg::CmpAt, 500);
+    regs.comp(true);
+    assert_eq!(rt; regs.due(), KindSet::none());
+    assert_eq!(rt; regs.next_due(), Some(Tick(500)));
+    regs.advance(Tick(499));
+    assert_eq!(rt; regs.due(), KindSet::none());
+    regs.advance(Tick(500));
+    assert_eq!(rt; regs.due(), KindSet::only(Kind::Cmp));
+    assert_eq!(rt; regs.next_due(), Some(Tick(2400)));
+    regs.write(Reg::CmpEn, 1);
+    assert_eq!(rt; regs.due(), KindSet::only(Kind::Cmp));
+    regs.entered(Kind::Cmp);
+    regs.comp(false);
+    assert_eq!(rt; regs.due(), KindSet::none());
+    regs.write(Reg::CmpEn, 1);
+    regs.write(Reg::CmpAt, 500);
+    regs.write(Reg::DriveOff, 1);
+    regs.comp(true);
+    assert_eq!(rt; regs.due(), KindSet::none());
+    assert_eq!(rt; regs.next_due(), Some(Tick(2400)));
+    regs.write(Reg::CmpEn, 0);
+    regs.comp(false);
+    assert_eq!(rt; regs.due(), KindSet::none());
+}
+
+#[test]
+fn period_of_the_drive(rt: HostRuntime) {
+    let mut regs = Regs::new();
+    assert_eq!(rt; regs.read(Reg::Period), 0);
+    regs.write(Reg::Period, 48000);
+    assert_eq!(rt; regs.read(Reg::Period), 48000);
+    regs.write(Reg::DriveOff, 1);
+    assert_eq!(rt; regs.read(Reg::Period), 0);
+}
+
+/// A window in this mode hears one edge at tick 100. The reply that is loaded at the second tick ends at the last one.
+fn reply_ends(rt: &impl Abort, mode: u32, at: u64, end: u32)
+    requires mode { mode ≤ 5 }
+    requires later { 100 ≤ at }
+    requires small { at < 2 ^ 31 }
+{
+    let mut regs = Regs::new();
+    assert_eq!(rt; regs.read(Reg::Reply), 0);
+    regs.write(Reg::CapArm, mode);
+    regs.advance(Tick(100));
+    regs.edge(true);
+    regs.advance(Tick(at));
+    regs.write(Reg::Reply, 1);
+    assert_eq!(rt; regs.read(Reg::Reply), end);
+}
+
+#[test]
+fn replies_end(rt: HostRuntime) {
+    reply_ends(&rt, 4, 300, 1540 + 21 * 64);
+    reply_ends(&rt, 3, 300, 1540 + 21 * 128);
+    reply_ends(&rt, 4, 2000, 2001 + 21 * 64);
+    let mut regs = Regs::new();
+    regs.write(Reg::Reply, 1);
+    assert_eq!(rt; regs.read(Reg::Reply), 1 + 21 * 128);
 }
