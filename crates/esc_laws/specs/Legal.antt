@@ -12,13 +12,15 @@ use Rattle.commutation.specs.Commutated.{Commutated}
 use Rattle.gate_driver.specs.DeadSafe.{DeadSafe}
 use Rattle.esc_laws.specs.Windowed.{Windowed}
 use Rattle.esc_laws.specs.Driven.{Driven}
-use Rattle.esc_laws.specs.Saves.{forward_at}
+use Rattle.esc_laws.specs.Crossed.{Crossed}
+use Rattle.esc_laws.specs.Searched.{Searched}
+use Rattle.esc_laws.specs.Saves.{advance_of, forward_at}
 use Rattle.esc_laws.specs.Nested.{NestedAfter}
 use Rattle.esc_laws.specs.Steps.{Turned, opening, journal, notes_in, EachStep, StepFits, Awaits, OpenFew, Below}
 
 -- The journal is legal up to tick T for the settings that were loaded, a trace, a step cost and a nesting: it begins with
 -- the load and the first window; each note's numbers are in the range of its line, and times never fall; windows, control,
--- the dead time, the drive, sectors and nesting keep their rules; and there is a list of machine steps whose notes, joined,
+-- the dead time, the drive, sectors, crossings, the search for them and nesting keep their rules; and there is a list of machine steps whose notes, joined,
 -- are the rest of the journal: each stands at a tick that the cost and the stalls give, below T, and each kind comes in
 -- time; no step that is due below T is left out.
 pub record Legal (loaded : Loaded) (nest : Nest) (cost : ℕ) (trace : List Event) (until : ℕ) (notes : List Note) : Type 0 where
@@ -30,8 +32,10 @@ pub record Legal (loaded : Loaded) (nest : Nest) (cost : ℕ) (trace : List Even
   pub controlled : Controlled notes
   pub dead_safe : DeadSafe notes
   pub driven : Driven notes
-  pub commutated : Commutated loaded.settings.advance (forward_at loaded.settings) notes
-  pub nested : NestedAfter nest (opening loaded) rest
+  pub commutated : Commutated (advance_of loaded.settings) (forward_at loaded.settings) notes
+  pub crossed : Crossed trace (forward_at loaded.settings) notes
+  pub searched : Searched trace (forward_at loaded.settings) notes
+  pub nested : NestedAfter (advance_of loaded.settings) nest (opening loaded) rest
   pub log : List Turned
   pub steps_are : rest ≡ notes_in log
   pub fits : EachStep (StepFits loaded nest cost trace) [] log
@@ -54,8 +58,10 @@ pub record LegalFront (loaded : Loaded) (nest : Nest) (cost : ℕ) (trace : List
   pub controlled : Controlled notes
   pub dead_safe : DeadSafe notes
   pub driven : Driven notes
-  pub commutated : Commutated loaded.settings.advance (forward_at loaded.settings) notes
-  pub nested : NestedAfter nest (opening loaded) (notes_in log ++ front)
+  pub commutated : Commutated (advance_of loaded.settings) (forward_at loaded.settings) notes
+  pub crossed : Crossed trace (forward_at loaded.settings) notes
+  pub searched : Searched trace (forward_at loaded.settings) notes
+  pub nested : NestedAfter (advance_of loaded.settings) nest (opening loaded) (notes_in log ++ front)
   pub fits : EachStep (StepFits loaded nest cost trace) [] (log ++ broken ∷ [])
   pub below : Below broken.tick log
   pub all_made : Awaits loaded cost trace broken.tick log

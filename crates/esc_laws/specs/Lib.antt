@@ -6,6 +6,8 @@ pub mod HeardWhole
 pub mod RestOpens
 pub mod Driven
 pub mod Calls
+pub mod Crossed
+pub mod Searched
 pub mod Nested
 pub mod Seen
 pub mod Steps

@@ -24,7 +24,9 @@ use Rattle.commutation.specs.Commutated.{Commutated}
 use Rattle.gate_driver.specs.DeadSafe.{DeadSafe}
 use Rattle.esc_laws.specs.Windowed.{Windowed}
 use Rattle.esc_laws.specs.Driven.{Driven}
-use Rattle.esc_laws.specs.Saves.{forward_at}
+use Rattle.esc_laws.specs.Crossed.{Crossed}
+use Rattle.esc_laws.specs.Searched.{Searched}
+use Rattle.esc_laws.specs.Saves.{advance_of, forward_at}
 use Rattle.esc_laws.specs.Nested.{NestedAfter}
 use Rattle.esc_laws.specs.Seen.{sees}
 use Rattle.esc_laws.specs.Steps.{Turned, stall_end, opening, notes_in, journal, open_in, free, after, uses, own_steps, steps_since, entered_at, called, EachStep, StepFits, Awaits, Below}
@@ -42,8 +44,10 @@ pub record Marks (loaded : Loaded) (nest : Nest) (trace : List Event) (b : Bank)
   pub windowed : Windowed loaded trace (journal loaded log)
   pub dead_safe : DeadSafe (journal loaded log)
   pub driven : Driven (journal loaded log)
-  pub commutated : Commutated loaded.settings.advance (forward_at loaded.settings) (journal loaded log)
-  pub nested : NestedAfter nest (opening loaded) (notes_in log)
+  pub commutated : Commutated (advance_of loaded.settings) (forward_at loaded.settings) (journal loaded log)
+  pub crossed : Crossed trace (forward_at loaded.settings) (journal loaded log)
+  pub searched : Searched trace (forward_at loaded.settings) (journal loaded log)
+  pub nested : NestedAfter (advance_of loaded.settings) nest (opening loaded) (notes_in log)
   pub waits : Each (λ before n. TurnWaits (reverse before) n) [] (journal loaded log)
   pub stack_is : stack ≡ open_in loaded log
   pub past : All (λ n. time_of n ≤ b.time) (journal loaded log)
@@ -57,7 +61,7 @@ pub record Logged (loaded : Loaded) (nest : Nest) (cost : ℕ) (trace : List Eve
   pub gates : WordTold c b (reverse (journal loaded log))
   pub ground : Ground (world loaded nest trace c b log)
   pub ties : (k : Kind) → Tie k (world loaded nest trace c b log)
-  pub patient : Patient nest c.hold b.masked stack (sees trace (journal loaded log) b.time) (called loaded nest trace log)
+  pub patient : Patient nest c.hold b.masked stack (sees loaded trace (journal loaded log) b.time) (called loaded nest trace log)
   pub owes : (k : Kind) → is_open stack k ≡ true → own_steps k log + left_of c k ≤ most k
   pub reached : (k : Kind) → is_open stack k ≡ true → after cost trace log ≡ uses cost trace (steps_since k log + 1) (entered_at k log)
   -- and the newest step of the log stands where `next_step` leads from the entry

@@ -26,7 +26,6 @@ IsIn k p = innermost p.stack ≡ Some k
 -- row of `HasDone` there.
 abbrev pub IsBuilt : Kind → Type 0
 IsBuilt kind.Uart = ⊥
-IsBuilt kind.Cmp = ⊥
 IsBuilt k = Unit {0}
 
 -- PWM is entered at t only where it is called: between two neighbouring I of it a K with a demand stands, or an edge of the
@@ -36,14 +35,15 @@ IsAsked kind.Pwm back t = calls_pwm back t ≡ true
 IsAsked k back t = Unit {0}
 
 -- a TICK that returns has one K; a CAP that returns has one F, or one W without an F; a MAIN that returns has one P; a COMM
--- that returns has one Q, or has turned a postponed low switch on
-abbrev pub HasDone : Kind → Place → List Note → Type 0
-HasDone kind.Tick p back = p.ticks ≡ 1
-HasDone kind.Cap p back = (p.verdicts ≡ 1) ⊎ ((p.verdicts ≡ 0) × (p.windows ≡ 1))
-HasDone kind.Main p back = p.saves ≡ 1
-HasDone kind.Comm p back = HasTurned back ⊎ HasCaughtUp back
-HasDone kind.Pwm p back = Unit {0}
-HasDone k p back = ⊥
+-- that returns has one Q, or has turned a postponed low switch on. What a CMP owes, `Searched` says, which knows the comparator.
+abbrev pub HasDone : ℕ → Kind → Place → List Note → Type 0
+HasDone advance kind.Tick p back = p.ticks ≡ 1
+HasDone advance kind.Cap p back = (p.verdicts ≡ 1) ⊎ ((p.verdicts ≡ 0) × (p.windows ≡ 1))
+HasDone advance kind.Main p back = p.saves ≡ 1
+HasDone advance kind.Comm p back = HasTurned back ⊎ HasCaughtUp advance back
+HasDone advance kind.Pwm p back = Unit {0}
+HasDone advance kind.Cmp p back = Unit {0}
+HasDone advance kind.Uart p back = ⊥
 
 -- the gate word changes in COMM, PWM and TICK
 abbrev pub Switches : Kind → Type 0
@@ -56,28 +56,29 @@ abbrev pub SwitchesIn : Option Kind → Type 0
 SwitchesIn None = ⊥
 SwitchesIn (Some k) = Switches k
 
--- the rule of a note at a place, after these notes with the newest first
-abbrev pub NestRuleAt : Nest → Place → List Note → Note → Type 0
-NestRuleAt nest p back (note.Enter t k) = IsBuilt (kind_of k) × IsAboveAll nest p.stack k × IsAsked (kind_of k) back t.0
-NestRuleAt nest p back (note.Leave t k) = IsIn (kind_of k) p × HasDone (kind_of k) p back
-NestRuleAt nest p back (note.Gate t hi lo) = SwitchesIn (innermost p.stack)
-NestRuleAt nest p back (note.Step t s) = IsIn kind.Comm p
-NestRuleAt nest p back (note.Window t m) = IsIn kind.Cap p
-NestRuleAt nest p back (note.Good t v q) = IsIn kind.Cap p
-NestRuleAt nest p back (note.Detected t m) = IsIn kind.Cap p
-NestRuleAt nest p back (note.Nothing t) = IsIn kind.Cap p
-NestRuleAt nest p back (note.Bad t w) = IsIn kind.Cap p
-NestRuleAt nest p back (note.Command t c) = IsIn kind.Cap p
-NestRuleAt nest p back (note.Control t n s d) = IsIn kind.Tick p
-NestRuleAt nest p back (note.Armed t) = IsIn kind.Tick p
-NestRuleAt nest p back (note.Lost t c) = IsIn kind.Tick p
-NestRuleAt nest p back (note.Saved t r) = IsIn kind.Main p
+-- the rule of a note at a place, after these notes with the newest first; for this advance of the settings
+abbrev pub NestRuleAt : ℕ → Nest → Place → List Note → Note → Type 0
+NestRuleAt advance nest p back (note.Enter t k) = IsBuilt (kind_of k) × IsAboveAll nest p.stack k × IsAsked (kind_of k) back t.0
+NestRuleAt advance nest p back (note.Leave t k) = IsIn (kind_of k) p × HasDone advance (kind_of k) p back
+NestRuleAt advance nest p back (note.Gate t hi lo) = SwitchesIn (innermost p.stack)
+NestRuleAt advance nest p back (note.Step t s) = IsIn kind.Comm p
+NestRuleAt advance nest p back (note.Cross t) = IsIn kind.Cmp p
+NestRuleAt advance nest p back (note.Window t m) = IsIn kind.Cap p
+NestRuleAt advance nest p back (note.Good t v q) = IsIn kind.Cap p
+NestRuleAt advance nest p back (note.Detected t m) = IsIn kind.Cap p
+NestRuleAt advance nest p back (note.Nothing t) = IsIn kind.Cap p
+NestRuleAt advance nest p back (note.Bad t w) = IsIn kind.Cap p
+NestRuleAt advance nest p back (note.Command t c) = IsIn kind.Cap p
+NestRuleAt advance nest p back (note.Control t n s d) = IsIn kind.Tick p
+NestRuleAt advance nest p back (note.Armed t) = IsIn kind.Tick p
+NestRuleAt advance nest p back (note.Lost t c) = IsIn kind.Tick p
+NestRuleAt advance nest p back (note.Saved t r) = IsIn kind.Main p
 -- the others don't stand in a journal yet
-NestRuleAt nest p back n = ⊥
+NestRuleAt advance nest p back n = ⊥
 
-abbrev pub NestRule : Nest → List Note → Note → Type 0
-NestRule nest before n = NestRuleAt nest (place before) (reverse before) n
+abbrev pub NestRule : ℕ → Nest → List Note → Note → Type 0
+NestRule advance nest before n = NestRuleAt advance nest (place before) (reverse before) n
 
 -- the notes after `before` nest
-abbrev pub NestedAfter : Nest → List Note → List Note → Type 0
-NestedAfter nest before notes = Each (NestRule nest) before notes
+abbrev pub NestedAfter : ℕ → Nest → List Note → List Note → Type 0
+NestedAfter advance nest before notes = Each (NestRule advance nest) before notes

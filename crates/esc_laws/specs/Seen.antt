@@ -11,7 +11,12 @@ use Rattle.esc_base.specs.Times.{is_reached, most_pause}
 use Rattle.edge_capture.specs.Burst.{close}
 use Rattle.arming.specs.ControlAt.{asked_at, number_at}
 use Rattle.esc_laws.specs.Rested.{first_rested}
+use Rattle.settings_block.specs.declared.stored.Loaded.{Loaded}
+use Rattle.zero_cross.specs.Comparator.{held}
+use Rattle.esc_laws.specs.Saves.{advance_of, forward_at}
 use Rattle.esc_laws.specs.Calls.{calls_pwm, calls_comm}
+use Rattle.esc_laws.specs.Crossed.{expects_at}
+use Rattle.esc_laws.specs.Searched.{sight_at, calls_cmp}
 use Rattle.esc_laws.specs.Place.{Signal, Silent, Listens, Judged, Rests, Place, place}
 
 -- CAP is called from the close of a window that has no F; after the F of a bad one, from the first rested tick at or after
@@ -23,14 +28,15 @@ calls_cap trace (Judged f opens) t = false
 calls_cap trace (Rests f r) t = nat_le (first_rested (line trace).edges (max (f + most_pause) r)) t
 
 -- A kind is seen due at a tick: TICK from the first one of a control tick that no K has, MAIN while a save is asked for. PWM
--- and COMM go by the K, which stands a few steps before the registers call them: until then the mask is up.
-abbrev pub sees_at : List Event → Place → List Note → ℕ → Kind → Bool
-sees_at trace p back t kind.Tick = nat_lt (number_at back) (t / 2400)
-sees_at trace p back t kind.Cap = calls_cap trace p.signal t
-sees_at trace p back t kind.Main = asked_at back
-sees_at trace p back t kind.Pwm = calls_pwm back t
-sees_at trace p back t kind.Comm = calls_comm back t
-sees_at trace p back t k = false
+-- and COMM go by the K, and COMM by the Z, which stand a few steps before the registers call them: until then the mask is up.
+abbrev pub sees_at : Loaded → List Event → Place → List Note → ℕ → Kind → Bool
+sees_at loaded trace p back t kind.Tick = nat_lt (number_at back) (t / 2400)
+sees_at loaded trace p back t kind.Cap = calls_cap trace p.signal t
+sees_at loaded trace p back t kind.Main = asked_at back
+sees_at loaded trace p back t kind.Pwm = calls_pwm back t
+sees_at loaded trace p back t kind.Comm = calls_comm (advance_of loaded.settings) back t
+sees_at loaded trace p back t kind.Cmp = calls_cmp (held trace t) (expects_at (forward_at loaded.settings) back) (sight_at back) t
+sees_at loaded trace p back t kind.Uart = false
 
-abbrev pub sees : List Event → List Note → ℕ → Kind → Bool
-sees trace notes t k = sees_at trace (place notes) (reverse notes) t k
+abbrev pub sees : Loaded → List Event → List Note → ℕ → Kind → Bool
+sees loaded trace notes t k = sees_at loaded trace (place notes) (reverse notes) t k

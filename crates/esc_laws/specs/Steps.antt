@@ -109,7 +109,7 @@ steps_since k log = fold (since_next k) 0 log
 
 -- a kind is seen due and isn't open, at a tick after these steps
 abbrev pub is_called : Loaded → List Event → List Turned → ℕ → Kind → Bool
-is_called loaded trace log t k = is_waiting (sees trace (journal loaded log) t) (open_in loaded log) k
+is_called loaded trace log t k = is_waiting (sees loaded trace (journal loaded log) t) (open_in loaded log) k
 
 -- for how many counted steps a kind has been called
 abbrev pub called_next : Loaded → Nest → List Event → Kind → List Turned → ℕ → Turned → ℕ
@@ -148,9 +148,9 @@ pub record StepFits (loaded : Loaded) (nest : Nest) (cost : ℕ) (trace : List E
   -- while none is open no kind is seen due at an earlier tick outside of stalls, and the step enters the highest kind that
   -- is seen due, or a higher one
   pub idle : open_in loaded before ≡ [] → (t : ℕ) → after cost trace before ≤ t → t < e.tick → free trace t ≡ t → (k : Kind)
-      → sees trace (journal loaded before) t k ≡ false
+      → sees loaded trace (journal loaded before) t k ≡ false
   pub first : open_in loaded before ≡ []
-      → (e.enters ≡ true) × ((k : Kind) → sees trace (journal loaded before) e.tick k ≡ true → kind_number k ≤ kind_number e.kind)
+      → (e.enters ≡ true) × ((k : Kind) → sees loaded trace (journal loaded before) e.tick k ≡ true → kind_number k ≤ kind_number e.kind)
   -- an entry is its I note, and other steps are those of the innermost kind
   pub entry : e.enters ≡ true → e.notes ≡ note.Enter (as_tick e.tick) (kind_number e.kind) ∷ []
   pub own : e.enters ≡ false → innermost (open_in loaded before) ≡ Some e.kind
@@ -169,7 +169,7 @@ pub record StepFits (loaded : Loaded) (nest : Nest) (cost : ℕ) (trace : List E
 pub record Awaits (loaded : Loaded) (cost : ℕ) (trace : List Event) (until : ℕ) (log : List Turned) : Type 0 where
   pub open_step : open_in loaded log ≢ [] → until ≤ after cost trace log
   pub idle : open_in loaded log ≡ [] → (t : ℕ) → after cost trace log ≤ t → t < until → free trace t ≡ t → (k : Kind)
-      → sees trace (journal loaded log) t k ≡ false
+      → sees loaded trace (journal loaded log) t k ≡ false
 
 -- an open activation has made fewer own steps than the most of its kind
 abbrev pub OpenFew : Loaded → List Turned → Type 0
