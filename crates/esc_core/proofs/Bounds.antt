@@ -13,6 +13,10 @@ use Rattle.interrupt_machine.specs.declared.firmware.Did.{Did}
 use Rattle.interrupt_machine.specs.declared.firmware.Did.TheVariants.{More, Return}
 use Rattle.interrupt_machine.specs.Did.{IsMore, IsReturn, NoAccess, Reads, Writes, accessed, MakesOneAccess}
 use Rattle.arming.specs.declared.decision.Ticked.{Ticked}
+use Rattle.esc_base.specs.declared.tick.Tick.{Tick}
+use Rattle.zero_cross.specs.declared.phase.Phase.{Phase}
+use Rattle.zero_cross.specs.declared.phase.Phase.TheVariants as phase
+use Rattle.zero_cross.specs.Kept.{is_expected, is_clean, until}
 use Rattle.commutation.specs.Sectors.{high_of, low_of}
 use Rattle.gate_driver.specs.declared.all_off.AllOff.{AllOff}
 use Rattle.gate_driver.specs.declared.all_off.AllOff.TheVariants as off
@@ -30,6 +34,8 @@ use Rattle.esc_core.specs.declared.state.TickAt.{TickAt}
 use Rattle.esc_core.specs.declared.state.TickAt.TheVariants as tick
 use Rattle.esc_core.specs.declared.state.PwmAt.{PwmAt}
 use Rattle.esc_core.specs.declared.state.PwmAt.TheVariants as pwm
+use Rattle.esc_core.specs.declared.state.CmpAt.{CmpAt}
+use Rattle.esc_core.specs.declared.state.CmpAt.TheVariants as cmp
 use Rattle.esc_core.specs.declared.state.CommAt.{CommAt}
 use Rattle.esc_core.specs.declared.state.CommAt.TheVariants as comm
 use Rattle.esc_core.specs.declared.drive.Drive.{Drive}
@@ -44,10 +50,12 @@ use Rattle.esc_core.specs.Stepped.{Stepped, IsStepped, is_return, goes_on, goes_
 use Rattle.esc_core.specs.Cap.{after_edges, after_copy, opens, takes, next_edge, judge_step, cap_step}
 use Rattle.esc_core.specs.Tick.{ticked, asked, drive_after, number_in, marks_in, off_step, tick_step}
 use Rattle.esc_core.specs.Pwm.{chopped, pwm_step}
+use Rattle.esc_core.specs.Cmp.{ready_step, judged_step, blank_step, filter_step, look_step, may_filter, ack_step, cmp_step}
+use Rattle.esc_core.specs.Drive.{arms}
 use Rattle.esc_core.specs.Comm.{decided, turned, turn_step, resumed_step, after_arm, comm_step}
 use Rattle.esc_core.specs.Calls.{Call, Answer, took_first, CallDid, DeviceDid}
 use Rattle.esc_core.specs.Background.{saving_step, main_step}
-use Rattle.esc_core.specs.Firmware.{cap_left, tick_left, pwm_left, comm_left, main_left, left_of, need_of, tick_need, pwm_need, shut, kind_step, kind_asked, counted_down, is_stray, stray_step, core_step, core_asked}
+use Rattle.esc_core.specs.Firmware.{cap_left, tick_left, pwm_left, cmp_left, comm_left, main_left, left_of, need_of, tick_need, pwm_need, cmp_need, shut, kind_step, kind_asked, counted_down, is_stray, stray_step, core_step, core_asked}
 
 -- ---- CAP
 
@@ -246,22 +254,62 @@ pwm_moves pwm.Shut c b l = absurd (omega arith)
 pwm_moves (pwm.Run at) c b l = chop_moves at c b
 pwm_moves pwm.Back c b l = record { less = lit< tt; more = λ e. cc; shut = λ e. refl; others = elim [ kind.Pwm ↦ λ ne. absurd (ne refl) | j ↦ λ ne. (refl, refl) ] }
 
+-- ---- CMP
+
+ready_moves : (v : Bool) (c : Brain) (b : Bank) → Moves kind.Cmp 5 c (ready_step v c b)
+ready_moves true c b = record { less = lit< tt; more = λ e. lit< tt; shut = λ e. cc; others = elim [ kind.Cmp ↦ λ ne. absurd (ne refl) | j ↦ λ ne. (refl, refl) ] }
+ready_moves false c b = record { less = lit< tt; more = λ e. lit< tt; shut = λ e. cc; others = elim [ kind.Cmp ↦ λ ne. absurd (ne refl) | j ↦ λ ne. (refl, refl) ] }
+
+judged_moves : (v : Bool) (c : Brain) (b : Bank) → Moves kind.Cmp 5 c (judged_step v c b)
+judged_moves true c b = record { less = lit< tt; more = λ e. lit< tt; shut = λ e. cc; others = elim [ kind.Cmp ↦ λ ne. absurd (ne refl) | j ↦ λ ne. (refl, refl) ] }
+judged_moves false c b = record { less = lit< tt; more = λ e. lit< tt; shut = λ e. cc; others = elim [ kind.Cmp ↦ λ ne. absurd (ne refl) | j ↦ λ ne. (refl, refl) ] }
+
+blanked_moves : (v : Bool) (c : Brain) (b : Bank) → Moves kind.Cmp 5 c (blank_step v c b)
+blanked_moves true c b = ready_moves (is_expected c.drive.crossing b.comp) c b
+blanked_moves false c b = record { less = lit< tt; more = λ e. lit< tt; shut = λ e. cc; others = elim [ kind.Cmp ↦ λ ne. absurd (ne refl) | j ↦ λ ne. (refl, refl) ] }
+
+filter_moves : (v : Bool) (c : Brain) (b : Bank) → Moves kind.Cmp 5 c (filter_step v c b)
+filter_moves true c b = judged_moves (is_clean c.drive.crossing b.comp b.comp_changed) c b
+filter_moves false c b = record { less = lit< tt; more = λ e. lit< tt; shut = λ e. cc; others = elim [ kind.Cmp ↦ λ ne. absurd (ne refl) | j ↦ λ ne. (refl, refl) ] }
+
+look_moves : (p : Phase) (c : Brain) (b : Bank) → Moves kind.Cmp 5 c (look_step p c b)
+look_moves (phase.Blank end) c b = blanked_moves (nat_le end.0 b.time) c b
+look_moves (phase.Filter end) c b = filter_moves (nat_le end.0 b.time) c b
+look_moves phase.Watch c b = record { less = lit< tt; more = λ e. lit< tt; shut = λ e. cc; others = elim [ kind.Cmp ↦ λ ne. absurd (ne refl) | j ↦ λ ne. (refl, refl) ] }
+look_moves phase.Off c b = record { less = lit< tt; more = λ e. lit< tt; shut = λ e. cc; others = elim [ kind.Cmp ↦ λ ne. absurd (ne refl) | j ↦ λ ne. (refl, refl) ] }
+look_moves phase.Done c b = record { less = lit< tt; more = λ e. lit< tt; shut = λ e. cc; others = elim [ kind.Cmp ↦ λ ne. absurd (ne refl) | j ↦ λ ne. (refl, refl) ] }
+
+ack_moves : (v : Bool) (c : Brain) (b : Bank) → Moves kind.Cmp 4 c (ack_step v c b)
+ack_moves true c b = record { less = lit< tt; more = λ e. lit< tt; shut = λ e. cc; others = elim [ kind.Cmp ↦ λ ne. absurd (ne refl) | j ↦ λ ne. (refl, refl) ] }
+ack_moves false c b = record { less = lit< tt; more = λ e. lit< tt; shut = λ e. cc; others = elim [ kind.Cmp ↦ λ ne. absurd (ne refl) | j ↦ λ ne. (refl, refl) ] }
+
+cmp_moves : (at : CmpAt) (c : Brain) (b : Bank) → 0 < cmp_left at → Moves kind.Cmp (cmp_left at) c (cmp_step at c b)
+cmp_moves cmp.Shut c b l = absurd (omega arith)
+cmp_moves cmp.Raise c b l = record { less = lit< tt; more = λ e. lit< tt; shut = λ e. cc; others = elim [ kind.Cmp ↦ λ ne. absurd (ne refl) | j ↦ λ ne. (refl, refl) ] }
+cmp_moves cmp.Look c b l = look_moves c.drive.crossing.phase c b
+cmp_moves cmp.Ack c b l = ack_moves (may_filter c.drive.crossing.phase b.time) c b
+cmp_moves cmp.Arm c b l = record { less = lit< tt; more = λ e. lit< tt; shut = λ e. cc; others = elim [ kind.Cmp ↦ λ ne. absurd (ne refl) | j ↦ λ ne. (refl, refl) ] }
+cmp_moves cmp.Enable c b l = record { less = lit< tt; more = λ e. lit< tt; shut = λ e. cc; others = elim [ kind.Cmp ↦ λ ne. absurd (ne refl) | j ↦ λ ne. (refl, refl) ] }
+cmp_moves cmp.Commute c b l = record { less = lit< tt; more = λ e. lit< tt; shut = λ e. cc; others = elim [ kind.Cmp ↦ λ ne. absurd (ne refl) | j ↦ λ ne. (refl, refl) ] }
+cmp_moves cmp.Lower c b l = record { less = lit< tt; more = λ e. lit< tt; shut = λ e. cc; others = elim [ kind.Cmp ↦ λ ne. absurd (ne refl) | j ↦ λ ne. (refl, refl) ] }
+cmp_moves cmp.Back c b l = record { less = lit< tt; more = λ e. cc; shut = λ e. refl; others = elim [ kind.Cmp ↦ λ ne. absurd (ne refl) | j ↦ λ ne. (refl, refl) ] }
+
 -- ---- COMM
 
-low_moves : (wait : Option ℕ) (c : Brain) (b : Bank) → PlainMoves kind.Comm 8 c b (turned change.Low (low_step wait c.drive.turn c.drive.gates b) c b)
+low_moves : (wait : Option ℕ) (c : Brain) (b : Bank) → PlainMoves kind.Comm 10 c b (turned change.Low (low_step wait c.drive.turn c.drive.gates b) c b)
 low_moves None c b = record { moves = record { less = lit< tt; more = λ e. lit< tt; shut = λ e. cc; others = elim [ kind.Comm ↦ λ ne. absurd (ne refl) | j ↦ λ ne. (refl, refl) ] }; masked = refl; hold = refl }
 low_moves (Some t) c b = record { moves = record { less = lit< tt; more = λ e. lit< tt; shut = λ e. cc; others = elim [ kind.Comm ↦ λ ne. absurd (ne refl) | j ↦ λ ne. (refl, refl) ] }; masked = refl; hold = refl }
 
 duty_read_moves : (v : Bool) (position : ℕ) (c : Brain) (b : Bank)
-    → PlainMoves kind.Comm 6 c b (turned (change.Duty position) (duty_step v c.drive.turn c.drive.gates) c b)
+    → PlainMoves kind.Comm 8 c b (turned (change.Duty position) (duty_step v c.drive.turn c.drive.gates) c b)
 duty_read_moves true position c b = record { moves = record { less = lit< tt; more = λ e. lit< tt; shut = λ e. cc; others = elim [ kind.Comm ↦ λ ne. absurd (ne refl) | j ↦ λ ne. (refl, refl) ] }; masked = refl; hold = refl }
 duty_read_moves false position c b = record { moves = record { less = lit< tt; more = λ e. lit< tt; shut = λ e. cc; others = elim [ kind.Comm ↦ λ ne. absurd (ne refl) | j ↦ λ ne. (refl, refl) ] }; masked = refl; hold = refl }
 
-high_moves : (wait : Option ℕ) (c : Brain) (b : Bank) → PlainMoves kind.Comm 5 c b (turned change.High (high_step wait c.drive.turn c.drive.gates b) c b)
+high_moves : (wait : Option ℕ) (c : Brain) (b : Bank) → PlainMoves kind.Comm 7 c b (turned change.High (high_step wait c.drive.turn c.drive.gates b) c b)
 high_moves None c b = record { moves = record { less = lit< tt; more = λ e. lit< tt; shut = λ e. cc; others = elim [ kind.Comm ↦ λ ne. absurd (ne refl) | j ↦ λ ne. (refl, refl) ] }; masked = refl; hold = refl }
 high_moves (Some t) c b = record { moves = record { less = lit< tt; more = λ e. lit< tt; shut = λ e. cc; others = elim [ kind.Comm ↦ λ ne. absurd (ne refl) | j ↦ λ ne. (refl, refl) ] }; masked = refl; hold = refl }
 
-turn_moves : (at : ChangeAt) (c : Brain) (b : Bank) → PlainMoves kind.Comm (change_left at + 4) c b (turn_step at c b)
+turn_moves : (at : ChangeAt) (c : Brain) (b : Bank) → PlainMoves kind.Comm (change_left at + 6) c b (turn_step at c b)
 turn_moves change.ClearHigh c b = record { moves = record { less = lit< tt; more = λ e. lit< tt; shut = λ e. cc; others = elim [ kind.Comm ↦ λ ne. absurd (ne refl) | j ↦ λ ne. (refl, refl) ] }; masked = refl; hold = refl }
 turn_moves change.ClearLow c b = record { moves = record { less = lit< tt; more = λ e. lit< tt; shut = λ e. cc; others = elim [ kind.Comm ↦ λ ne. absurd (ne refl) | j ↦ λ ne. (refl, refl) ] }; masked = refl; hold = refl }
 turn_moves change.SetSector c b = record { moves = record { less = lit< tt; more = λ e. lit< tt; shut = λ e. cc; others = elim [ kind.Comm ↦ λ ne. absurd (ne refl) | j ↦ λ ne. (refl, refl) ] }; masked = refl; hold = refl }
@@ -297,7 +345,7 @@ resumed_moves c b = record {
   hold = refl;
 }
 
-begun_moves : (due postponed : Bool) (c : Brain) (b : Bank) → c.drive.postponed ≡ postponed → PlainMoves kind.Comm 12 c b (decided due c b)
+begun_moves : (due postponed : Bool) (c : Brain) (b : Bank) → c.drive.postponed ≡ postponed → PlainMoves kind.Comm 14 c b (decided due c b)
 begun_moves true postponed c b e = record { moves = record { less = lit< tt; more = λ e. lit< tt; shut = λ e. cc; others = elim [ kind.Comm ↦ λ ne. absurd (ne refl) | j ↦ λ ne. (refl, refl) ] }; masked = refl; hold = refl }
 begun_moves false true c b e = rw e (record { moves = record { less = lit< tt; more = λ e. lit< tt; shut = λ e. cc; others = elim [ kind.Comm ↦ λ ne. absurd (ne refl) | j ↦ λ ne. (refl, refl) ] }; masked = refl; hold = refl })
 begun_moves false false c b e = rw e (record { moves = record { less = lit< tt; more = λ e. lit< tt; shut = λ e. cc; others = elim [ kind.Comm ↦ λ ne. absurd (ne refl) | j ↦ λ ne. (refl, refl) ] }; masked = refl; hold = refl })
@@ -307,11 +355,25 @@ arm_moves : (v : Bool) (c : Brain) (b : Bank) (at : ℕ) → nat_le 60 c.drive.f
 arm_moves true c b at e = rw e (record { moves = record { less = lit< tt; more = λ e. lit< tt; shut = λ e. cc; others = elim [ kind.Comm ↦ λ ne. absurd (ne refl) | j ↦ λ ne. (refl, refl) ] }; masked = refl; hold = refl })
 arm_moves false c b at e = rw e (record { moves = record { less = lit< tt; more = λ e. lit< tt; shut = λ e. cc; others = elim [ kind.Comm ↦ λ ne. absurd (ne refl) | j ↦ λ ne. (refl, refl) ] }; masked = refl; hold = refl })
 
+-- arming the crossing timer touches no mask
+arms_mask : (end : Option Tick) (b : Bank) → (accessed b (arms end)).masked ≡ b.masked
+arms_mask None b = refl
+arms_mask (Some end) b = refl
+
+blank_moves : (end : Option Tick) (c : Brain) (b : Bank) → PlainMoves kind.Comm 5 c b (goes_on (record c { comm_at = comm.Period }) (arms end))
+blank_moves end c b = record {
+  moves = record { less = lit< tt; more = λ e. lit< tt; shut = λ e. cc; others = elim [ kind.Comm ↦ λ ne. absurd (ne refl) | j ↦ λ ne. (refl, refl) ] };
+  masked = arms_mask end b;
+  hold = refl;
+}
+
 comm_moves : (at : CommAt) (c : Brain) (b : Bank) → 0 < comm_left at c.drive.turn.at → PlainMoves kind.Comm (comm_left at c.drive.turn.at) c b (comm_step at c b)
 comm_moves comm.Shut c b l = absurd (omega arith)
 comm_moves comm.Decide c b l = begun_moves (nat_le c.drive.change b.time) c.drive.postponed c b refl
 comm_moves comm.Turn c b l = turn_moves c.drive.turn.at c b
 comm_moves comm.Low c b l = resumed_moves c b
+comm_moves comm.Blank c b l = blank_moves (until c.drive.crossing.phase) c b
+comm_moves comm.Period c b l = record { moves = record { less = lit< tt; more = λ e. lit< tt; shut = λ e. cc; others = elim [ kind.Comm ↦ λ ne. absurd (ne refl) | j ↦ λ ne. (refl, refl) ] }; masked = refl; hold = refl }
 comm_moves comm.Arm c b l = arm_moves (nat_le 60 c.drive.forced) c b _ refl
 comm_moves comm.Stick c b l = record { moves = record { less = lit< tt; more = λ e. lit< tt; shut = λ e. cc; others = elim [ kind.Comm ↦ λ ne. absurd (ne refl) | j ↦ λ ne. (refl, refl) ] }; masked = refl; hold = refl }
 comm_moves comm.Back c b l = record { moves = record { less = lit< tt; more = λ e. cc; shut = λ e. refl; others = elim [ kind.Comm ↦ λ ne. absurd (ne refl) | j ↦ λ ne. (refl, refl) ] }; masked = refl; hold = refl }
@@ -430,11 +492,17 @@ need_some kind.Pwm c = pwm_some c.pwm_at
     pwm_some : (at : PwmAt) → 1 ≤ pwm_need at
     pwm_some (pwm.Run chop.Raise) = lit≤ tt
     pwm_some at = lit≤ tt
+need_some kind.Cmp c = cmp_some c.cmp_at
+  where
+    cmp_some : (at : CmpAt) → 1 ≤ cmp_need at
+    cmp_some cmp.Raise = lit≤ tt
+    cmp_some at = lit≤ tt
 need_some k c = lit≤ tt
 
 shut_need : (k : Kind) (c : Brain) → need_of (shut c k) k ≡ 9
 shut_need kind.Tick c = refl
 shut_need kind.Pwm c = refl
+shut_need kind.Cmp c = refl
 shut_need k c = refl
 
 stray_bounds : (k : Kind) (c : Brain) (b : Bank) → 0 < left_of c k → c.hold ≤ 8 → Bounds k c b (stray_step k c)
@@ -601,6 +669,52 @@ pwm_masks (pwm.Run chop.Lower) c b l le e = lowers_mask kind.Pwm 1 c b _ refl re
 pwm_masks (pwm.Run chop.Over) c b l le e = without_mask kind.Pwm c b _ refl refl refl le e
 pwm_masks pwm.Back c b l le e = without_mask kind.Pwm c b _ refl refl refl le e
 
+-- CMP's first look, by the phase: under the mask it goes on to a place that needs it for fewer steps
+ready_masks : (v : Bool) (c : Brain) (b : Bank) → c.hold ≤ 8 → (b.masked && nat_lt c.hold 4) ≡ false
+    → Masks kind.Cmp 4 c.hold b (ready_step v (counted_down c b) b)
+ready_masks true c b le e = under_mask kind.Cmp 4 c b _ refl refl refl (lit< tt) (lit≤ tt) le e
+ready_masks false c b le e = under_mask kind.Cmp 4 c b _ refl refl refl (lit< tt) (lit≤ tt) le e
+
+judged_masks : (v : Bool) (c : Brain) (b : Bank) → c.hold ≤ 8 → (b.masked && nat_lt c.hold 4) ≡ false
+    → Masks kind.Cmp 4 c.hold b (judged_step v (counted_down c b) b)
+judged_masks true c b le e = under_mask kind.Cmp 4 c b _ refl refl refl (lit< tt) (lit≤ tt) le e
+judged_masks false c b le e = under_mask kind.Cmp 4 c b _ refl refl refl (lit< tt) (lit≤ tt) le e
+
+blank_masks : (v : Bool) (c : Brain) (b : Bank) → c.hold ≤ 8 → (b.masked && nat_lt c.hold 4) ≡ false
+    → Masks kind.Cmp 4 c.hold b (blank_step v (counted_down c b) b)
+blank_masks true c b le e = ready_masks (is_expected c.drive.crossing b.comp) c b le e
+blank_masks false c b le e = under_mask kind.Cmp 4 c b _ refl refl refl (lit< tt) (lit≤ tt) le e
+
+filter_masks : (v : Bool) (c : Brain) (b : Bank) → c.hold ≤ 8 → (b.masked && nat_lt c.hold 4) ≡ false
+    → Masks kind.Cmp 4 c.hold b (filter_step v (counted_down c b) b)
+filter_masks true c b le e = judged_masks (is_clean c.drive.crossing b.comp b.comp_changed) c b le e
+filter_masks false c b le e = under_mask kind.Cmp 4 c b _ refl refl refl (lit< tt) (lit≤ tt) le e
+
+look_masks : (p : Phase) (c : Brain) (b : Bank) → c.hold ≤ 8 → (b.masked && nat_lt c.hold 4) ≡ false
+    → Masks kind.Cmp 4 c.hold b (look_step p (counted_down c b) b)
+look_masks (phase.Blank end) c b le e = blank_masks (nat_le end.0 b.time) c b le e
+look_masks (phase.Filter end) c b le e = filter_masks (nat_le end.0 b.time) c b le e
+look_masks phase.Watch c b le e = under_mask kind.Cmp 4 c b _ refl refl refl (lit< tt) (lit≤ tt) le e
+look_masks phase.Off c b le e = under_mask kind.Cmp 4 c b _ refl refl refl (lit< tt) (lit≤ tt) le e
+look_masks phase.Done c b le e = under_mask kind.Cmp 4 c b _ refl refl refl (lit< tt) (lit≤ tt) le e
+
+ack_masks : (v : Bool) (c : Brain) (b : Bank) → c.hold ≤ 8 → (b.masked && nat_lt c.hold 3) ≡ false
+    → Masks kind.Cmp 3 c.hold b (ack_step v (counted_down c b) b)
+ack_masks true c b le e = under_mask kind.Cmp 3 c b _ refl refl refl (lit< tt) (lit≤ tt) le e
+ack_masks false c b le e = under_mask kind.Cmp 3 c b _ refl refl refl (lit< tt) (lit≤ tt) le e
+
+cmp_masks : (at : CmpAt) (c : Brain) (b : Bank) → 0 < cmp_left at → c.hold ≤ 8 → (b.masked && nat_lt c.hold (cmp_need at)) ≡ false
+    → Masks kind.Cmp (cmp_need at) c.hold b (cmp_step at (counted_down c b) b)
+cmp_masks cmp.Shut c b l le e = absurd (omega arith)
+cmp_masks cmp.Raise c b l le e = raises_mask kind.Cmp c b _ refl refl refl (lit≤ tt) le e
+cmp_masks cmp.Look c b l le e = look_masks c.drive.crossing.phase c b le e
+cmp_masks cmp.Ack c b l le e = ack_masks (may_filter c.drive.crossing.phase b.time) c b le e
+cmp_masks cmp.Arm c b l le e = under_mask kind.Cmp 2 c b _ refl (arms_mask (until c.drive.crossing.phase) b) refl (lit< tt) (lit≤ tt) le e
+cmp_masks cmp.Enable c b l le e = under_mask kind.Cmp 2 c b _ refl refl refl (lit< tt) (lit≤ tt) le e
+cmp_masks cmp.Commute c b l le e = under_mask kind.Cmp 2 c b _ refl refl refl (lit< tt) (lit≤ tt) le e
+cmp_masks cmp.Lower c b l le e = lowers_mask kind.Cmp 1 c b _ refl refl refl le
+cmp_masks cmp.Back c b l le e = without_mask kind.Cmp c b _ refl refl refl le e
+
 -- a handler that isn't built
 bare_moves : (k : Kind) (c : Brain) (b : Bank) → 0 < left_of c k → PlainMoves k (left_of c k) (counted_down c b) b (goes_back (shut (counted_down c b) k))
 bare_moves k c b l =
@@ -622,6 +736,10 @@ goes_bounds kind.Cap answers c b l le e =
 goes_bounds kind.Pwm answers c b l le e = record {
   moves = counted_moves kind.Pwm (pwm_left c.pwm_at) c b (pwm_step c.pwm_at (counted_down c b) b) (pwm_moves c.pwm_at (counted_down c b) b l);
   mask = pwm_masks c.pwm_at c b l le e;
+}
+goes_bounds kind.Cmp answers c b l le e = record {
+  moves = counted_moves kind.Cmp (cmp_left c.cmp_at) c b (cmp_step c.cmp_at (counted_down c b) b) (cmp_moves c.cmp_at (counted_down c b) b l);
+  mask = cmp_masks c.cmp_at c b l le e;
 }
 goes_bounds kind.Comm answers c b l le e =
     plain_bounds kind.Comm c b (comm_step c.comm_at (counted_down c b) b) refl refl le e (comm_moves c.comm_at (counted_down c b) b l)
