@@ -6,6 +6,7 @@ use Rattle.arming.specs.Kept.{Kept}
 use Rattle.esc_core.specs.declared.state.CapAt.{CapAt}
 use Rattle.esc_core.specs.declared.state.TickAt.{TickAt}
 use Rattle.esc_core.specs.declared.state.PwmAt.{PwmAt}
+use Rattle.esc_core.specs.declared.state.CmpAt.{CmpAt}
 use Rattle.esc_core.specs.declared.state.CommAt.{CommAt}
 use Rattle.esc_core.specs.declared.state.MainAt.{MainAt}
 use Rattle.esc_core.specs.declared.state.BareAt.{BareAt}
@@ -17,7 +18,7 @@ pub record Brain : Type 0 where
   pub tick_at : TickAt
   pub main_at : MainAt
   pub uart_at : BareAt
-  pub cmp_at : BareAt
+  pub cmp_at : CmpAt
   pub pwm_at : PwmAt
   pub comm_at : CommAt
   -- for how many steps the mask can still stand

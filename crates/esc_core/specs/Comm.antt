@@ -1,4 +1,5 @@
--- The steps of COMM: it changes the sector where that is due, or turns a postponed low switch on; and then it arms its timer.
+-- The steps of COMM: where that is due it changes the sector, arms the crossing timer for the end of blanking and writes the
+-- period; else it turns a postponed low switch on; and then it arms its own timer.
 use Rattle.std.specs.Prelude.{ℕ, Bool, true, false, nat_le, if◌then◌else◌, [], ◌∷◌}
 use Rattle.esc_base.specs.declared.note.Note.TheVariants as note
 use Rattle.esc_base.specs.Numbers.{as_tick}
@@ -6,6 +7,8 @@ use Rattle.timer_regs.specs.Bank.{Bank}
 use Rattle.timer_regs.specs.declared.regs.Reg.TheVariants as reg
 use Rattle.interrupt_machine.specs.Did.{NoAccess, Reads, Writes}
 use Rattle.commutation.specs.Sectors.{next_sector}
+use Rattle.commutation.specs.Turns.{six_of}
+use Rattle.zero_cross.specs.Kept.{until}
 use Rattle.gate_driver.specs.declared.progress.Progress.{Progress}
 use Rattle.gate_driver.specs.declared.progress.Progress.TheVariants.{More, Done, Later}
 use Rattle.gate_driver.specs.declared.to_sector.ChangeAt.{ChangeAt}
@@ -17,7 +20,7 @@ use Rattle.esc_core.specs.declared.state.CommAt.TheVariants as comm
 use Rattle.esc_core.specs.declared.drive.Drive.{Drive}
 use Rattle.esc_core.specs.Orders.{is_forward}
 use Rattle.esc_core.specs.Brain.{Brain}
-use Rattle.esc_core.specs.Drive.{after_turn, due_at}
+use Rattle.esc_core.specs.Drive.{after_turn, searching, arms, due_at}
 use Rattle.esc_core.specs.Stepped.{Stepped, goes_on, goes_back}
 
 -- a sector change begins, to the sector after the present one in the direction that commands have given by now
@@ -46,8 +49,8 @@ decide_step c b = decided (nat_le c.drive.change b.time) c b
 -- where a switch has to wait the rest of the change is left out
 abbrev pub after_ask : Progress → CommAt
 after_ask More = comm.Turn
-after_ask Done = comm.Arm
-after_ask (Later t) = comm.Arm
+after_ask Done = comm.Blank
+after_ask (Later t) = comm.Blank
 
 abbrev pub is_later : Progress → Bool
 is_later More = false
@@ -58,11 +61,15 @@ is_later (Later t) = true
 abbrev pub acted : Drive → Acted Change → Drive
 acted d s = record d { gates = s.gates; turn = s.place }
 
--- A step of the sector change, from a place. The step that writes SECTOR gives the Q, and begins the time of the sector; the
--- one that asks for the low switch keeps whether it is postponed.
+-- the sector has changed at t: its time and the search for its crossing begin
+abbrev pub sector_began : Drive → Bool → ℕ → Drive
+sector_began d forward t = searching (after_turn d t) forward t
+
+-- A step of the sector change, from a place. The step that writes SECTOR gives the Q, and the sector begins; the one that asks
+-- for the low switch keeps whether it is postponed.
 abbrev pub turned : ChangeAt → Acted Change → Brain → Bank → Stepped
 turned change.SetSector s c b = record {
-  core = record c { drive = after_turn (acted c.drive s) b.time; comm_at = after_ask s.answer };
+  core = record c { drive = sector_began (acted c.drive s) (is_forward c.orders) b.time; comm_at = after_ask s.answer };
   access = s.access;
   notes = note.Step (as_tick b.time) c.drive.turn.to ∷ [];
   over = false;
@@ -89,6 +96,8 @@ abbrev pub comm_step : CommAt → Brain → Bank → Stepped
 comm_step comm.Decide c b = decide_step c b
 comm_step comm.Turn c b = turn_step c.drive.turn.at c b
 comm_step comm.Low c b = resumed_step c b
+comm_step comm.Blank c b = goes_on (record c { comm_at = comm.Period }) (arms (until c.drive.crossing.phase))
+comm_step comm.Period c b = goes_on (record c { comm_at = comm.Arm }) (Writes reg.Period (six_of c.drive.timing.turns))
 comm_step comm.Arm c b = goes_on (record c { comm_at = after_arm c.drive.forced }) (Writes reg.CommAt (due_at c.drive))
 comm_step comm.Stick c b = goes_on (record c { comm_at = comm.Back }) (Writes reg.Stuck 1)
 comm_step comm.Back c b = goes_back (record c { comm_at = comm.Shut })

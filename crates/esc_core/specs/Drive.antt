@@ -1,6 +1,15 @@
--- What is kept of the drive, and how a start and a sector change change it.
-use Rattle.std.specs.Prelude.{ℕ, ◌+◌, Bool, true, false, nat_le, min, if◌then◌else◌}
-use Rattle.commutation.specs.Kept.{fresh, after_restart, after_gap}
+-- What is kept of the drive, and how a start, a sector change and a crossing change it.
+use Rattle.std.specs.Prelude.{ℕ, ◌+◌, Bool, true, false, nat_le, min, if◌then◌else◌, Option, Some, None}
+use Rattle.esc_base.specs.declared.tick.Tick.{Tick}
+use Rattle.esc_base.specs.Numbers.{as_tick}
+use Rattle.timer_regs.specs.Access.{Access}
+use Rattle.timer_regs.specs.Access.Access.{NoAccess, Writes}
+use Rattle.timer_regs.specs.declared.regs.Reg.TheVariants as reg
+use Rattle.zero_cross.specs.declared.phase.Phase.{Phase}
+use Rattle.zero_cross.specs.declared.phase.Phase.TheVariants as phase
+use Rattle.zero_cross.specs.Kept.{after_begin, after_off, Kept, fresh as no_search}
+use Rattle.commutation.specs.Kept.{fresh, after_restart, after_gap, after_crossing}
+use Rattle.commutation.specs.Pace.{wait_of}
 use Rattle.commutation.specs.Sectors.{low_of}
 use Rattle.gate_driver.specs.Gated.{never_off, at_leg}
 use Rattle.gate_driver.specs.Change.{change_to}
@@ -10,6 +19,7 @@ abbrev pub first_drive : ℕ → Drive
 first_drive advance = record {
   gates = never_off;
   timing = fresh (min advance 3);
+  crossing = no_search;
   turn = change_to 1;
   change = 0;
   postponed = false;
@@ -21,6 +31,15 @@ first_drive advance = record {
 abbrev pub started : Drive → ℕ → Drive
 started d t = record d { timing = after_restart d.timing; change = t; turned = false; forced = 0 }
 
+-- the search for a crossing in another phase
+abbrev pub in_phase : Drive → Phase → Drive
+in_phase d p = record d { crossing = record d.crossing { phase = p } }
+
+-- a drive that ends looks for no crossing
+abbrev pub search_after : Bool → Kept → Kept
+search_after true k = after_off k
+search_after false k = k
+
 -- how many forced sector changes stand in a row after one more change: the first one of a drive isn't forced
 abbrev pub forced_after : Drive → ℕ
 forced_after d = if d.turned then min 60 (d.forced + 1) else d.forced
@@ -28,6 +47,26 @@ forced_after d = if d.turned then min 60 (d.forced + 1) else d.forced
 -- the sector changed at t, and the next change is forced from 240000 ticks later on
 abbrev pub after_turn : Drive → ℕ → Drive
 after_turn d t = record d { timing = after_gap d.timing t; change = t + 240000; turned = true; forced = forced_after d }
+
+-- the search for the new sector's crossing begins at t, with the interval as it is then
+abbrev pub searching : Drive → Bool → ℕ → Drive
+searching d forward t = record d { crossing = after_begin d.turn.to forward t d.timing.pace.interval }
+
+-- the timing after a crossing at t
+abbrev pub timed : Drive → ℕ → Drive
+timed d t = record d { timing = after_crossing d.timing (as_tick t) }
+
+-- a crossing is accepted at t: the next sector change comes the wait later, and isn't forced
+abbrev pub after_cross : Drive → ℕ → Drive
+after_cross d t = record (timed d t) { change = t + wait_of d.timing.advance (timed d t).timing.pace.interval; turned = false; forced = 0 }
+
+abbrev pub crossed : Drive → ℕ → Drive
+crossed d t = after_cross (in_phase d phase.Done) t
+
+-- the access that arms the crossing timer for a tick, where there is one
+abbrev pub arms : Option Tick → Access
+arms None = NoAccess
+arms (Some at) = Writes reg.CmpAt at.0
 
 -- sixty forced sector changes stand in a row
 abbrev pub is_stuck : Drive → Bool

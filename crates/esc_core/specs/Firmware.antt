@@ -13,6 +13,8 @@ use Rattle.esc_core.specs.declared.state.TickAt.{TickAt}
 use Rattle.esc_core.specs.declared.state.TickAt.TheVariants as tick
 use Rattle.esc_core.specs.declared.state.PwmAt.{PwmAt}
 use Rattle.esc_core.specs.declared.state.PwmAt.TheVariants as pwm
+use Rattle.esc_core.specs.declared.state.CmpAt.{CmpAt}
+use Rattle.esc_core.specs.declared.state.CmpAt.TheVariants as cmp
 use Rattle.esc_core.specs.declared.state.CommAt.{CommAt}
 use Rattle.esc_core.specs.declared.state.CommAt.TheVariants as comm
 use Rattle.esc_core.specs.declared.state.MainAt.{MainAt}
@@ -32,6 +34,7 @@ use Rattle.esc_core.specs.Stepped.{Stepped, goes_back}
 use Rattle.esc_core.specs.Cap.{cap_step}
 use Rattle.esc_core.specs.Tick.{tick_step}
 use Rattle.esc_core.specs.Pwm.{pwm_step}
+use Rattle.esc_core.specs.Cmp.{cmp_step}
 use Rattle.esc_core.specs.Comm.{comm_step}
 use Rattle.esc_core.specs.Calls.{Call, Answer}
 use Rattle.esc_core.specs.Background.{main_step, main_asked}
@@ -63,11 +66,24 @@ pwm_left pwm.Shut = 0
 pwm_left (pwm.Run at) = chop_left at + 2
 pwm_left pwm.Back = 1
 
+abbrev pub cmp_left : CmpAt → ℕ
+cmp_left cmp.Shut = 0
+cmp_left cmp.Raise = 6
+cmp_left cmp.Look = 5
+cmp_left cmp.Ack = 4
+cmp_left cmp.Arm = 3
+cmp_left cmp.Enable = 3
+cmp_left cmp.Commute = 3
+cmp_left cmp.Lower = 2
+cmp_left cmp.Back = 1
+
 -- by where the sector change stands
 abbrev pub comm_left : CommAt → ChangeAt → ℕ
 comm_left comm.Shut at = 0
-comm_left comm.Decide at = 12
-comm_left comm.Turn at = change_left at + 4
+comm_left comm.Decide at = 14
+comm_left comm.Turn at = change_left at + 6
+comm_left comm.Blank at = 5
+comm_left comm.Period at = 4
 comm_left comm.Low at = 4
 comm_left comm.Arm at = 3
 comm_left comm.Stick at = 2
@@ -87,7 +103,7 @@ left_of c kind.Main = main_left c.main_at
 left_of c kind.Uart = bare_left c.uart_at
 left_of c kind.Tick = tick_left c.tick_at
 left_of c kind.Cap = cap_left c.cap_at
-left_of c kind.Cmp = bare_left c.cmp_at
+left_of c kind.Cmp = cmp_left c.cmp_at
 left_of c kind.Pwm = pwm_left c.pwm_at
 left_of c kind.Comm = comm_left c.comm_at c.drive.turn.at
 
@@ -115,9 +131,21 @@ pwm_need (pwm.Run chop.Over) = 9
 pwm_need pwm.Back = 9
 pwm_need pwm.Shut = 9
 
+abbrev pub cmp_need : CmpAt → ℕ
+cmp_need cmp.Look = 4
+cmp_need cmp.Ack = 3
+cmp_need cmp.Arm = 2
+cmp_need cmp.Enable = 2
+cmp_need cmp.Commute = 2
+cmp_need cmp.Lower = 1
+cmp_need cmp.Raise = 9
+cmp_need cmp.Back = 9
+cmp_need cmp.Shut = 9
+
 abbrev pub need_of : Brain → Kind → ℕ
 need_of c kind.Tick = tick_need c.tick_at
 need_of c kind.Pwm = pwm_need c.pwm_at
+need_of c kind.Cmp = cmp_need c.cmp_at
 need_of c k = 9
 
 abbrev pub shut : Brain → Kind → Brain
@@ -125,7 +153,7 @@ shut c kind.Main = record c { main_at = main.Shut }
 shut c kind.Uart = record c { uart_at = bare.Shut }
 shut c kind.Tick = record c { tick_at = tick.Shut }
 shut c kind.Cap = record c { cap_at = cap.Shut }
-shut c kind.Cmp = record c { cmp_at = bare.Shut }
+shut c kind.Cmp = record c { cmp_at = cmp.Shut }
 shut c kind.Pwm = record c { pwm_at = pwm.Shut }
 shut c kind.Comm = record c { comm_at = comm.Shut }
 
@@ -134,7 +162,7 @@ entered_core c kind.Main = record c { main_at = main.Work }
 entered_core c kind.Uart = record c { uart_at = bare.Back }
 entered_core c kind.Tick = record c { tick_at = tick.Raise }
 entered_core c kind.Cap = record c { cap_at = cap.Start }
-entered_core c kind.Cmp = record c { cmp_at = bare.Back }
+entered_core c kind.Cmp = record c { cmp_at = cmp.Raise }
 entered_core c kind.Pwm = record c { pwm_at = pwm.Run chop.Raise }
 entered_core c kind.Comm = record c { comm_at = comm.Decide }
 
@@ -143,6 +171,7 @@ abbrev pub kind_step : Kind → List Answer → Brain → Bank → Stepped
 kind_step kind.Tick answers c b = tick_step c.tick_at c b
 kind_step kind.Cap answers c b = cap_step c.cap_at c b
 kind_step kind.Pwm answers c b = pwm_step c.pwm_at c b
+kind_step kind.Cmp answers c b = cmp_step c.cmp_at c b
 kind_step kind.Comm answers c b = comm_step c.comm_at c b
 kind_step kind.Main answers c b = main_step answers c.main_at c b
 kind_step k answers c b = goes_back (shut c k)
@@ -177,7 +206,7 @@ new_core settings = record {
   tick_at = tick.Shut;
   main_at = main.Shut;
   uart_at = bare.Shut;
-  cmp_at = bare.Shut;
+  cmp_at = cmp.Shut;
   pwm_at = pwm.Shut;
   comm_at = comm.Shut;
   hold = 0;

@@ -6,6 +6,7 @@ pub mod Cap
 pub mod Tick
 pub mod Pwm
 pub mod Comm
+pub mod Cmp
 pub mod Calls
 pub mod Background
 pub mod Firmware

@@ -22,7 +22,7 @@ use Rattle.esc_core.specs.declared.state.TickAt.{TickAt}
 use Rattle.esc_core.specs.declared.state.TickAt.TheVariants as tick
 use Rattle.esc_core.specs.declared.drive.Drive.{Drive}
 use Rattle.esc_core.specs.Brain.{Brain}
-use Rattle.esc_core.specs.Drive.{started}
+use Rattle.esc_core.specs.Drive.{started, search_after}
 use Rattle.esc_core.specs.Stepped.{Stepped, goes_on, goes_back}
 
 abbrev pub outcome_note : ℕ → Option Cause → Bool → List Note
@@ -57,7 +57,7 @@ asked n marks answer c b = record {
   core = record c {
     tick_at = after_number answer;
     control = after_tick c.control n (decide (view_of c.control) n marks);
-    drive = drive_after answer.start b.time c.drive;
+    drive = record (drive_after answer.start b.time c.drive) { crossing = search_after (answer.demand == 0) c.drive.crossing };
   };
   access = Reads reg.TickState;
   notes = tick_notes b.time n marks answer;

@@ -26,6 +26,16 @@ impl Core {
             CommAt::Decide => self.decide(regs),
             CommAt::Turn => self.change_sector(regs),
             CommAt::Low => self.turn_low_on(regs),
+            CommAt::Blank => {
+                self.drive.arm_crossing(regs);
+                self.comm_at = CommAt::Period;
+                Did::More(no_note())
+            }
+            CommAt::Period => {
+                regs.write(Reg::Period, self.drive.timing.six());
+                self.comm_at = CommAt::Arm;
+                Did::More(no_note())
+            }
             CommAt::Arm => {
                 regs.write(Reg::CommAt, self.drive.due_at());
                 self.comm_at = after_arm(self.drive.forced);
@@ -78,6 +88,7 @@ impl Core {
             ChangeAt::SetSector => {
                 let t = regs.now();
                 self.drive.turned_at(t);
+                self.drive.search(self.orders.is_forward(), t);
                 let s = self.drive.turn.to().0;
                 Did::More(one_note(Note::Step { t, s }))
             }
@@ -121,7 +132,7 @@ fn after_ask(progress: Progress) -> CommAt
 {
     match progress {
         Progress::More => CommAt::Turn,
-        Progress::Done | Progress::Later(_) => CommAt::Arm,
+        Progress::Done | Progress::Later(_) => CommAt::Blank,
     }
 }
 

@@ -1,11 +1,15 @@
 //! What is kept of the drive between steps.
 ghost use Rattle.std.specs.Prelude.{◌≡◌, ◌+◌, ◌<◌, ◌≤◌, ◌^◌, bit_or};
 ghost use Rattle.commutation.specs.Sectors.{low_of};
-ghost use Rattle.esc_core.specs.Drive.{first_drive, started, after_turn, due_at as due_of};
+ghost use Rattle.esc_core.specs.Drive.{first_drive, started, after_turn, searching, after_cross, arms, due_at as due_of};
+ghost use Rattle.timer_regs.specs.Access.{accessed};
+ghost use Rattle.zero_cross.specs.Kept.{until};
 
 use commutation::{Timing, pair};
 use esc_base::{Sector, Tick};
 use gate_driver::{Gates, ToSector};
+use timer_regs::{Reg, Regs};
+use zero_cross::Crossing;
 
 /// The longest time from a sector change to the next one.
 const FORCED_LIMIT: u32 = 240_000;
@@ -18,13 +22,15 @@ pub(crate) const STUCK_ROW: u8 = 60;
 pub struct Drive {
     pub(crate) gates: Gates,
     pub(crate) timing: Timing,
+    /// The search for the sector's zero crossing.
+    pub(crate) crossing: Crossing,
     /// The newest change of sector. Where its low switch is postponed it stands at that step.
     pub(crate) turn: ToSector,
     /// The tick of 48 MHz from which on the next sector change is due.
     pub(crate) change: u32,
     /// The low switch of the newest sector is postponed for the dead time.
     pub(crate) postponed: bool,
-    /// The sector has changed since the drive started.
+    /// The sector has changed in this drive, and no crossing was accepted since: the next change is forced.
     pub(crate) turned: bool,
     /// How many forced sector changes stand in a row, at most 60.
     pub(crate) forced: u8,
@@ -38,6 +44,7 @@ impl Drive {
         Drive {
             gates: Gates::new(),
             timing: Timing::new(advance.min(3)),
+            crossing: Crossing::new(),
             turn: ToSector::new(Sector(1)),
             change: 0,
             postponed: false,
@@ -69,6 +76,37 @@ impl Drive {
             self.forced = self.forced.saturating_add(1).min(STUCK_ROW);
         }
         self.turned = true;
+    }
+
+    /// The search for the new sector's crossing begins.
+    pub(crate) fn search(&mut self, forward: bool, now: Tick)
+        requires { now.0 < 2 ^ 31 }
+        ensures { self.new ≡ searching self.old forward now.0 }
+    {
+        let to = self.turn.to();
+        let interval = self.timing.interval();
+        let _ = self.crossing.begin(to, forward, now, interval);
+    }
+
+    /// The sector's crossing was accepted at `z`. The next sector change comes the wait later.
+    pub(crate) fn crossed_at(&mut self, z: Tick)
+        requires { z.0 < 2 ^ 31 }
+        ensures { self.new ≡ after_cross self.old z.0 }
+    {
+        self.timing.crossing(z);
+        self.change = z.0 as u32 + self.timing.wait();
+        self.turned = false;
+        self.forced = 0;
+    }
+
+    /// Arms the crossing timer for the tick for which the search waits.
+    pub(crate) fn arm_crossing(&self, regs: &mut Regs)
+        requires count { regs.old.accesses < 2 ^ 63 }
+        ensures { regs.new ≡ accessed regs.old (arms (until self.now.crossing.phase)) }
+    {
+        if let Some(at) = self.crossing.until() {
+            regs.write(Reg::CmpAt, at.0 as u32);
+        }
     }
 
     /// When COMM is due next: at the next sector change, or when the postponed low switch may turn on, if that is earlier.

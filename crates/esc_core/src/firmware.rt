@@ -4,10 +4,10 @@ ghost use Rattle.esc_base.specs.Flash.{Told};
 ghost use Rattle.esc_base.specs.Range.{InRange};
 ghost use Rattle.interrupt_machine.specs.Did.{notes_of};
 ghost use Rattle.esc_core.specs.Calls.{IsMade};
-ghost use Rattle.esc_core.specs.Firmware.{core_step, entered_core, left_of, need_of, tick_need, pwm_need, is_stray, counted_down, shut, kind_step, kind_asked, core_asked, new_core};
+ghost use Rattle.esc_core.specs.Firmware.{core_step, entered_core, left_of, need_of, tick_need, pwm_need, cmp_need, is_stray, counted_down, shut, kind_step, kind_asked, core_asked, new_core};
 
 use crate::own::no_note;
-use crate::{BareAt, CapAt, CommAt, Core, Drive, MainAt, Orders, PwmAt, TickAt};
+use crate::{BareAt, CapAt, CmpAt, CommAt, Core, Drive, MainAt, Orders, PwmAt, TickAt};
 use arming::Control;
 use edge_capture::Burst;
 use esc_base::{FlashDev, Kind, Mode};
@@ -26,7 +26,7 @@ impl Core {
             tick_at: TickAt::Shut,
             main_at: MainAt::Shut,
             uart_at: BareAt::Shut,
-            cmp_at: BareAt::Shut,
+            cmp_at: CmpAt::Shut,
             pwm_at: PwmAt::Shut,
             comm_at: CommAt::Shut,
             hold: 0,
@@ -45,6 +45,7 @@ impl Core {
         match kind {
             Kind::Tick => tick_need(self.tick_at),
             Kind::Pwm => pwm_need(self.pwm_at),
+            Kind::Cmp => cmp_need(self.cmp_at),
             _ => 9,
         }
     }
@@ -57,7 +58,7 @@ impl Core {
             Kind::Uart => self.uart_at = BareAt::Shut,
             Kind::Tick => self.tick_at = TickAt::Shut,
             Kind::Cap => self.cap_at = CapAt::Shut,
-            Kind::Cmp => self.cmp_at = BareAt::Shut,
+            Kind::Cmp => self.cmp_at = CmpAt::Shut,
             Kind::Pwm => self.pwm_at = PwmAt::Shut,
             Kind::Comm => self.comm_at = CommAt::Shut,
         }
@@ -74,7 +75,8 @@ impl Core {
             Kind::Main => self.main_step(regs, dev),
             Kind::Pwm => self.pwm_step(regs),
             Kind::Comm => self.comm_step(regs),
-            Kind::Uart | Kind::Cmp => {
+            Kind::Cmp => self.cmp_step(regs),
+            Kind::Uart => {
                 self.shut(kind);
                 Did::Return(no_note())
             }
@@ -142,6 +144,19 @@ fn pwm_need(at: PwmAt) -> u8
     }
 }
 
+/// The same of CMP.
+fn cmp_need(at: CmpAt) -> u8
+    ensures { result ≡ cmp_need at }
+{
+    match at {
+        CmpAt::Look => 4,
+        CmpAt::Ack => 3,
+        CmpAt::Arm | CmpAt::Enable | CmpAt::Commute => 2,
+        CmpAt::Lower => 1,
+        CmpAt::Shut | CmpAt::Raise | CmpAt::Back => 9,
+    }
+}
+
 impl Firmware for Core {
     ghost came = { λ c k d. d ≡ entered_core c k };
 
@@ -159,7 +174,7 @@ impl Firmware for Core {
             Kind::Uart => self.uart_at = BareAt::Back,
             Kind::Tick => self.tick_at = TickAt::Raise,
             Kind::Cap => self.cap_at = CapAt::Start,
-            Kind::Cmp => self.cmp_at = BareAt::Back,
+            Kind::Cmp => self.cmp_at = CmpAt::Raise,
             Kind::Pwm => self.pwm_at = PwmAt::Run(Chop::new()),
             Kind::Comm => self.comm_at = CommAt::Decide,
         }

@@ -3,6 +3,7 @@
 
 mod background;
 mod cap;
+mod cmp;
 mod comm;
 mod drive;
 #[cfg(test)]
@@ -18,4 +19,4 @@ mod tick;
 
 pub use drive::Drive;
 pub use orders::Orders;
-pub use state::{BareAt, CapAt, CommAt, Core, MainAt, PwmAt, TickAt};
+pub use state::{BareAt, CapAt, CmpAt, CommAt, Core, MainAt, PwmAt, TickAt};

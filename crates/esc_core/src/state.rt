@@ -65,10 +65,35 @@ pub enum CommAt {
     Turn,
     /// Turns the postponed low switch on.
     Low,
+    /// Arms the crossing timer for the end of blanking.
+    Blank,
+    /// Writes the time of the newest six gaps.
+    Period,
     /// Arms the commutation timer.
     Arm,
     /// Sets the stuck mark.
     Stick,
+    Back,
+}
+
+/// Where an open CMP stands.
+#[derive(Clone, Copy, Debug, PartialEq, Eq, Drop)]
+pub enum CmpAt {
+    Shut,
+    /// Raises the mask.
+    Raise,
+    /// Decides by the phase of the search, and reads the comparator where the phase's time is over.
+    Look,
+    /// Clears the comparator's changed bit: a filter begins.
+    Ack,
+    /// Arms the crossing timer for the end of the filter, or of blanking.
+    Arm,
+    /// Has the comparator's next change ask for CMP.
+    Enable,
+    /// Arms the commutation timer, as a crossing was accepted.
+    Commute,
+    /// Lowers the mask.
+    Lower,
     Back,
 }
 
@@ -95,7 +120,7 @@ pub struct Core {
     pub(crate) tick_at: TickAt,
     pub(crate) main_at: MainAt,
     pub(crate) uart_at: BareAt,
-    pub(crate) cmp_at: BareAt,
+    pub(crate) cmp_at: CmpAt,
     pub(crate) pwm_at: PwmAt,
     pub(crate) comm_at: CommAt,
     /// For how many steps the mask can still stand.

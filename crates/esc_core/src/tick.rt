@@ -84,6 +84,9 @@ impl Core {
         if answer.start {
             self.drive.start(t);
         }
+        if answer.demand == 0 {
+            self.drive.crossing.off();
+        }
         self.tick_at = after_number(answer);
         let control = Note::Control {
             t,

@@ -228,7 +228,10 @@ impl Runner {
                 self.regs.edge(level);
                 self.quiet = self.limit;
             }
-            Event::Comp { level, .. } => self.regs.comp(level),
+            Event::Comp { level, .. } => {
+                self.regs.comp(level);
+                self.quiet = self.limit;
+            }
             Event::Serial { byte, .. } => {
                 let _ = self.regs.serial(byte);
             }
