@@ -114,24 +114,24 @@ tick_not_due n t lt = le-ltb n (t / 2400) (omega arith)
 not_closed : (t : ℕ) → t < 4200 → nat_le 4200 t ≡ false
 not_closed t lt = grind (arith, nat_tests)
 
-none_due : (loaded : Loaded) (t : ℕ) (k : Kind) → t < 2400 → sees two_edges (journal loaded []) t k ≡ false
+none_due : (loaded : Loaded) (t : ℕ) (k : Kind) → t < 2400 → sees loaded two_edges (journal loaded []) t k ≡ false
 unfolding place line burst
 none_due loaded t kind.Tick lt = tick_not_due 0 t (omega arith)
 none_due loaded t kind.Cap lt = not_closed t (omega arith)
 none_due loaded t k lt = refl
 
-none_due_later : (loaded : Loaded) (t : ℕ) (k : Kind) → t < 4200 → sees two_edges (journal loaded two) t k ≡ false
+none_due_later : (loaded : Loaded) (t : ℕ) (k : Kind) → t < 4200 → sees loaded two_edges (journal loaded two) t k ≡ false
 unfolding place line burst
 none_due_later loaded t kind.Tick lt = tick_not_due 1 t (omega arith)
 none_due_later loaded t kind.Cap lt = not_closed t lt
 none_due_later loaded t k lt = refl
 
-tick_highest : (loaded : Loaded) (k : Kind) → sees two_edges (journal loaded []) 2400 k ≡ true → kind_number k ≤ 2
+tick_highest : (loaded : Loaded) (k : Kind) → sees loaded two_edges (journal loaded []) 2400 k ≡ true → kind_number k ≤ 2
 unfolding place line burst
 tick_highest loaded kind.Tick s = omega arith
 tick_highest loaded k s = cc
 
-cap_highest : (loaded : Loaded) (k : Kind) → sees two_edges (journal loaded two) 4200 k ≡ true → kind_number k ≤ 3
+cap_highest : (loaded : Loaded) (k : Kind) → sees loaded two_edges (journal loaded two) 4200 k ≡ true → kind_number k ≤ 3
 unfolding place line burst
 cap_highest loaded kind.Cap s = omega arith
 cap_highest loaded k s = cc

@@ -33,8 +33,11 @@ use Rattle.commutation.specs.Commutated.{Commutated, TurnRule}
 use Rattle.gate_driver.specs.DeadSafe.{DeadSafe, IsSafe}
 use Rattle.esc_laws.specs.Windowed.{WindowRule, Windowed}
 use Rattle.esc_laws.specs.Driven.{IsDriven, Driven}
-use Rattle.esc_laws.specs.Saves.{forward_at}
+use Rattle.esc_laws.specs.Saves.{advance_of, forward_at}
+use Rattle.esc_laws.specs.Crossed.{CrossRule, Crossed}
+use Rattle.esc_laws.specs.Searched.{SearchRule, Searched}
 use Rattle.esc_laws.specs.Nested.{NestRule, NestedAfter}
+use Rattle.esc_laws.proofs.CrossGrowth.{notes_below}
 use Rattle.esc_laws.specs.Tied.{Keeps, WordTold}
 use Rattle.esc_laws.specs.Legal.{Legal, LegalFront}
 use Rattle.esc_laws.specs.Logged.{first_bank, Logged, CoreTurn, turned}
@@ -120,7 +123,7 @@ time_logged loaded nest cost trace next c b stack log t later le small l = recor
 }
 
 past_later : (m : Made) (t u : ℕ) → t ≤ u → Past m t → Past m u
-past_later m t u le p = record { cap = (let a = p.cap in omega arith); comm = (let a = p.comm in omega arith) }
+past_later m t u le p = record { cap = (let a = p.cap in omega arith); comm = (let a = p.comm in omega arith); cmp = (let a = p.cmp in omega arith) }
 
 none_open : (stack : List Kind) (due : Kind → Bool) → is_idle stack due ≡ true → (stack ≡ []) × (highest due ≡ None)
 none_open [] due idle = (refl, none_of (highest due) idle)
@@ -149,8 +152,8 @@ none_before (Some d) b k t u is le from below = is.none_before k u from (let m =
 none_seen : (loaded : Loaded) (nest : Nest) (trace : List Event) (c : Brain) (b : Bank) (log : List Turned) (t u : ℕ) (k : Kind)
     → Keeps c b [] → Ground (world loaded nest trace c b log) → ((j : Kind) → Tie j (world loaded nest trace c b log)) → WordTold c b (reverse (journal loaded log))
     → highest (due_now c.orders.save_asked b) ≡ None → ((j : Kind) (v : ℕ) → b.time < v → v < t → becomes_due b j v ≡ false) → b.time ≤ u → u < t
-    → t < 2147483648 → sees trace (journal loaded log) u k ≡ false
-none_seen loaded nest trace c b log t u k keeps g ties told none quiet from below small = by_seen (sees trace (journal loaded log) u k) refl
+    → t < 2147483648 → sees loaded trace (journal loaded log) u k ≡ false
+none_seen loaded nest trace c b log t u k keeps g ties told none quiet from below small = by_seen (sees loaded trace (journal loaded log) u k) refl
   where
     shut_now : due_now c.orders.save_asked (advanced b u) k ≡ false
     shut_now = elim (cases_lt b.time u) [
@@ -160,7 +163,7 @@ none_seen loaded nest trace c b log t u k keeps g ties told none quiet from belo
           (subst (λ (x : Bank). due_now c.orders.save_asked x k ≡ false) (advanced-now b) (highest_none (due_now c.orders.save_asked b) k none)))
     ]
 
-    by_seen : (v : Bool) → sees trace (journal loaded log) u k ≡ v → sees trace (journal loaded log) u k ≡ false
+    by_seen : (v : Bool) → sees loaded trace (journal loaded log) u k ≡ v → sees loaded trace (journal loaded log) u k ≡ false
     by_seen true e =
         let d =
         sees_due loaded nest trace c (advanced b u) [] log (keeps_later c b [] u keeps)
@@ -234,7 +237,7 @@ module _ (loaded : Loaded) (nest : Nest) (cost : ℕ) (trace : List Event) (e : 
   awaits_grow = record {
     open_step = λ o. (let n = next_is (λ s. o (sym l.marks.stack_is ∙ s)) in omega arith);
     idle = λ o u from soon f k. elim (cases_lt u b.time) [
-      | inl early ↦ sees_before trace e (journal loaded log) u k (omega arith)
+      | inl early ↦ sees_before loaded trace e (journal loaded log) u k (omega arith)
           ∙ l.awaits.idle o u (after_past u from) (let t = l.time in omega arith) (free_less trace e u f) k
       | inr late ↦ absurd (none_now u late soon from f)
     ];
@@ -248,10 +251,10 @@ module _ (loaded : Loaded) (nest : Nest) (cost : ℕ) (trace : List Event) (e : 
       record {
         keeps = keeps_grow e c b stack l.keeps;
         sorted = l.sorted;
-        marks = marks_grow loaded nest trace e b stack log at l.marks;
+        marks = marks_grow loaded nest trace e b stack log at (notes_below loaded nest cost trace (tick_of e) [] log l.fits before) l.marks;
         gates = told_grows e c b (reverse (journal loaded log)) l.gates;
         ground = event_ground (world loaded nest trace c b log) e at l.ground;
-        ties = λ k. event_tie k (world loaded nest trace c b log) e at l.ground l.ties;
+        ties = λ k. event_tie k (world loaded nest trace c b log) e at (made_below log b.time below) l.ground l.ties;
         patient = patient_grows loaded nest trace e c b stack log at before l.patient;
         owes = l.owes;
         reached = λ k o. reached_grows cost trace e log (steps_since k log) (entered_at k log) (l.reached k o) (l.reached_by k o (tick_of e) before);
@@ -293,6 +296,8 @@ legal_logged loaded nest cost trace next c b stack log until le below range l = 
   dead_safe = l.marks.dead_safe;
   driven = l.marks.driven;
   commutated = l.marks.commutated;
+  crossed = l.marks.crossed;
+  searched = l.marks.searched;
   nested = l.marks.nested;
   log = log;
   steps_are = refl;
@@ -338,11 +343,15 @@ front_logged loaded nest cost trace next c b stack log broken front left_out spl
           (subst (λ (ns : List Note). DeadSafe ns) whole l.marks.dead_safe);
       driven = each_front (λ before n. IsDriven (reverse before) n) [] (journal loaded log ++ front) left_out
           (subst (λ (ns : List Note). Driven ns) whole l.marks.driven);
-      commutated = each_front (λ before n. TurnRule loaded.settings.advance (forward_at loaded.settings) (reverse before) n) []
+      commutated = each_front (λ before n. TurnRule (advance_of loaded.settings) (forward_at loaded.settings) (reverse before) n) []
           (journal loaded log ++ front) left_out
-          (subst (λ (ns : List Note). Commutated loaded.settings.advance (forward_at loaded.settings) ns) whole l.marks.commutated);
-      nested = each_front (NestRule nest) (opening loaded) (notes_in log ++ front) left_out
-          (subst (λ (ns : List Note). NestedAfter nest (opening loaded) ns) tail l.marks.nested);
+          (subst (λ (ns : List Note). Commutated (advance_of loaded.settings) (forward_at loaded.settings) ns) whole l.marks.commutated);
+      crossed = each_front (λ before n. CrossRule trace (forward_at loaded.settings) (reverse before) n) [] (journal loaded log ++ front) left_out
+          (subst (λ (ns : List Note). Crossed trace (forward_at loaded.settings) ns) whole l.marks.crossed);
+      searched = each_front (λ before n. SearchRule trace (forward_at loaded.settings) (reverse before) n) [] (journal loaded log ++ front) left_out
+          (subst (λ (ns : List Note). Searched trace (forward_at loaded.settings) ns) whole l.marks.searched);
+      nested = each_front (NestRule (advance_of loaded.settings) nest) (opening loaded) (notes_in log ++ front) left_out
+          (subst (λ (ns : List Note). NestedAfter (advance_of loaded.settings) nest (opening loaded) ns) tail l.marks.nested);
       fits = l.fits;
       below = below;
       all_made = record {

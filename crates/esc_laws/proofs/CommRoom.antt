@@ -360,6 +360,8 @@ sets_sector w outer i =
             sector = tied.0.to_is;
             time = may_turn (turn_at w.back) w.loaded.settings.advance (interval_at w.back) w.core.drive.change w.bank.time due tied.0.due;
           };
+          crossed = tt;
+          searched = tt;
           waits = rw (told.hi_free (low_of to)) (long_off w outer i);
         },
         tt,
@@ -907,6 +909,8 @@ returns at w outer i =
           nest = (inside (so_far w).stack kind.Comm outer i.on, has_done told to tied.0.done);
           driven = λ k. cc;
           turns = tt;
+          crossed = tt;
+          searched = λ e. cc;
           waits = tt;
         },
         tt,
@@ -1227,7 +1231,7 @@ pub comm_law : HandlerLaw kind.Comm
 comm_law = record {
   called = λ w g t told unheld none s. called w t told unheld (comm_shut w.core.comm_at w.core.drive.turn.at none) s;
   asked = λ w g t unheld due. (tt, tt);
-  entered = λ w g t unheld none due past. entered w t unheld (comm_shut w.core.comm_at w.core.drive.turn.at none) due past.comm;
+  entered = λ w g t unheld none due past high. entered w t unheld (comm_shut w.core.comm_at w.core.drive.turn.at none) due past.comm;
   beside = λ w g t unheld none due past. elim [
     | kind.Comm ↦ λ ne. absurd (ne refl)
     | kind.Tick ↦ λ ne. (
@@ -1250,5 +1254,5 @@ comm_law = record {
     alone = alone;
   }) left;
   later = λ w u from small g t. later (drive_seen w) u from (t kind.Comm);
-  outside = λ w e at g t. t kind.Comm;
+  outside = λ w e at past g t. t kind.Comm;
 }

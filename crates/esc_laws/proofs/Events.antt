@@ -1,5 +1,5 @@
 -- The log stands as it is while time goes on, and as the trace grows.
-use Rattle.std.proofs.Common.{◌≡◌, ◌≤◌, ℕ, Bool, true, false, if◌then◌else◌, List, [], ◌∷◌, ◌++◌, Some, refl, sym, ◌∙◌, arith}
+use Rattle.std.proofs.Common.{◌≡◌, ◌≤◌, ℕ, Bool, true, false, if◌then◌else◌, List, [], ◌∷◌, ◌++◌, All, ◌<◌, Some, refl, sym, ◌∙◌, arith}
 use Rattle.esc_base.specs.declared.kind.Kind.{Kind}
 use Rattle.esc_base.specs.declared.event.Event.{Event}
 use Rattle.esc_base.specs.declared.event.Event.TheVariants as event
@@ -16,13 +16,15 @@ use Rattle.interrupt_machine.specs.Response.{Patient}
 use Rattle.interrupt_machine.proofs.Waiting.{grow_patient, same_patient}
 use Rattle.esc_core.specs.Brain.{Brain}
 use Rattle.esc_laws.specs.Seen.{sees}
-use Rattle.esc_laws.specs.Steps.{Turned, journal, called, Below}
+use Rattle.esc_laws.specs.Steps.{Turned, notes_in, journal, called, Below}
 use Rattle.esc_base.specs.declared.note.Note.{Note}
 use Rattle.esc_laws.specs.Tied.{Keeps, WordTold}
 use Rattle.esc_laws.specs.World.{after_event}
 use Rattle.esc_laws.specs.Logged.{Marks}
 use Rattle.esc_laws.proofs.Pushes.{All-later}
 use Rattle.esc_laws.proofs.Growth.{windowed_grows}
+use Rattle.esc_laws.specs.Saves.{forward_at}
+use Rattle.esc_laws.proofs.CrossGrowth.{crossed_grows, searched_grows}
 use Rattle.esc_laws.proofs.StepGrowth.{count_before}
 
 -- ---- time goes on
@@ -38,6 +40,8 @@ marks_later loaded nest trace b stack log u le m = record {
   dead_safe = m.dead_safe;
   driven = m.driven;
   commutated = m.commutated;
+  crossed = m.crossed;
+  searched = m.searched;
   nested = m.nested;
   waits = m.waits;
   stack_is = m.stack_is;
@@ -45,10 +49,10 @@ marks_later loaded nest trace b stack log u le m = record {
 }
 
 pub patient_later : (loaded : Loaded) (nest : Nest) (trace : List Event) (c : Brain) (b : Bank) (stack : List Kind) (log : List Turned) (u : ℕ) → b.time ≤ u
-    → Patient nest c.hold b.masked stack (sees trace (journal loaded log) b.time) (called loaded nest trace log)
-    → Patient nest c.hold b.masked stack (sees trace (journal loaded log) u) (called loaded nest trace log)
+    → Patient nest c.hold b.masked stack (sees loaded trace (journal loaded log) b.time) (called loaded nest trace log)
+    → Patient nest c.hold b.masked stack (sees loaded trace (journal loaded log) u) (called loaded nest trace log)
 patient_later loaded nest trace c b stack log u le p =
-    grow_patient nest stack (sees trace (journal loaded log) b.time) (sees trace (journal loaded log) u) b.masked c.hold (called loaded nest trace log) p
+    grow_patient nest stack (sees loaded trace (journal loaded log) b.time) (sees loaded trace (journal loaded log) u) b.masked c.hold (called loaded nest trace log) p
 
 -- ---- an event at now
 
@@ -72,7 +76,12 @@ same_regs b (event.Edge at level) =
     by_test : (v : Bool) (b' : Bank) → SameRegs b b' → SameRegs b (if v then b' else b)
     by_test true b' s = s
     by_test false b' s = record { time = refl; masked = refl; high = refl; low = refl }
-same_regs b (event.Comp at level) = record { time = refl; masked = refl; high = refl; low = refl }
+same_regs b (event.Comp at level) =
+    by_test (differ b.comp level) (record b { comp = level; comp_changed = true }) (record { time = refl; masked = refl; high = refl; low = refl })
+  where
+    by_test : (v : Bool) (b' : Bank) → SameRegs b b' → SameRegs b (if v then b' else b)
+    by_test true b' s = s
+    by_test false b' s = record { time = refl; masked = refl; high = refl; low = refl }
 same_regs b (event.Serial at byte) = record { time = refl; masked = refl; high = refl; low = refl }
 same_regs b (event.Stall at n) = record { time = refl; masked = refl; high = refl; low = refl }
 
@@ -81,25 +90,27 @@ event_time b e = (same_regs b e).time
 
 pub patient_grows : (loaded : Loaded) (nest : Nest) (trace : List Event) (e : Event) (c : Brain) (b : Bank) (stack : List Kind) (log : List Turned)
     → tick_of e ≡ b.time → Below (tick_of e) log
-    → Patient nest c.hold b.masked stack (sees trace (journal loaded log) b.time) (called loaded nest trace log)
-    → Patient nest c.hold (after_event b e).masked stack (sees (trace ++ e ∷ []) (journal loaded log) (after_event b e).time)
+    → Patient nest c.hold b.masked stack (sees loaded trace (journal loaded log) b.time) (called loaded nest trace log)
+    → Patient nest c.hold (after_event b e).masked stack (sees loaded (trace ++ e ∷ []) (journal loaded log) (after_event b e).time)
     (called loaded nest (trace ++ e ∷ []) log)
 patient_grows loaded nest trace e c b stack log at below p =
     let same : SameRegs b (after_event b e) = same_regs b e in
     rw (same.masked, same.time)
-    (same_patient nest c.hold b.masked stack (sees (trace ++ e ∷ []) (journal loaded log) b.time) (called loaded nest trace log)
+    (same_patient nest c.hold b.masked stack (sees loaded (trace ++ e ∷ []) (journal loaded log) b.time) (called loaded nest trace log)
     (called loaded nest (trace ++ e ∷ []) log) (λ k. count_before loaded nest trace e log k below)
-    (grow_patient nest stack (sees trace (journal loaded log) b.time) (sees (trace ++ e ∷ []) (journal loaded log) b.time) b.masked c.hold
+    (grow_patient nest stack (sees loaded trace (journal loaded log) b.time) (sees loaded (trace ++ e ∷ []) (journal loaded log) b.time) b.masked c.hold
     (called loaded nest trace log) p))
 
 pub marks_grow : (loaded : Loaded) (nest : Nest) (trace : List Event) (e : Event) (b : Bank) (stack : List Kind) (log : List Turned) → tick_of e ≡ b.time
-    → Marks loaded nest trace b stack log → Marks loaded nest (trace ++ e ∷ []) (after_event b e) stack log
-marks_grow loaded nest trace e b stack log at m = record {
+    → All (λ n. time_of n < tick_of e) (notes_in log) → Marks loaded nest trace b stack log → Marks loaded nest (trace ++ e ∷ []) (after_event b e) stack log
+marks_grow loaded nest trace e b stack log at below m = record {
   in_time = m.in_time;
   windowed = windowed_grows loaded trace e (journal loaded log) (All-later time_of (journal loaded log) b.time (tick_of e) (omega arith) m.past) m.windowed;
   dead_safe = m.dead_safe;
   driven = m.driven;
   commutated = m.commutated;
+  crossed = crossed_grows loaded trace e (forward_at loaded.settings) (notes_in log) below m.crossed;
+  searched = searched_grows loaded trace e (forward_at loaded.settings) (notes_in log) below m.searched;
   nested = m.nested;
   waits = m.waits;
   stack_is = m.stack_is;

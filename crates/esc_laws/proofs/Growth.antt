@@ -1,5 +1,5 @@
 -- Later events change nothing of what the notes and the steps before them said.
-use Rattle.std.proofs.Common.{◌≡◌, ◌≤◌, ◌<◌, ◌+◌, ℕ, Bool, true, false, not, ◌&&◌, ◌==◌, nat_le, nat_lt, max, if◌then◌else◌, List, [], ◌∷◌, ◌++◌, length, Some, None, refl, sym, ◌∙◌, ap, arith, All, ◌-◌, length-append, true≢false, inl, inr}
+use Rattle.std.proofs.Common.{◌≡◌, ◌≤◌, ◌<◌, ◌+◌, ℕ, Bool, true, false, not, ◌&&◌, ◌==◌, nat_le, nat_lt, max, if◌then◌else◌, List, [], ◌∷◌, ◌++◌, reverse, length, Some, None, refl, sym, ◌∙◌, ap, arith, All, ◌-◌, length-append, true≢false, inl, inr}
 use Rattle.std.proofs.lemmas.Bool.{not-true, and_parts, false_from_ne_true}
 use Rattle.std.proofs.lemmas.List.Elements.{All-head, All-tail}
 use Rattle.std.proofs.lemmas.List.{get_or_push}
@@ -22,6 +22,11 @@ use Rattle.edge_capture.specs.Burst.{burst, close, close_of, hears, is_closed, w
 use Rattle.edge_capture.proofs.Stable.{ListensOrNot, burst_more, closed_later}
 use Rattle.edge_capture.proofs.Grows.{burst_grows}
 use Rattle.settings_block.specs.declared.stored.Loaded.{Loaded}
+use Rattle.zero_cross.specs.Comparator.{Held}
+use Rattle.esc_laws.specs.Saves.{forward_at}
+use Rattle.esc_laws.specs.Crossed.{expects_at}
+use Rattle.esc_laws.specs.Searched.{sight_at, calls_cmp}
+use Rattle.esc_laws.proofs.Comparator.{held_before}
 use Rattle.esc_laws.specs.Place.{Signal, Silent, Listens, Judged, Rests, place}
 use Rattle.esc_laws.specs.Rested.{first_rested}
 use Rattle.esc_laws.specs.Windowed.{Answers, AnswersAt, OpensAt, WindowRule, Windowed}
@@ -181,7 +186,9 @@ cap_before trace e (Judged f opens) t lt = refl
 cap_before trace e (Rests f r) t lt = rest_before trace e (max (f + most_pause) r) t lt
 
 -- a later event changes nothing of what was seen due before it
-pub sees_before : (trace : List Event) (e : Event) (notes : List Note) (t : ℕ) (k : Kind) → t < tick_of e
-    → sees (trace ++ e ∷ []) notes t k ≡ sees trace notes t k
-sees_before trace e notes t kind.Cap lt = cap_before trace e (place notes).signal t lt
-sees_before trace e notes t k lt = refl
+pub sees_before : (loaded : Loaded) (trace : List Event) (e : Event) (notes : List Note) (t : ℕ) (k : Kind) → t < tick_of e
+    → sees loaded (trace ++ e ∷ []) notes t k ≡ sees loaded trace notes t k
+sees_before loaded trace e notes t kind.Cap lt = cap_before trace e (place notes).signal t lt
+sees_before loaded trace e notes t kind.Cmp lt =
+    ap (λ (h : Held). calls_cmp h (expects_at (forward_at loaded.settings) (reverse notes)) (sight_at (reverse notes)) t) (held_before trace e t lt)
+sees_before loaded trace e notes t k lt = refl

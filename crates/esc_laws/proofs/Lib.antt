@@ -1,8 +1,10 @@
 pub mod Pushes
 pub mod Stalls
 pub mod Rests
+pub mod Comparator
 pub mod Growth
 pub mod StepGrowth
+pub mod CrossGrowth
 pub mod HeardWhole
 pub mod SentFrames
 pub mod RestOpens
@@ -23,6 +25,7 @@ pub mod TickRoom
 pub mod CapRoom
 pub mod PwmRoom
 pub mod CommRoom
+pub mod CmpRoom
 pub mod Laws
 pub mod Stages
 pub mod Turns

@@ -11,7 +11,9 @@ use Rattle.commutation.specs.Commutated.{Commutated, TurnRule}
 use Rattle.gate_driver.specs.DeadSafe.{DeadSafe, IsSafe}
 use Rattle.esc_laws.specs.Windowed.{WindowRule, Windowed}
 use Rattle.esc_laws.specs.Driven.{IsDriven, Driven}
-use Rattle.esc_laws.specs.Saves.{forward_at}
+use Rattle.esc_laws.specs.Saves.{advance_of, forward_at}
+use Rattle.esc_laws.specs.Crossed.{CrossRule, Crossed}
+use Rattle.esc_laws.specs.Searched.{SearchRule, Searched}
 use Rattle.esc_laws.specs.Nested.{NestRule, NestedAfter}
 use Rattle.esc_laws.specs.Steps.{opening}
 use Rattle.esc_laws.specs.Rooms.{TurnWaits}
@@ -22,8 +24,10 @@ pub record Said (loaded : Loaded) (nest : Nest) (trace : List Event) (t : ℕ) (
   pub windowed : Windowed loaded trace (opening loaded ++ rest)
   pub dead_safe : DeadSafe (opening loaded ++ rest)
   pub driven : Driven (opening loaded ++ rest)
-  pub commutated : Commutated loaded.settings.advance (forward_at loaded.settings) (opening loaded ++ rest)
-  pub nested : NestedAfter nest (opening loaded) rest
+  pub commutated : Commutated (advance_of loaded.settings) (forward_at loaded.settings) (opening loaded ++ rest)
+  pub crossed : Crossed trace (forward_at loaded.settings) (opening loaded ++ rest)
+  pub searched : Searched trace (forward_at loaded.settings) (opening loaded ++ rest)
+  pub nested : NestedAfter (advance_of loaded.settings) nest (opening loaded) rest
   pub waits : Each (λ before n. TurnWaits (reverse before) n) [] (opening loaded ++ rest)
   pub past : All (λ n. time_of n ≤ t) (opening loaded ++ rest)
 
@@ -35,8 +39,10 @@ pub record NoteFits (loaded : Loaded) (nest : Nest) (trace : List Event) (before
   pub window : WindowRule loaded trace before n
   pub safe : IsSafe (reverse before) n
   pub driven : IsDriven (reverse before) n
-  pub turns : TurnRule loaded.settings.advance (forward_at loaded.settings) (reverse before) n
-  pub nesting : NestRule nest before n
+  pub turns : TurnRule (advance_of loaded.settings) (forward_at loaded.settings) (reverse before) n
+  pub crossed : CrossRule trace (forward_at loaded.settings) (reverse before) n
+  pub searched : SearchRule trace (forward_at loaded.settings) (reverse before) n
+  pub nesting : NestRule (advance_of loaded.settings) nest before n
   pub waits : TurnWaits (reverse before) n
 
 -- one more note at t
@@ -48,9 +54,11 @@ said_push loaded nest trace t rest n s at f =
       windowed = each_push (WindowRule loaded trace) [] (opening loaded ++ rest) n s.windowed f.window;
       dead_safe = each_push (λ before n. IsSafe (reverse before) n) [] (opening loaded ++ rest) n s.dead_safe f.safe;
       driven = each_push (λ before n. IsDriven (reverse before) n) [] (opening loaded ++ rest) n s.driven f.driven;
-      commutated = each_push (λ before n. TurnRule loaded.settings.advance (forward_at loaded.settings) (reverse before) n) [] (opening loaded ++ rest) n
+      commutated = each_push (λ before n. TurnRule (advance_of loaded.settings) (forward_at loaded.settings) (reverse before) n) [] (opening loaded ++ rest) n
           s.commutated f.turns;
-      nested = each_push (NestRule nest) (opening loaded) rest n s.nested f.nesting;
+      crossed = each_push (λ before n. CrossRule trace (forward_at loaded.settings) (reverse before) n) [] (opening loaded ++ rest) n s.crossed f.crossed;
+      searched = each_push (λ before n. SearchRule trace (forward_at loaded.settings) (reverse before) n) [] (opening loaded ++ rest) n s.searched f.searched;
+      nested = each_push (NestRule (advance_of loaded.settings) nest) (opening loaded) rest n s.nested f.nesting;
       waits = each_push (λ before n. TurnWaits (reverse before) n) [] (opening loaded ++ rest) n s.waits f.waits;
       past = All-push (λ x. time_of x ≤ t) (opening loaded ++ rest) n s.past (rw at (omega arith));
     }

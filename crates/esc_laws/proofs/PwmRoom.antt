@@ -357,6 +357,8 @@ steps pwm.Back w outer g t e shut duty i on left = record {
       nest = (inside (so_far w).stack kind.Pwm outer on, tt);
       driven = λ k. cc;
       turns = tt;
+      crossed = tt;
+      searched = λ e. cc;
       waits = tt;
     },
     tt,
@@ -425,7 +427,7 @@ pwm_law = record {
     flag_calls w.core.tick_at w.bank.flag (pwm_asked_at w.back) (demand_at w.back) (pwm_entered_at w.back) w.bank.time (flag_drives w t unheld due)
         (t kind.Pwm).1 due,
   );
-  entered = λ w g t unheld none due past. (
+  entered = λ w g t unheld none due past high. (
     refl,
     record {
       new = λ e. (let z : false ≡ true = sym (duty_written w.core.tick_at (unheld kind.Tick)) ∙ e in cc);
@@ -454,5 +456,5 @@ pwm_law = record {
     flag_later w.core.tick_at w.bank.flag (pwm_asked_at w.back) w.bank.duty (demand_at w.back) (pwm_entered_at w.back) w.bank.time u from (t kind.Tick).3
         (t kind.Pwm).1,
   );
-  outside = λ w e at g t. t kind.Pwm;
+  outside = λ w e at past g t. t kind.Pwm;
 }

@@ -44,7 +44,7 @@ no_stall : (t : ℕ) → free two_later_edges t ≡ t
 unfolding free
 no_stall t = refl
 
-calls_again : (loaded : Loaded) → sees two_later_edges (journal loaded cap_rests) 6202 kind.Cap ≡ true
+calls_again : (loaded : Loaded) → sees loaded two_later_edges (journal loaded cap_rests) 6202 kind.Cap ≡ true
 unfolding place line burst first_rested
 calls_again loaded = refl
 

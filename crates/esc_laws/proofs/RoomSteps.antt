@@ -24,6 +24,9 @@ ground_noted w n c s p o g = record {
   edges = g.edges;
   rested = g.rested;
   small = g.small;
+  events = g.events;
+  in_time = g.in_time;
+  comparator = g.comparator;
 }
 
 -- a step that leaves the gates, of a handler without a part in the drive

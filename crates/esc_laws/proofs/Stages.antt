@@ -34,12 +34,15 @@ use Rattle.gate_driver.proofs.OffTimes.{gates_same}
 use Rattle.gate_driver.proofs.DeadTime.{said_after}
 use Rattle.esc_laws.specs.Windowed.{WindowRuleAt}
 use Rattle.esc_laws.specs.Driven.{IsDriven}
+use Rattle.zero_cross.specs.Comparator.{Held, held}
+use Rattle.esc_laws.specs.Crossed.{CrossRule}
+use Rattle.esc_laws.specs.Searched.{SearchRule}
 use Rattle.esc_laws.specs.Nested.{NestRuleAt, IsAboveAll, IsBuilt, IsAsked}
 use Rattle.esc_laws.specs.Steps.{opening, is_entry, ReturnsLast}
-use Rattle.esc_laws.specs.Saves.{is_save, forward_at}
+use Rattle.esc_laws.specs.Saves.{is_save, advance_of, forward_at}
 use Rattle.esc_laws.specs.Tied.{WordTold}
-use Rattle.esc_laws.specs.World.{Made, made_next, World, placed, so_far, onto, noted, enters, after_enter, after_step, step_notes, all_notes, gated, counted, open_left, at_time, after_event, after_outside}
-use Rattle.esc_laws.specs.Rooms.{Above, HoldsAlone, Past, Ground, Tie, Ties, owner, TurnWaits, AllFit, WordMoves, GatesKeep, StepTold, StepKeeps}
+use Rattle.esc_laws.specs.World.{Made, made_next, World, placed, so_far, onto, noted, enters, after_enter, after_step, step_notes, all_notes, gated, counted, open_left, at_time, line_event, comp_event, after_event, after_outside}
+use Rattle.esc_laws.specs.Rooms.{IsInTime, Above, HoldsAlone, Past, Ground, Tie, Ties, owner, TurnWaits, AllFit, WordMoves, GatesKeep, StepTold, StepKeeps}
 use Rattle.esc_laws.proofs.Pushes.{All-later, place-push}
 use Rattle.esc_laws.proofs.Notes.{Said, NoteFits, said_push}
 use Rattle.esc_laws.proofs.Facts.{access_time}
@@ -47,7 +50,9 @@ use Rattle.esc_laws.proofs.Lines.{edge_now, edge_bank, line_changes, line_same, 
 use Rattle.esc_laws.proofs.Rests.{rest_now}
 use Rattle.esc_laws.proofs.RoomSteps.{ground_noted}
 use Rattle.esc_laws.proofs.Returns.{returns_last}
+use Rattle.esc_laws.proofs.Law.{Highest}
 use Rattle.esc_laws.proofs.Laws.{law}
+use Rattle.esc_laws.proofs.Comparator.{held-push, held_stays, held_now, comp_now, in_time_push}
 
 -- ---- the notes in both orders
 
@@ -83,15 +88,19 @@ pub record Stood (loaded : Loaded) (nest : Nest) (trace : List Event) (c : Brain
 
 -- a note fits the place that it finds, and so the notes before it
 note_fits : (w : World) (before : List Note) (n : Note) → reverse before ≡ w.back → WindowRuleAt w.loaded w.trace (so_far w) w.back n → IsSafe w.back n
-    → IsDriven w.back n → TurnRule w.loaded.settings.advance (forward_at w.loaded.settings) w.back n → NestRuleAt w.nest (so_far w) w.back n
+    → IsDriven w.back n → TurnRule (advance_of w.loaded.settings) (forward_at w.loaded.settings) w.back n
+    → CrossRule w.trace (forward_at w.loaded.settings) w.back n → SearchRule w.trace (forward_at w.loaded.settings) w.back n
+    → NestRuleAt (advance_of w.loaded.settings) w.nest (so_far w) w.back n
     → TurnWaits w.back n → NoteFits w.loaded w.nest w.trace before n
-note_fits w before n e window safe driven turns nest waits =
+note_fits w before n e window safe driven turns crossed searched nest waits =
     let at : placed w.back ≡ place before = ap placed (sym e) ∙ placed-is before in
     record {
       window = rw (e, ← at) window;
       safe = rw e safe;
       driven = rw e driven;
       turns = rw e turns;
+      crossed = rw e crossed;
+      searched = rw e searched;
       nesting = rw (e, ← at) nest;
       waits = rw e waits;
     }
@@ -107,7 +116,7 @@ all_said : (k : Kind) (w : World) (rest notes : List Note) → reverse (opening 
 all_said k w rest [] e s f = subst (λ (r : List Note). Said w.loaded w.nest w.trace w.bank.time r) (sym (append-nil rest)) s
 all_said k w rest (n ∷ notes) e s f =
     let fits : NoteFits w.loaded w.nest w.trace (opening w.loaded ++ rest) n =
-    note_fits w (opening w.loaded ++ rest) n e f.0.window (owned_safe n k w.back f.0.owned) f.0.driven f.0.turns f.0.nest f.0.waits in
+    note_fits w (opening w.loaded ++ rest) n e f.0.window (owned_safe n k w.back f.0.owned) f.0.driven f.0.turns f.0.crossed f.0.searched f.0.nest f.0.waits in
     subst (λ (r : List Note). Said w.loaded w.nest w.trace w.bank.time r) (append_assoc rest (n ∷ []) notes)
     (all_said k (noted w n) (rest ++ n ∷ []) notes (reverse-push (opening w.loaded ++ rest) n ∙ ap (λ (back : List Note). n ∷ back) e)
     (said_push w.loaded w.nest w.trace w.bank.time rest n s f.0.at fits) f.1)
@@ -265,7 +274,7 @@ step_made k answers loaded nest trace c b made rest outer i past above alone lef
           let by = gate_said k w s plain.gates was other in
           let gate = plain.gates.fits was other.moves in
           let said : Said loaded nest trace b.time (rest ++ g ∷ []) =
-          said_push loaded nest trace b.time rest g i.said refl (note_fits w (opening loaded ++ rest) g refl tt by.0 gate.driven tt gate.nest tt) in
+          said_push loaded nest trace b.time rest g i.said refl (note_fits w (opening loaded ++ rest) g refl tt by.0 gate.driven tt tt tt gate.nest tt) in
           let back : reverse (opening loaded ++ (rest ++ g ∷ [])) ≡ g ∷ reverse (opening loaded ++ rest) =
           ap reverse (sym (append_assoc (opening loaded) rest (g ∷ []))) ∙ reverse-push (opening loaded ++ rest) g in
           let stood =
@@ -297,10 +306,10 @@ enter_stack kind.Main p t = refl
 enter_stack k p t = refl
 
 -- an I fits where the kind is asked for and above all open ones
-enter_fits : (k : Kind) (w : World) (before : List Note) (stack : List Kind) → reverse before ≡ w.back → (place before).stack ≡ stack
+enter_fits : (k : Kind) (w : World) (before : List Note) (stack : List Kind) → Tie kind.Cmp w → reverse before ≡ w.back → (place before).stack ≡ stack
     → IsBuilt k × IsAsked k w.back w.bank.time → IsAboveAll w.nest stack (kind_number k) → NoteFits w.loaded w.nest w.trace before (enters k w.bank.time)
-enter_fits k w before stack e open_is asked above =
-    note_fits w before (enters k w.bank.time) e tt tt tt tt (
+enter_fits k w before stack few e open_is asked above =
+    note_fits w before (enters k w.bank.time) e tt tt tt tt tt (λ four. (let f = few.few in omega arith)) (
       rw (kind_of-number k) asked.0,
       subst (λ (st : List Kind). IsAboveAll w.nest st (kind_number k))
           (sym (ap (λ (p : Place). p.stack) (ap placed (sym e) ∙ placed-is before) ∙ open_is)) above,
@@ -310,20 +319,20 @@ enter_fits k w before stack e open_is asked above =
 pub enter_stood : (k : Kind) (loaded : Loaded) (nest : Nest) (trace : List Event) (c : Brain) (b : Bank) (made : Made) (rest : List Note)
     (stack : List Kind)
     → Stood loaded nest trace c b made rest stack → Past made b.time → left_of c k ≡ 0 → ((j : Kind) → 8 < need_of c j) → due_now c.orders.save_asked b k ≡ true
-    → IsAboveAll nest stack (kind_number k)
+    → Highest k (world_of loaded nest trace c b made rest) → IsAboveAll nest stack (kind_number k)
     → Stood loaded nest trace (entered_core c k) (after_entry b k) (made_next k true b.time made) (rest ++ enters k b.time ∷ []) (k ∷ stack)
-enter_stood k loaded nest trace c b made rest stack i past none unheld due above =
+enter_stood k loaded nest trace c b made rest stack i past none unheld due high above =
     let w : World = world_of loaded nest trace c b made rest in
     let n : Note = enters k b.time in
     let back : n ∷ reverse (opening loaded ++ rest) ≡ reverse (opening loaded ++ (rest ++ n ∷ [])) =
     sym (reverse-push (opening loaded ++ rest) n) ∙ ap reverse (append_assoc (opening loaded) rest (n ∷ [])) in
     record {
       said = subst (λ (t : ℕ). Said loaded nest trace t (rest ++ n ∷ [])) (sym (enter_time k b)) (said_push loaded nest trace b.time rest n i.said refl
-          (enter_fits k w (opening loaded ++ rest) stack refl i.stack_is ((law k).asked w i.ground i.ties unheld due) above));
+          (enter_fits k w (opening loaded ++ rest) stack (i.ties kind.Cmp) refl i.stack_is ((law k).asked w i.ground i.ties unheld due) above));
       gates = subst (λ (ns : List Note). WordTold (entered_core c k) (after_entry b k) ns) back (enter_told k c b (reverse (opening loaded ++ rest)) i.gates);
       ground = subst (λ (ns : List Note). Ground (record (after_enter k w) { back = ns })) back (ground_enter k w i.ground);
       ties = λ j. subst (λ (ns : List Note). Tie j (record (after_enter k w) { back = ns })) back (elim (same_kind j k) [
-        | inl e ↦ subst (λ (x : Kind). Tie x (after_enter k w)) (sym e) ((law k).entered w i.ground i.ties unheld none due past)
+        | inl e ↦ subst (λ (x : Kind). Tie x (after_enter k w)) (sym e) ((law k).entered w i.ground i.ties unheld none due past high)
         | inr ne ↦ (law k).beside w i.ground i.ties unheld none due past j ne
       ]);
       stack_is = ap (λ (ns : List Note). (place ns).stack) (sym (append_assoc (opening loaded) rest (n ∷ [])))
@@ -341,19 +350,44 @@ later_ground w u from small g = record {
   edges = (All-later (λ e. e.t.0) (line w.trace).edges w.bank.time u from g.edges.0, g.edges.1);
   rested = g.rested;
   small = small;
+  events = All-later (λ e. tick_of e) w.trace w.bank.time u from g.events;
+  in_time = g.in_time;
+  comparator = g.comparator ∙ ap (λ (h : Held). h.level) (sym (held_stays w.trace w.bank.time u from g.events));
 }
 
 -- ---- an event at now
 
 outside_is : (b : Bank) (e : Event)
-    → after_event b e ≡ record b { level = (after_event b e).level; window = (after_event b e).window; timer = (after_event b e).timer; changed = (after_event b e).changed }
+    → after_event b e ≡ record b {
+      level = (line_event b e).level;
+      window = (line_event b e).window;
+      timer = (line_event b e).timer;
+      changed = (line_event b e).changed;
+      comp = (comp_event b e).comp;
+      comp_changed = (comp_event b e).comp_changed;
+    }
 outside_is b (event.Edge at level) = by_test (differ b.level level)
   where
     by_test : (v : Bool)
         → (if v then edge_bank b level else b) ≡ record b { level = (if v then edge_bank b level else b).level; window = (if v then edge_bank b level else b).window; timer = (if v then edge_bank b level else b).timer; changed = (if v then edge_bank b level else b).changed }
     by_test true = refl
     by_test false = refl
+outside_is b (event.Comp at level) = by_test (differ b.comp level)
+  where
+    comp_bank : Bank
+    comp_bank = record b { comp = level; comp_changed = true }
+
+    by_test : (v : Bool)
+        → (if v then comp_bank else b) ≡ record b { comp = (if v then comp_bank else b).comp; comp_changed = (if v then comp_bank else b).comp_changed }
+    by_test true = refl
+    by_test false = refl
 outside_is b e = refl
+
+events_now : (w : World) (e : Event) → tick_of e ≡ w.bank.time → Ground w → All (λ x. tick_of x ≤ w.bank.time) (w.trace ++ e ∷ [])
+events_now w e is g = All-push (λ x. tick_of x ≤ w.bank.time) w.trace e g.events (omega arith)
+
+in_time_now : (w : World) (e : Event) → tick_of e ≡ w.bank.time → Ground w → IsInTime 0 (w.trace ++ e ∷ [])
+in_time_now w e is g = in_time_push w.trace e 0 (omega arith) g.in_time (All-later tick_of w.trace w.bank.time (tick_of e) (omega arith) g.events)
 
 edge_ground : (v : Bool) (w : World) (level : Bool) → differ w.bank.level level ≡ v → Ground w
     → Ground (record w {
@@ -372,11 +406,24 @@ edge_ground true w level d g =
         rising_push (line w.trace).edges (edge_now w.bank level) 0 g.edges.1 g.edges.0 (omega arith),
       );
       rested = rw new (rest_now (line w.trace).edges (edge_now w.bank level) g.edges.0);
+      events = events_now w (event.Edge (as_tick w.bank.time) level) refl g;
+      in_time = in_time_now w (event.Edge (as_tick w.bank.time) level) refl g;
+      comparator = rw (held-push w.trace (event.Edge (as_tick w.bank.time) level) w.bank.time) g.comparator;
       small = g.small;
     }
 edge_ground false w level d g =
     let same = line_same w.trace w.bank level (subst (λ (l : Bool). differ l level ≡ false) g.level d) in
-    record { control = g.control; orders = g.orders; level = rw same g.level; edges = rw same g.edges; rested = rw same g.rested; small = g.small }
+    record {
+      control = g.control;
+      orders = g.orders;
+      level = rw same g.level;
+      edges = rw same g.edges;
+      rested = rw same g.rested;
+      events = events_now w (event.Edge (as_tick w.bank.time) level) refl g;
+      in_time = in_time_now w (event.Edge (as_tick w.bank.time) level) refl g;
+      comparator = rw (held-push w.trace (event.Edge (as_tick w.bank.time) level) w.bank.time) g.comparator;
+      small = g.small;
+    }
 
 outside_ground : (w : World) (e : Event) → tick_of e ≡ w.bank.time → Ground w → Ground (after_outside w e)
 outside_ground w (event.Edge at level) is g =
@@ -395,6 +442,9 @@ outside_ground w (event.Comp at level) is g = record {
   level = rw (line-push w.trace (event.Comp at level)) g.level;
   edges = rw (line-push w.trace (event.Comp at level)) g.edges;
   rested = rw (line-push w.trace (event.Comp at level)) g.rested;
+  events = events_now w (event.Comp at level) is g;
+  in_time = in_time_now w (event.Comp at level) is g;
+  comparator = comp_now w.bank (held w.trace w.bank.time) at.0 level g.comparator ∙ ap (λ (h : Held). h.level) (sym (held_now w.trace at level w.bank.time is));
   small = g.small;
 }
 outside_ground w (event.Serial at byte) is g = record {
@@ -403,6 +453,9 @@ outside_ground w (event.Serial at byte) is g = record {
   level = rw (line-push w.trace (event.Serial at byte)) g.level;
   edges = rw (line-push w.trace (event.Serial at byte)) g.edges;
   rested = rw (line-push w.trace (event.Serial at byte)) g.rested;
+  events = events_now w (event.Serial at byte) is g;
+  in_time = in_time_now w (event.Serial at byte) is g;
+  comparator = rw (held-push w.trace (event.Serial at byte) w.bank.time) g.comparator;
   small = g.small;
 }
 outside_ground w (event.Stall at n) is g = record {
@@ -411,12 +464,16 @@ outside_ground w (event.Stall at n) is g = record {
   level = rw (line-push w.trace (event.Stall at n)) g.level;
   edges = rw (line-push w.trace (event.Stall at n)) g.edges;
   rested = rw (line-push w.trace (event.Stall at n)) g.rested;
+  events = events_now w (event.Stall at n) is g;
+  in_time = in_time_now w (event.Stall at n) is g;
+  comparator = rw (held-push w.trace (event.Stall at n) w.bank.time) g.comparator;
   small = g.small;
 }
 
 pub event_ground : (w : World) (e : Event) → tick_of e ≡ w.bank.time → Ground w → Ground (record w { trace = w.trace ++ e ∷ []; bank = after_event w.bank e })
 event_ground w e is g = subst (λ (b : Bank). Ground (record w { trace = w.trace ++ e ∷ []; bank = b })) (sym (outside_is w.bank e)) (outside_ground w e is g)
 
-pub event_tie : (j : Kind) (w : World) (e : Event) → tick_of e ≡ w.bank.time → Ground w → Ties w
+pub event_tie : (j : Kind) (w : World) (e : Event) → tick_of e ≡ w.bank.time → Past w.made w.bank.time → Ground w → Ties w
     → Tie j (record w { trace = w.trace ++ e ∷ []; bank = after_event w.bank e })
-event_tie j w e is g t = subst (λ (b : Bank). Tie j (record w { trace = w.trace ++ e ∷ []; bank = b })) (sym (outside_is w.bank e)) ((law j).outside w e is g t)
+event_tie j w e is past g t =
+    subst (λ (b : Bank). Tie j (record w { trace = w.trace ++ e ∷ []; bank = b })) (sym (outside_is w.bank e)) ((law j).outside w e is past g t)

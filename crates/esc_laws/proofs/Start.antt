@@ -1,5 +1,5 @@
 -- The log of a run that has made no step.
-use Rattle.std.proofs.Common.{◌≡◌, ◌≤◌, ℕ, true, false, List, [], ◌∷◌, reverse, refl, sym, ◌∙◌, ap, arith, lit<, All, Option, Some, None, ◌+◌}
+use Rattle.std.proofs.Common.{◌≡◌, ◌≤◌, ℕ, true, false, List, [], ◌∷◌, reverse, refl, sym, ◌∙◌, ap, arith, lit<, lit≤, All, Option, Some, None, ◌+◌}
 use Rattle.std.proofs.lemmas.List.Elements.{All-nil, All-cons}
 use Rattle.esc_base.specs.declared.kind.Kind.{Kind}
 use Rattle.esc_base.specs.declared.kind.Kind.TheVariants as kind
@@ -7,7 +7,7 @@ use Rattle.esc_base.specs.declared.event.Event.{Event}
 use Rattle.esc_base.specs.declared.note.Note.TheVariants as note
 use Rattle.esc_base.specs.Range.{InRange}
 use Rattle.esc_base.specs.Journal.{Journal, time_of}
-use Rattle.esc_base.specs.Trace.{Line, line}
+use Rattle.esc_base.specs.Trace.{Line, line, tick_of}
 use Rattle.esc_base.specs.Numbers.{mode_of, as_tick}
 use Rattle.edge_capture.proofs.Stable.{burst-nil}
 use Rattle.edge_capture.specs.Burst.{burst}
@@ -33,6 +33,8 @@ use Rattle.esc_laws.specs.Tied.{Keeps, WordTold}
 use Rattle.esc_laws.specs.World.{world}
 use Rattle.esc_laws.specs.Rooms.{Ground, Tie, drive_seen}
 use Rattle.esc_laws.specs.Logged.{Marks, Logged, first_bank}
+use Rattle.zero_cross.specs.Comparator.{Held}
+use Rattle.esc_laws.proofs.Comparator.{held-none}
 use Rattle.esc_laws.proofs.Notes.{Said}
 use Rattle.esc_laws.proofs.Pushes.{after-none, free-none, made-none, called-none}
 
@@ -76,6 +78,8 @@ start_said loaded nest trace t = record {
   dead_safe = (tt, (tt, tt));
   driven = (tt, (tt, tt));
   commutated = (tt, (tt, tt));
+  crossed = (tt, (tt, tt));
+  searched = (tt, (tt, tt));
   nested = tt;
   waits = (tt, (tt, tt));
   past = All-cons (λ n. time_of n ≤ t) (note.Up (as_tick 0) (load_number loaded.fault)) (note.Window (as_tick 0) 0 ∷ []) (omega arith)
@@ -119,6 +123,8 @@ start_marks loaded nest = record {
   dead_safe = (start_said loaded nest [] 0).dead_safe;
   driven = (start_said loaded nest [] 0).driven;
   commutated = (start_said loaded nest [] 0).commutated;
+  crossed = (start_said loaded nest [] 0).crossed;
+  searched = (start_said loaded nest [] 0).searched;
   nested = tt;
   waits = (start_said loaded nest [] 0).waits;
   stack_is = ap (λ (p : Place). p.stack) (sym (place-opening loaded));
@@ -136,6 +142,9 @@ start_ground loaded nest = record {
   edges = rw line-none (All-nil (λ e. e.t.0 ≤ 0), tt);
   rested = rw line-none (record { over = All-nil (λ e. e.t.0 + 200 ≤ 0); first = λ t a. omega arith });
   small = lit< tt;
+  events = All-nil (λ e. tick_of e ≤ 0);
+  in_time = tt;
+  comparator = ap (λ (h : Held). h.level) (sym (held-none 0));
 }
 
 none_on : (x : Leg) → is_on 0 x ≡ true → ⊥
@@ -167,7 +176,8 @@ start_drive loaded nest = record {
   stuck = λ d. absurd (omega arith);
   marked = λ d. absurd (omega arith);
   place = tt;
-  low = λ e d. absurd (omega arith);
+  low = λ e d s. absurd (omega arith);
+  crossed = λ e. cc;
   postponed = λ e d. absurd (omega arith);
 }
 
@@ -201,9 +211,25 @@ start_ties loaded nest kind.Pwm = (
   },
 )
 start_ties loaded nest kind.Comm = start_drive loaded nest
-start_ties loaded nest k = refl
+start_ties loaded nest kind.Cmp = record {
+  pace_is = refl;
+  advance_is = refl;
+  expects_is = refl;
+  level_is = ap (λ (h : Held). h.level) (sym (held-none 0));
+  open_is = refl;
+  phase_is = tt;
+  begins = λ e. cc;
+  ends = λ e. cc;
+  regs = λ b e. (refl, refl);
+  below = λ since l. refl;
+  few = lit≤ tt;
+  seen = tt;
+  begun = λ e. refl;
+  late = tt;
+}
+start_ties loaded nest kind.Uart = refl
 
-start_patient : (loaded : Loaded) (nest : Nest) → Patient nest 0 false [] (sees [] (journal loaded []) 0) (called loaded nest [] [])
+start_patient : (loaded : Loaded) (nest : Nest) → Patient nest 0 false [] (sees loaded [] (journal loaded []) 0) (called loaded nest [] [])
 start_patient loaded nest = record {
   bound = λ k. rw (called-none loaded nest [] k) (omega arith);
   held = λ m. cc;
@@ -228,7 +254,7 @@ logged_start loaded nest cost =
       reached_by = λ k o. cc;
       fits = tt;
       past = omega arith;
-      made_past = rw made-none (record { cap = omega arith; comm = omega arith });
+      made_past = rw made-none (record { cap = omega arith; comm = omega arith; cmp = omega arith });
       awaits = record { open_step = λ o. omega arith; idle = λ o t from below f k. absurd (omega arith) };
       time = omega arith;
       put_off = λ u from below. absurd (omega arith);

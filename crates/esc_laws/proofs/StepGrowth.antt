@@ -16,7 +16,7 @@ use Rattle.esc_laws.proofs.Growth.{sees_before}
 
 called_before : (loaded : Loaded) (trace : List Event) (e : Event) (log : List Turned) (t : ℕ) (k : Kind) → t < tick_of e
     → is_called loaded (trace ++ e ∷ []) log t k ≡ is_called loaded trace log t k
-called_before loaded trace e log t k l = ap (λ (v : Bool). v && not (is_open (open_in loaded log) k)) (sees_before trace e (journal loaded log) t k l)
+called_before loaded trace e log t k l = ap (λ (v : Bool). v && not (is_open (open_in loaded log) k)) (sees_before loaded trace e (journal loaded log) t k l)
 
 count_from : (loaded : Loaded) (nest : Nest) (trace : List Event) (e : Event) (k : Kind) (before : List Turned) (n : ℕ) (log : List Turned)
     → Below (tick_of e) log
@@ -51,8 +51,8 @@ step_grows loaded nest cost trace e before x past l f =
       open_step = λ o. rw same (f.open_step o);
       idle = λ o t from below free_at k.
           (let earlier : t < tick_of e = omega arith in
-          rw (sees_before trace e (journal loaded before) t k earlier) (f.idle o t (rw same at from) below (free_less trace e t free_at) k));
-      first = λ o. ((f.first o).0, λ k s. (f.first o).1 k (rw (sees_before trace e (journal loaded before) x.tick k l) at s));
+          rw (sees_before loaded trace e (journal loaded before) t k earlier) (f.idle o t (rw same at from) below (free_less trace e t free_at) k));
+      first = λ o. ((f.first o).0, λ k s. (f.first o).1 k (rw (sees_before loaded trace e (journal loaded before) x.tick k l) at s));
       entry = f.entry;
       own = f.own;
       reached = λ n. f.reached n ∙ sym (uses_before cost trace e (steps_since x.kind (before ++ x ∷ [])) (entered_at x.kind before) (rw (← f.reached n) l));

@@ -44,16 +44,16 @@ use Rattle.esc_laws.proofs.Turns.{reached_on, reached_new, by_on, by_new, stood,
 
 waits_due : (loaded : Loaded) (nest : Nest) (trace : List Event) (c : Brain) (b : Bank) (stack : List Kind) (log : List Turned) → Keeps c b stack
     → Ground (world loaded nest trace c b log) → ((j : Kind) → Tie j (world loaded nest trace c b log)) → WordTold c b (reverse (journal loaded log))
-    → ((j : Kind) → 8 < need_of c j) → (k : Kind) → sees trace (journal loaded log) b.time k ≡ true → is_open stack k ≡ false → due_now c.orders.save_asked b k ≡ true
+    → ((j : Kind) → 8 < need_of c j) → (k : Kind) → sees loaded trace (journal loaded log) b.time k ≡ true → is_open stack k ≡ false → due_now c.orders.save_asked b k ≡ true
 waits_due loaded nest trace c b stack log keeps g t told unheld k s f =
     (law k).called (world loaded nest trace c b log) g t told unheld (keeps.shut k f)
-    (subst (λ (p : Place). sees_at trace p (reverse (journal loaded log)) b.time k ≡ true) (sym (placed-is (journal loaded log))) s)
+    (subst (λ (p : Place). sees_at loaded trace p (reverse (journal loaded log)) b.time k ≡ true) (sym (placed-is (journal loaded log))) s)
 
 pub sees_due : (loaded : Loaded) (nest : Nest) (trace : List Event) (c : Brain) (b : Bank) (stack : List Kind) (log : List Turned) → Keeps c b stack
     → Ground (world loaded nest trace c b log) → ((j : Kind) → Tie j (world loaded nest trace c b log)) → WordTold c b (reverse (journal loaded log))
-    → ((j : Kind) → 8 < need_of c j) → (k : Kind) → is_waiting (sees trace (journal loaded log) b.time) stack k ≡ true → due_now c.orders.save_asked b k ≡ true
+    → ((j : Kind) → 8 < need_of c j) → (k : Kind) → is_waiting (sees loaded trace (journal loaded log) b.time) stack k ≡ true → due_now c.orders.save_asked b k ≡ true
 sees_due loaded nest trace c b stack log keeps g t told unheld k e =
-    let parts = and_parts (sees trace (journal loaded log) b.time k) (not (is_open stack k)) e in
+    let parts = and_parts (sees loaded trace (journal loaded log) b.time k) (not (is_open stack k)) e in
     waits_due loaded nest trace c b stack log keeps g t told unheld k parts.0 (not-true (is_open stack k) parts.1)
 
 -- ---- an entry
@@ -143,8 +143,8 @@ entry_turn loaded nest cost trace c b stack log k some l down chosen =
           (entry_above_all nest stack (due_now c.orders.save_asked b) k l.sorted chosen));
       patient =
           rw still
-          (entry_patient nest stack (due_now c.orders.save_asked b) (sees trace (journal loaded log) b.time)
-          (sees trace (journal loaded (log ++ entry_of b.time k ∷ [])) b.time) k c.hold (entered_core c k).hold (called loaded nest trace log)
+          (entry_patient nest stack (due_now c.orders.save_asked b) (sees loaded trace (journal loaded log) b.time)
+          (sees loaded trace (journal loaded (log ++ entry_of b.time k ∷ [])) b.time) k c.hold (entered_core c k).hold (called loaded nest trace log)
           (sees_due loaded nest trace c b stack log l.keeps l.ground l.ties l.gates (unheld_down c b stack l.keeps down)) chosen (rw down at l.patient));
       owes = entry_owes c b stack log k l.owes;
       reached = entry_reached cost trace b stack log k l.at_next l.reached;
@@ -228,8 +228,8 @@ own_turn loaded nest cost trace c b outer log k answers some l none =
       time = access_time b s.access;
       out = rw (made-push log (own_of b.time k notes)) step.0;
       patient =
-          own_patient nest k outer (open_left k outer s) (due_now c.orders.save_asked b) (sees trace (journal loaded log) b.time)
-          (sees trace (journal loaded (log ++ own_of b.time k notes ∷ [])) b.time) b.masked b'.masked c.hold s.core.hold (called loaded nest trace log)
+          own_patient nest k outer (open_left k outer s) (due_now c.orders.save_asked b) (sees loaded trace (journal loaded log) b.time)
+          (sees loaded trace (journal loaded (log ++ own_of b.time k notes ∷ [])) b.time) b.masked b'.masked c.hold s.core.hold (called loaded nest trace log)
           (λ m. sees_due loaded nest trace c b (k ∷ outer) log l.keeps l.ground l.ties l.gates (unheld_down c b (k ∷ outer) l.keeps m)) none
           (left_goes s.over b'.masked k outer (mask_down k (need_of c k) c.hold b s bound.mask)) held (λ m. bound.mask.most) bound.mask.less l.patient;
       owes = own_owes c s.core outer log k b.time notes s.over l.owes bound.moves.less (λ j ne. (bound.moves.others j ne).0);

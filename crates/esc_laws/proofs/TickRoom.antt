@@ -197,8 +197,8 @@ asks lost armed_now start w outer marks demand kept i begins none st number = by
     by_outcome (Some cause) armed_now st = record {
       gates = quiet_gates kind.Tick w _ (λ e. cc) (gates_same start) refl refl;
       fits = λ told. (
-        record { at = refl; owned = refl; window = tt; nest = here; driven = tt; turns = tt; waits = tt },
-        (record { at = refl; owned = refl; window = tt; nest = here; driven = tt; turns = tt; waits = tt }, tt),
+        record { at = refl; owned = refl; window = tt; nest = here; driven = tt; turns = tt; crossed = tt; searched = tt; waits = tt },
+        (record { at = refl; owned = refl; window = tt; nest = here; driven = tt; turns = tt; crossed = tt; searched = tt; waits = tt }, tt),
       );
       ground = record {
         control = st;
@@ -227,8 +227,8 @@ asks lost armed_now start w outer marks demand kept i begins none st number = by
     by_outcome None true st = record {
       gates = quiet_gates kind.Tick w _ (λ e. cc) (gates_same start) refl refl;
       fits = λ told. (
-        record { at = refl; owned = refl; window = tt; nest = here; driven = tt; turns = tt; waits = tt },
-        (record { at = refl; owned = refl; window = tt; nest = here; driven = tt; turns = tt; waits = tt }, tt),
+        record { at = refl; owned = refl; window = tt; nest = here; driven = tt; turns = tt; crossed = tt; searched = tt; waits = tt },
+        (record { at = refl; owned = refl; window = tt; nest = here; driven = tt; turns = tt; crossed = tt; searched = tt; waits = tt }, tt),
       );
       ground = record {
         control = st;
@@ -256,7 +256,7 @@ asks lost armed_now start w outer marks demand kept i begins none st number = by
     }
     by_outcome None false st = record {
       gates = quiet_gates kind.Tick w _ (λ e. cc) (gates_same start) refl refl;
-      fits = λ told. (record { at = refl; owned = refl; window = tt; nest = here; driven = tt; turns = tt; waits = tt }, tt);
+      fits = λ told. (record { at = refl; owned = refl; window = tt; nest = here; driven = tt; turns = tt; crossed = tt; searched = tt; waits = tt }, tt);
       ground = record {
         control = st;
         orders = orders_other w.loaded w.core.orders k w.back refl i.ground.orders;
@@ -618,6 +618,8 @@ steps tick.Back w outer i left = record {
       nest = (inside (so_far w).stack kind.Tick outer i.on, ticks_tie w outer tick.Back i);
       driven = λ e z. (told.hi_is ∙ (rest_tie w outer tick.Back i z).high_off, told.lo_is ∙ (rest_tie w outer tick.Back i z).low_off);
       turns = tt;
+      crossed = tt;
+      searched = λ e. cc;
       waits = tt;
     },
     tt,
@@ -691,7 +693,7 @@ tick_law = record {
   called = λ w g t told unheld none s.
       tick_due w.core.orders.save_asked w.bank (rw ((t kind.Tick).1, g.control.ties.number_is) (ltb-true (number_at w.back) (w.bank.time / 2400) s));
   asked = λ w g t unheld due. (tt, tt);
-  entered = λ w g t unheld none due past. (
+  entered = λ w g t unheld none due past high. (
     (due_tick w.core.orders.save_asked w.bank (t kind.Tick).2 due, refl),
     (t kind.Tick).1,
     (t kind.Tick).2,
@@ -735,5 +737,5 @@ tick_law = record {
       comm_shut = ((t kind.Tick).4 z).comm_shut;
     },
   );
-  outside = λ w e at g t. (t kind.Tick);
+  outside = λ w e at past g t. (t kind.Tick);
 }

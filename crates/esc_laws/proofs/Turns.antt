@@ -64,6 +64,8 @@ stood loaded nest cost trace next c b stack log l = record {
     dead_safe = l.marks.dead_safe;
     driven = l.marks.driven;
     commutated = l.marks.commutated;
+    crossed = l.marks.crossed;
+    searched = l.marks.searched;
     nested = l.marks.nested;
     waits = l.marks.waits;
     past = l.marks.past;
@@ -79,7 +81,7 @@ stood loaded nest cost trace next c b stack log l = record {
 -- a kind's count after a step at t
 abbrev pub counted_by : Loaded → Nest → List Event → ℕ → List Kind → List Kind → List Turned → Turned → Kind → ℕ
 counted_by loaded nest trace t stack stack' log e k =
-    wait_next nest k (is_waiting (sees trace (journal loaded log) t) stack k) (is_waiting (sees trace (journal loaded (log ++ e ∷ [])) t) stack' k)
+    wait_next nest k (is_waiting (sees loaded trace (journal loaded log) t) stack k) (is_waiting (sees loaded trace (journal loaded (log ++ e ∷ [])) t) stack' k)
     (Some e.kind)
     (called loaded nest trace log k)
 
@@ -90,7 +92,7 @@ pub record Given (loaded : Loaded) (nest : Nest) (cost : ℕ) (trace : List Even
   pub sorted : IsStack stack'
   pub time : b'.time ≡ b.time
   pub out : Stood loaded nest trace c' b' (made (log ++ e ∷ [])) (notes_in log ++ e.notes) stack'
-  pub patient : Patient nest c'.hold b'.masked stack' (sees trace (journal loaded (log ++ e ∷ [])) b.time)
+  pub patient : Patient nest c'.hold b'.masked stack' (sees loaded trace (journal loaded (log ++ e ∷ [])) b.time)
       (λ k. counted_by loaded nest trace b.time stack stack' log e k)
   pub owes : (k : Kind) → is_open stack' k ≡ true → own_steps k (log ++ e ∷ []) + left_of c' k ≤ most k
   pub reached : (k : Kind) → is_open stack' k ≡ true
@@ -104,6 +106,26 @@ counts_by : (nest : Nest) (k : Kind) (by : Option Kind) (n : ℕ) (seen seen' : 
     → wait_next nest k (is_waiting (seen t) st k) (is_waiting (seen' t) st' k) by n ≡ wait_next nest k (is_waiting (seen u) now k)
     (is_waiting (seen' u) now' k) by n
 counts_by nest k by n seen seen' t u st now st' now' e f g = rw (e, f, g) refl
+
+-- ---- the steps so far stand before a tick
+
+pub past_next : (k : Kind) (enters : Bool) (t u : ℕ) (m : Made) → t + 1 ≤ u → Past m u → Past (made_next k enters t m) u
+past_next kind.Cap false t u m a p = record { cap = a; comm = p.comm; cmp = p.cmp }
+past_next kind.Comm enters t u m a p = record { cap = p.cap; comm = a; cmp = p.cmp }
+past_next kind.Cmp enters t u m a p = record { cap = p.cap; comm = p.comm; cmp = a }
+past_next kind.Pwm true t u m a p = record { cap = p.cap; comm = p.comm; cmp = p.cmp }
+past_next kind.Pwm false t u m a p = record { cap = p.cap; comm = p.comm; cmp = p.cmp }
+past_next k enters t u m a p = p
+
+past_from : (log : List Turned) (u : ℕ) (m : Made) → Below u log → Past m u → Past (fold (λ m e. made_next e.kind e.enters e.tick m) m log) u
+past_from [] u m b p = p
+past_from (e ∷ log) u m b p =
+    past_from log u (made_next e.kind e.enters e.tick m) (All-tail (λ y. y.tick < u) e log b)
+    (past_next e.kind e.enters e.tick u m (let l = All-head (λ y. y.tick < u) e log b in omega arith) p)
+
+pub made_below : (log : List Turned) (u : ℕ) → Below u log → Past (made log) u
+unfolding made
+made_below log u b = past_from log u none_made b (record { cap = omega arith; comm = omega arith; cmp = omega arith })
 
 pub logged_after : (loaded : Loaded) (nest : Nest) (cost : ℕ) (trace : List Event) (c c' : Brain) (b b' : Bank) (stack stack' : List Kind) (log : List Turned)
     (e : Turned)
@@ -119,11 +141,11 @@ logged_after loaded nest cost trace c c' b b' stack stack' log e some at l g =
     after-push cost trace log e ∙ ap (λ (t : ℕ). next_step cost trace t) at ∙ free_ended trace b.time (b.time + cost) l.stalls (omega arith) in
     let counts : (k : Kind) → called loaded nest trace (log ++ e ∷ []) k ≡ counted_by loaded nest trace b.time stack stack' log e k =
     (λ k. called-push loaded nest trace log e k
-    ∙ counts_by nest k (Some e.kind) (called loaded nest trace log k) (λ t. sees trace (journal loaded log) t)
-    (λ t. sees trace (journal loaded (log ++ e ∷ [])) t) e.tick b.time (open_in loaded log) stack (open_in loaded (log ++ e ∷ [])) stack'
+    ∙ counts_by nest k (Some e.kind) (called loaded nest trace log k) (λ t. sees loaded trace (journal loaded log) t)
+    (λ t. sees loaded trace (journal loaded (log ++ e ∷ [])) t) e.tick b.time (open_in loaded log) stack (open_in loaded (log ++ e ∷ [])) stack'
     at l.marks.stack_is (sym out.stack_is)) in
     let patient =
-    same_patient nest c'.hold b'.masked stack' (sees trace (journal loaded (log ++ e ∷ [])) b.time) _
+    same_patient nest c'.hold b'.masked stack' (sees loaded trace (journal loaded (log ++ e ∷ [])) b.time) _
     (called loaded nest trace (log ++ e ∷ [])) counts g.patient in
     record {
       keeps = g.keeps;
@@ -134,6 +156,8 @@ logged_after loaded nest cost trace c c' b b' stack stack' log e some at l g =
         dead_safe = out.said.dead_safe;
         driven = out.said.driven;
         commutated = out.said.commutated;
+        crossed = out.said.crossed;
+        searched = out.said.searched;
         nested = out.said.nested;
         waits = out.said.waits;
         stack_is = sym out.stack_is;
@@ -143,28 +167,23 @@ logged_after loaded nest cost trace c c' b b' stack stack' log e some at l g =
       ground = out.ground;
       ties = out.ties;
       patient = subst
-          (λ (t : ℕ). Patient nest c'.hold b'.masked stack' (sees trace (journal loaded (log ++ e ∷ [])) t) (called loaded nest trace (log ++ e ∷ [])))
+          (λ (t : ℕ). Patient nest c'.hold b'.masked stack' (sees loaded trace (journal loaded (log ++ e ∷ [])) t) (called loaded nest trace (log ++ e ∷ [])))
           (sym g.time) patient;
       owes = g.owes;
       reached = g.reached;
       reached_by = g.reached_by;
       fits = step-push (StepFits loaded nest cost trace) [] log e l.fits
           (g.fits
-          (patient_most nest c'.hold b'.masked stack' (sees trace (journal loaded (log ++ e ∷ [])) b.time) (called loaded nest trace (log ++ e ∷ [])) patient));
+          (patient_most nest c'.hold b'.masked stack' (sees loaded trace (journal loaded (log ++ e ∷ [])) b.time) (called loaded nest trace (log ++ e ∷ [])) patient));
       past = rw next (omega arith);
-      made_past = rw (made-push log e) (past_soon e.kind e.enters e.tick (made log) (omega arith)
-          (record { cap = (let p = l.made_past.cap in omega arith); comm = (let p = l.made_past.comm in omega arith) }));
+      made_past = rw (made-push log e) (past_next e.kind e.enters e.tick (b.time + cost) (made log) (omega arith) (record {
+        cap = (let p = l.made_past.cap in omega arith);
+        comm = (let p = l.made_past.comm in omega arith);
+        cmp = (let p = l.made_past.cmp in omega arith);
+      }));
       awaits = record { open_step = λ o. rw next (omega arith); idle = λ o t from below f k. absurd (let n = next in omega arith) };
       time = rw g.time (omega arith);
       put_off = λ u from below past f. absurd (let n = next in omega arith);
       stalls = ends;
       at_next = λ o. sym next;
     }
-  where
-    past_soon : (k : Kind) (enters : Bool) (t : ℕ) (m : Made) → t + 1 ≤ b.time + cost → Past m (b.time + cost)
-        → Past (made_next k enters t m) (b.time + cost)
-    past_soon kind.Cap false t m a p = record { cap = a; comm = p.comm }
-    past_soon kind.Comm enters t m a p = record { cap = p.cap; comm = a }
-    past_soon kind.Pwm true t m a p = record { cap = p.cap; comm = p.comm }
-    past_soon kind.Pwm false t m a p = record { cap = p.cap; comm = p.comm }
-    past_soon k enters t m a p = p

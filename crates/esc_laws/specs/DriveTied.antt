@@ -15,6 +15,8 @@ use Rattle.gate_driver.specs.Gated.{Gated, at_leg}
 use Rattle.gate_driver.specs.Chop.{chopped_leg}
 use Rattle.esc_core.specs.declared.state.CommAt.{CommAt}
 use Rattle.esc_core.specs.declared.state.CommAt.TheVariants as comm
+use Rattle.esc_core.specs.declared.state.CmpAt.{CmpAt}
+use Rattle.esc_core.specs.declared.state.CmpAt.TheVariants as cmp
 use Rattle.esc_core.specs.declared.state.PwmAt.{PwmAt}
 use Rattle.esc_core.specs.declared.state.PwmAt.TheVariants as pwm
 use Rattle.esc_core.specs.declared.state.TickAt.{TickAt}
@@ -98,9 +100,10 @@ pub record Rests (at : TickAt) (pwm_at : PwmAt) (comm_at : CommAt) (hi lo : ℕ)
 -- ---- the drive
 
 pub record DriveView : Type 0 where
-  -- what the core keeps, and where COMM and TICK stand
+  -- what the core keeps, and where COMM, CMP and TICK stand
   pub drive : Drive
   pub comm_at : CommAt
+  pub cmp_at : CmpAt
   pub tick_at : TickAt
   -- the registers
   pub time : ℕ
@@ -111,12 +114,13 @@ pub record DriveView : Type 0 where
   pub stuck : Bool
   -- from this tick on COMM has made no step
   pub past : ℕ
-  -- what the notes say: of the newest K, of the newest Q, of the direction, of the drive
+  -- what the notes say: of the newest K, of the newest Q, of the direction, of the drive and of the wait after a Z
   pub demand : ℕ
   pub told_sector : ℕ
   pub turned_at : ℕ
   pub forward : Bool
   pub turn : Turn
+  pub wait : ℕ
   pub told_forced : ℕ
   pub told_stuck : Bool
   -- and of the activations of COMM
@@ -200,6 +204,8 @@ CommTied comm.Shut v = Unit {0}
 CommTied comm.Decide v = Decides v
 CommTied comm.Turn v = TurnTied v.drive.turn.at v
 CommTied comm.Low v = Resumes v
+CommTied comm.Blank v = HasActed v
+CommTied comm.Period v = HasActed v
 CommTied comm.Arm v = HasActed v
 CommTied comm.Stick v = HasArmed v × (is_stuck v.drive ≡ true)
 CommTied comm.Back v = HasArmed v
@@ -220,6 +226,8 @@ comm_since comm.Shut at = 4
 comm_since comm.Decide at = 5
 comm_since comm.Turn at = turn_since at
 comm_since comm.Low at = 6
+comm_since comm.Blank at = 2
+comm_since comm.Period at = 2
 comm_since comm.Arm at = 2
 comm_since comm.Stick at = 3
 comm_since comm.Back at = 3
@@ -244,26 +252,33 @@ turn_ends at = true
 
 abbrev pub is_marking : CommAt → ChangeAt → Bool
 is_marking comm.Turn at = turn_ends at
+is_marking comm.Blank at = true
+is_marking comm.Period at = true
 is_marking comm.Arm at = true
 is_marking comm.Stick at = true
 is_marking place at = false
 
--- When the next sector change is due. No Z stands in a journal yet.
-abbrev pub ChangeTied : Turn → ℕ → ℕ → Type 0
-ChangeTied Idle at time = ⊥
-ChangeTied Started at time = at ≤ time
-ChangeTied (Turned q) at time = at ≡ q + 240000
-ChangeTied (Crossed q z) at time = ⊥
+-- when the next sector change is due
+abbrev pub ChangeTied : ℕ → Turn → ℕ → ℕ → Type 0
+ChangeTied wait Idle at time = ⊥
+ChangeTied wait Started at time = at ≤ time
+ChangeTied wait (Turned q) at time = at ≡ q + 240000
+ChangeTied wait (Crossed q z) at time = at ≡ z + wait
+
+-- a drive has just started, and its first sector change is due
+pub record IsStarted (v : DriveView) : Type 0 where
+  pub started : v.turn ≡ Started
+  pub due : v.drive.change ≤ v.time
 
 -- where COMM is shut and the drive is on, COMM_AT is exact, or a start has just set it
 abbrev pub TimerKept : DriveView → Type 0
 TimerKept v =
-    ((v.timer ≡ Some (due_at v.drive)) × OnOrLate v) ⊎ ((at : ℕ) × (v.timer ≡ Some at) × (at ≤ v.time) × (v.drive.change ≤ v.time))
+    ((v.timer ≡ Some (due_at v.drive)) × OnOrLate v) ⊎ ((at : ℕ) × (v.timer ≡ Some at) × (at ≤ v.time) × IsStarted v)
 
 -- so it is but between the K of a start and the write of the timer
 abbrev pub LowTied : TickAt → DriveView → Type 0
-LowTied (tick.DutyOn start) v = ((start ≡ true) × (v.drive.change ≤ v.time)) ⊎ ((start ≡ false) × TimerKept v)
-LowTied tick.Start v = v.drive.change ≤ v.time
+LowTied (tick.DutyOn start) v = ((start ≡ true) × IsStarted v) ⊎ ((start ≡ false) × TimerKept v)
+LowTied tick.Start v = IsStarted v
 LowTied tick.Shut v = TimerKept v
 LowTied tick.Raise v = TimerKept v
 LowTied tick.Read v = TimerKept v
@@ -273,6 +288,11 @@ LowTied tick.Back v = TimerKept v
 LowTied (tick.Off at) v = Unit {0}
 LowTied tick.DutyOff v = Unit {0}
 LowTied tick.DriveOff v = Unit {0}
+
+-- CMP has noted a Z, and hasn't set COMM_AT yet
+abbrev pub commutes : CmpAt → Bool
+commutes cmp.Commute = true
+commutes at = false
 
 pub record DriveTied (v : DriveView) : Type 0 where
   -- the sector, and the switches that are on
@@ -292,7 +312,7 @@ pub record DriveTied (v : DriveView) : Type 0 where
   pub at_low : v.drive.postponed ≡ true → v.drive.turn.at ≡ change.Low
   -- the next one
   pub idle : v.demand ≡ 0 → v.turn ≡ Idle
-  pub due : 0 < v.demand → ChangeTied v.turn v.drive.change v.time
+  pub due : 0 < v.demand → ChangeTied v.wait v.turn v.drive.change v.time
   pub first : v.sector ≡ 0 → 0 < v.demand → v.drive.change ≤ v.time
   -- the row of forced ones, and the stuck mark
   pub turned : 0 < v.demand → v.drive.turned ≡ is_forced v.turn
@@ -303,5 +323,6 @@ pub record DriveTied (v : DriveView) : Type 0 where
   pub marked : 0 < v.demand → is_marking v.comm_at v.drive.turn.at ≡ false → is_stuck v.drive ≡ true → v.stuck ≡ true
   -- COMM, and what it has left
   pub place : CommTied v.comm_at v
-  pub low : v.comm_at ≡ comm.Shut → 0 < v.demand → LowTied v.tick_at v
+  pub low : v.comm_at ≡ comm.Shut → 0 < v.demand → commutes v.cmp_at ≡ false → LowTied v.tick_at v
+  pub crossed : commutes v.cmp_at ≡ true → (low_on v ≡ true) × (v.drive.postponed ≡ false)
   pub postponed : v.comm_at ≡ comm.Shut → 0 < v.demand → v.drive.postponed ≡ true → v.told_postponed ≡ true

@@ -19,6 +19,7 @@ pub mod Allowed
 -- the machinery that proves a run legal
 pub mod Tied
 pub mod DriveTied
+pub mod CrossTied
 pub mod World
 pub mod Rooms
 pub mod Logged

@@ -10,7 +10,7 @@ use Rattle.esc_base.specs.declared.note.Note.{Note}
 use Rattle.esc_base.specs.declared.note.Note.TheVariants as note
 use Rattle.esc_base.specs.declared.signal.Edge.{Edge}
 use Rattle.esc_base.specs.Journal.{time_of}
-use Rattle.esc_base.specs.Trace.{line}
+use Rattle.esc_base.specs.Trace.{line, tick_of}
 use Rattle.edge_capture.specs.Edges.{Rising}
 use Rattle.settings_block.specs.declared.stored.Loaded.{Loaded}
 use Rattle.arming.specs.Kept.{Kept}
@@ -26,13 +26,18 @@ use Rattle.timer_regs.specs.Rest.{rests_from}
 use Rattle.interrupt_machine.specs.Did.{accessed}
 use Rattle.interrupt_machine.specs.Open.{kind_of}
 use Rattle.arming.specs.ControlAt.{demand_at}
+use Rattle.commutation.specs.Drive.{pace_at, wait_at}
+use Rattle.zero_cross.specs.Comparator.{held}
 use Rattle.commutation.specs.Commutated.{sector_at, turn_at, forced_at, stuck_at, TurnRule}
 use Rattle.gate_driver.specs.Gated.{Gated, gates_after, high_wait}
 use Rattle.gate_driver.specs.DeadSafe.{high_free_at}
 use Rattle.gate_driver.specs.Acted.{KeepsDeadTime}
 use Rattle.esc_laws.specs.Windowed.{WindowRuleAt}
 use Rattle.esc_laws.specs.Driven.{IsDriven}
-use Rattle.esc_laws.specs.Saves.{forward_at}
+use Rattle.esc_laws.specs.Crossed.{CrossRule, blanked_at, expects_at}
+use Rattle.esc_laws.specs.Searched.{SearchRule, sight_at, cmp_open_at, quiet_at}
+use Rattle.esc_laws.specs.CrossTied.{CrossView, CrossTied}
+use Rattle.esc_laws.specs.Saves.{advance_of, forward_at}
 use Rattle.esc_laws.specs.Nested.{NestRuleAt}
 use Rattle.esc_laws.specs.Calls.{pwm_asked_at, pwm_entered_at, turned_at, turns_in, turn_was_due, postponed_at}
 use Rattle.esc_laws.specs.DriveTied.{PwmTied, FlagTied, DutyTied, Rests, DriveView, DriveTied}
@@ -45,16 +50,25 @@ use Rattle.esc_laws.specs.World.{Made, World, so_far, noted, step_notes, after_s
 abbrev pub StandUntil : ℕ → List Edge → Type 0
 StandUntil t edges = All (λ e. e.t.0 ≤ t) edges × Rising 0 edges
 
-pub record Grounded (loaded : Loaded) (trace : List Event) (kept : Kept) (o : Orders) (now_level : Bool) (rests : ℕ) (time : ℕ) (back : List Note) : Type 0 where
+-- the events' ticks don't fall, and none is below this one
+abbrev pub IsInTime : ℕ → List Event → Type 0
+IsInTime t [] = Unit {0}
+IsInTime t (e ∷ trace) = (t ≤ tick_of e) × IsInTime (tick_of e) trace
+
+pub record Grounded (loaded : Loaded) (trace : List Event) (kept : Kept) (o : Orders) (now_level now_comp : Bool) (rests : ℕ) (time : ℕ) (back : List Note) : Type 0 where
   pub control : Stands kept back
   pub orders : OrdersTied loaded o back
   pub level : now_level ≡ (line trace).level
   pub edges : StandUntil time (line trace).edges
   pub rested : IsRestFrom (line trace).edges rests
+  -- all events of the trace have come, in order, and the comparator is as they left it
+  pub events : All (λ e. tick_of e ≤ time) trace
+  pub in_time : IsInTime 0 trace
+  pub comparator : now_comp ≡ (held trace time).level
   pub small : time < 2147483648
 
 abbrev pub Ground : World → Type 0
-Ground w = Grounded w.loaded w.trace w.core.control w.core.orders w.bank.level (rests_from w.bank.changed) w.bank.time w.back
+Ground w = Grounded w.loaded w.trace w.core.control w.core.orders w.bank.level w.bank.comp (rests_from w.bank.changed) w.bank.time w.back
 
 -- ---- a tie for each handler
 
@@ -86,6 +100,7 @@ abbrev pub drive_seen : World → DriveView
 drive_seen w = record {
   drive = w.core.drive;
   comm_at = w.core.comm_at;
+  cmp_at = w.core.cmp_at;
   tick_at = w.core.tick_at;
   time = w.bank.time;
   hi = w.bank.hi;
@@ -99,11 +114,40 @@ drive_seen w = record {
   turned_at = turned_at w.back;
   forward = forward_at w.loaded.settings w.back;
   turn = turn_at w.back;
+  wait = wait_at (advance_of w.loaded.settings) w.back;
   told_forced = forced_at w.back;
   told_stuck = stuck_at w.back;
   turns_in = turns_in w.back;
-  was_due = turn_was_due w.back;
+  was_due = turn_was_due (advance_of w.loaded.settings) w.back;
   told_postponed = postponed_at w.back;
+}
+
+-- what the tie of the search for a crossing speaks of
+abbrev pub cross_seen : World → CrossView
+cross_seen w = record {
+  search = w.core.drive.crossing;
+  pace = w.core.drive.timing.pace;
+  advance = w.core.drive.timing.advance;
+  postponed = w.core.drive.postponed;
+  cmp_at = w.core.cmp_at;
+  comm_at = w.core.comm_at;
+  turn_at = w.core.drive.turn.at;
+  tick_at = w.core.tick_at;
+  time = w.bank.time;
+  level = w.bank.comp;
+  changed = w.bank.comp_changed;
+  enabled = w.bank.comp_enabled;
+  timer = w.bank.crossing;
+  held = held w.trace w.bank.time;
+  past = w.made.cmp_past;
+  turn = turn_at w.back;
+  told_pace = pace_at w.back;
+  told_advance = advance_of w.loaded.settings;
+  blanked = blanked_at w.back;
+  expects = expects_at (forward_at w.loaded.settings) w.back;
+  sight = sight_at w.back;
+  told_open = cmp_open_at w.back;
+  quiet = λ since. quiet_at since w.back;
 }
 
 abbrev pub MainTie : World → Type 0
@@ -115,6 +159,7 @@ Tie kind.Tick w = TickTie w
 Tie kind.Main w = MainTie w
 Tie kind.Pwm w = PwmTie w
 Tie kind.Comm w = DriveTied (drive_seen w)
+Tie kind.Cmp w = CrossTied (cross_seen w)
 -- the others aren't built, and never open
 Tie k w = left_of w.core k ≡ 0
 
@@ -137,6 +182,7 @@ HoldsAlone k w = (j : Kind) → j ≢ k → 8 < need_of w.core j
 pub record Past (made : Made) (t : ℕ) : Type 0 where
   pub cap : made.cap_past ≤ t
   pub comm : made.comm_past ≤ t
+  pub cmp : made.cmp_past ≤ t
 
 -- ---- what a step of a handler keeps
 
@@ -155,6 +201,7 @@ owner (note.Armed t) = Some kind.Tick
 owner (note.Lost t c) = Some kind.Tick
 owner (note.Saved t r) = Some kind.Main
 owner (note.Step t s) = Some kind.Comm
+owner (note.Cross t) = Some kind.Cmp
 owner n = None
 
 -- at a Q the high switch of the new pair's low leg has been off for 8 ticks at least
@@ -167,9 +214,11 @@ pub record Fits (k : Kind) (w : World) (n : Note) : Type 0 where
   pub at : time_of n ≡ w.bank.time
   pub owned : owner n ≡ Some k
   pub window : WindowRuleAt w.loaded w.trace (so_far w) w.back n
-  pub nest : NestRuleAt w.nest (so_far w) w.back n
+  pub nest : NestRuleAt (advance_of w.loaded.settings) w.nest (so_far w) w.back n
   pub driven : IsDriven w.back n
-  pub turns : TurnRule w.loaded.settings.advance (forward_at w.loaded.settings) w.back n
+  pub turns : TurnRule (advance_of w.loaded.settings) (forward_at w.loaded.settings) w.back n
+  pub crossed : CrossRule w.trace (forward_at w.loaded.settings) w.back n
+  pub searched : SearchRule w.trace (forward_at w.loaded.settings) w.back n
   pub waits : TurnWaits w.back n
 
 abbrev pub AllFit : Kind → World → List Note → Type 0
@@ -182,7 +231,7 @@ WordMoves b after = after.hi ≡ b.hi → after.lo ≡ b.lo → ⊥
 
 -- the G of a changed word fits before the step's own notes
 pub record GateFits (w : World) (after : Bank) (gates : Gated) : Type 0 where
-  pub nest : NestRuleAt w.nest (so_far w) w.back (note.Gate (as_tick w.bank.time) after.hi after.lo)
+  pub nest : NestRuleAt (advance_of w.loaded.settings) w.nest (so_far w) w.back (note.Gate (as_tick w.bank.time) after.hi after.lo)
   pub dead_time : KeepsDeadTime w.bank gates after
   pub driven : IsDriven w.back (note.Gate (as_tick w.bank.time) after.hi after.lo)
 

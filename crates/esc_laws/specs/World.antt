@@ -11,7 +11,7 @@ use Rattle.esc_base.specs.declared.note.Note.TheVariants as note
 use Rattle.esc_base.specs.Numbers.{kind_number, as_tick}
 use Rattle.settings_block.specs.declared.stored.Loaded.{Loaded}
 use Rattle.timer_regs.specs.Bank.{Bank}
-use Rattle.timer_regs.specs.Effects.{advanced, after_entry, after_line}
+use Rattle.timer_regs.specs.Effects.{advanced, after_entry, after_line, after_comp}
 use Rattle.interrupt_machine.specs.declared.nest.Nest.{Nest}
 use Rattle.interrupt_machine.specs.Did.{accessed}
 use Rattle.interrupt_machine.specs.Turn.{gate_note}
@@ -23,20 +23,22 @@ use Rattle.esc_laws.specs.Steps.{Turned, journal}
 
 -- what the ticks of the steps so far say
 pub record Made : Type 0 where
-  -- from this tick on CAP has made no step of its own, and COMM none at all
+  -- from this tick on CAP has made no step of its own, and COMM and CMP none at all
   pub cap_past : ℕ
   pub comm_past : ℕ
+  pub cmp_past : ℕ
   -- how many own steps PWM has made since its newest entry, and the tick of its newest second one, at which it reads the position
   pub pwm_own : ℕ
   pub sampled : ℕ
 
 abbrev pub none_made : Made
-none_made = record { cap_past = 0; comm_past = 0; pwm_own = 0; sampled = 0 }
+none_made = record { cap_past = 0; comm_past = 0; cmp_past = 0; pwm_own = 0; sampled = 0 }
 
 -- after a step of a kind at t: its entry, or an own one
 abbrev pub made_next : Kind → Bool → ℕ → Made → Made
 made_next kind.Cap false t m = record m { cap_past = t + 1 }
 made_next kind.Comm enters t m = record m { comm_past = t + 1 }
+made_next kind.Cmp enters t m = record m { cmp_past = t + 1 }
 made_next kind.Pwm true t m = record m { pwm_own = 0 }
 made_next kind.Pwm false t m = record m { pwm_own = m.pwm_own + 1; sampled = if m.pwm_own == 1 then t else m.sampled }
 made_next k enters t m = m
@@ -119,9 +121,19 @@ open_left k outer s = if s.over then outer else k ∷ outer
 abbrev pub at_time : World → ℕ → World
 at_time w u = record w { bank = advanced w.bank u }
 
--- what an event at now leaves of the registers: an edge of the signal line changes them, others nothing
+-- what an event at now leaves of the registers: an edge of the signal line changes them, and one of the comparator; others
+-- nothing
+abbrev pub line_event : Bank → Event → Bank
+line_event b (event.Edge at level) = after_line b level
+line_event b e = b
+
+abbrev pub comp_event : Bank → Event → Bank
+comp_event b (event.Comp at level) = after_comp b level
+comp_event b e = b
+
 abbrev pub after_event : Bank → Event → Bank
 after_event b (event.Edge at level) = after_line b level
+after_event b (event.Comp at level) = after_comp b level
 after_event b e = b
 
 -- an event touches these registers alone
@@ -129,9 +141,11 @@ abbrev pub after_outside : World → Event → World
 after_outside w e = record w {
   trace = w.trace ++ e ∷ [];
   bank = record w.bank {
-    level = (after_event w.bank e).level;
-    window = (after_event w.bank e).window;
-    timer = (after_event w.bank e).timer;
-    changed = (after_event w.bank e).changed;
+    level = (line_event w.bank e).level;
+    window = (line_event w.bank e).window;
+    timer = (line_event w.bank e).timer;
+    changed = (line_event w.bank e).changed;
+    comp = (comp_event w.bank e).comp;
+    comp_changed = (comp_event w.bank e).comp_changed;
   };
 }
