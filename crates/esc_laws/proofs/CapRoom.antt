@@ -187,6 +187,9 @@ good None x outer frame w m g sound k answers on shut named st = record {
     level = g.level;
     edges = g.edges;
     rested = g.rested;
+    events = g.events;
+    in_time = g.in_time;
+    comparator = g.comparator;
     small = g.small;
   };
   tie = λ told. (good_tied None frame x.trace x.core x.bank (so_far x) w m k, sound, tt);
@@ -206,6 +209,9 @@ good (Some act) x outer frame w m g sound k answers on shut named st =
         level = g.level;
         edges = g.edges;
         rested = g.rested;
+        events = g.events;
+        in_time = g.in_time;
+        comparator = g.comparator;
         small = g.small;
       };
       tie = λ told. (good_tied (Some act) frame x.trace x.core x.bank (so_far x) w m k, sound, tt);
@@ -247,6 +253,9 @@ judges (Found mode) x outer w m g sound k answers on shut = record {
     level = g.level;
     edges = g.edges;
     rested = g.rested;
+    events = g.events;
+    in_time = g.in_time;
+    comparator = g.comparator;
     small = g.small;
   };
   tie = λ told. ((record { verdict = ap (λ (n : ℕ). n + 1) k.no_verdict; taken = k.taken; running = k.hears.running; no_timer = k.hears.no_timer }, refl), sound, tt);

@@ -37,6 +37,7 @@ use Rattle.esc_laws.specs.Saves.{advance_of, forward_at}
 use Rattle.esc_laws.specs.Crossed.{CrossRule, Crossed}
 use Rattle.esc_laws.specs.Searched.{SearchRule, Searched}
 use Rattle.esc_laws.specs.Nested.{NestRule, NestedAfter}
+use Rattle.esc_laws.proofs.Turns.{made_below}
 use Rattle.esc_laws.proofs.CrossGrowth.{notes_below}
 use Rattle.esc_laws.specs.Tied.{Keeps, WordTold}
 use Rattle.esc_laws.specs.Legal.{Legal, LegalFront}

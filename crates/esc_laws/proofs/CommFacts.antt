@@ -23,7 +23,7 @@ use Rattle.esc_core.specs.declared.state.CommAt.TheVariants as comm
 use Rattle.esc_core.specs.Drive.{is_stuck}
 use Rattle.esc_core.specs.Stepped.{Stepped}
 use Rattle.esc_laws.specs.Driven.{InPair}
-use Rattle.esc_laws.specs.DriveTied.{DriveView, DriveTied, CommTied, LowTied, comm_since, is_turning, is_marking}
+use Rattle.esc_laws.specs.DriveTied.{DriveView, DriveTied, CommTied, LowTied, comm_since, commutes, is_turning, is_marking}
 use Rattle.esc_laws.specs.World.{World, so_far}
 use Rattle.esc_laws.specs.Rooms.{Ground, Ties, HoldsAlone, GatesKeep, drive_seen}
 use Rattle.esc_laws.proofs.DriveFacts.{pair_apart, soon_word}
@@ -93,9 +93,9 @@ pub record Moves (v : DriveView) (since : ℕ) (d : Drive) (place : CommAt) (tim
   pub low : place ≡ comm.Shut → 0 < v.demand → LowTied v.tick_at (moved_view v d place timer stuck postponed hi lo)
   pub waits : place ≡ comm.Shut → d.postponed ≡ true → postponed ≡ true
 
-pub comm_moves : (v : DriveView) (since : ℕ) (d : Drive) (place : CommAt) (timer : Option ℕ) (stuck postponed : Bool) (hi lo : ℕ) → DriveTied v
-    → Moves v since d place timer stuck postponed hi lo → DriveTied (moved_view v d place timer stuck postponed hi lo)
-comm_moves v since d place timer stuck postponed hi lo t m = record {
+pub comm_moves : (v : DriveView) (since : ℕ) (d : Drive) (place : CommAt) (timer : Option ℕ) (stuck postponed : Bool) (hi lo : ℕ)
+    → commutes v.cmp_at ≡ false → DriveTied v → Moves v since d place timer stuck postponed hi lo → DriveTied (moved_view v d place timer stuck postponed hi lo)
+comm_moves v since d place timer stuck postponed hi lo none t m = record {
   sector_is = t.sector_is;
   sectors = t.sectors;
   pair = m.words.pair;
@@ -117,7 +117,8 @@ comm_moves v since d place timer stuck postponed hi lo t m = record {
   stuck = m.stuck_is;
   marked = m.marked;
   place = m.place_is;
-  low = m.low;
+  low = λ e l c. m.low e l;
+  crossed = λ e. absurd (let z : false ≡ true = sym none ∙ e in cc);
   postponed = λ e l p. m.waits e p;
 }
 

@@ -1,5 +1,5 @@
 -- COMM's room.
-use Rattle.std.proofs.Common.{◌≡◌, ◌≢◌, ◌≤◌, ◌<◌, ◌+◌, ◌-◌, ◌⊎◌, inl, inr, ℕ, zero, suc, min, Bool, true, false, not, ◌&&◌, ◌||◌, ◌==◌, nat_lt, nat_le, bit_and, bit_or, if◌then◌else◌, List, ◌∷◌, Option, Some, None, refl, sym, ◌∙◌, ap, subst, arith}
+use Rattle.std.proofs.Common.{◌%◌, ◌≡◌, ◌≢◌, ◌≤◌, ◌<◌, ◌+◌, ◌-◌, ◌⊎◌, inl, inr, ℕ, zero, suc, min, Bool, true, false, not, ◌&&◌, ◌||◌, ◌==◌, nat_lt, nat_le, bit_and, bit_or, if◌then◌else◌, List, ◌∷◌, Option, Some, None, refl, sym, ◌∙◌, ap, subst, arith}
 use Rattle.std.proofs.lemmas.Bool.{cases_lt, cases_Bool, and_parts, lt-ltb, ltb-true, le-ltb, leb-true, le-leb, or_left, or_right, not-true}
 use Rattle.std.proofs.lemmas.Bool.Decides.{nat_tests}
 use Rattle.esc_base.specs.declared.gate.Leg.{Leg}
@@ -13,7 +13,7 @@ use Rattle.esc_base.specs.Times.{is_reached}
 use Rattle.timer_regs.specs.Bank.{Bank}
 use Rattle.timer_regs.specs.Effects.{read_value, written}
 use Rattle.timer_regs.specs.declared.regs.Reg.TheVariants as reg
-use Rattle.interrupt_machine.specs.Did.{NoAccess, Writes, accessed}
+use Rattle.interrupt_machine.specs.Did.{Access, NoAccess, Writes, accessed}
 use Rattle.arming.specs.ControlAt.{demand_at}
 use Rattle.commutation.specs.Sectors.{high_of, low_of, next_sector}
 use Rattle.commutation.specs.Commutated.{Turn, Idle, Started, Turned, Crossed, MayTurn, sector_at, turn_at, is_forced, forced_at, stuck_at}
@@ -43,14 +43,23 @@ use Rattle.esc_core.specs.Stepped.{Stepped, goes_on}
 use Rattle.esc_core.specs.Firmware.{comm_left, pwm_need, tick_need}
 use Rattle.settings_block.specs.declared.settings.Settings.{Settings}
 use Rattle.esc_laws.specs.Driven.{InPair}
-use Rattle.esc_laws.specs.Saves.{settings_at, forward_at}
+use Rattle.esc_laws.specs.Saves.{settings_at, advance_of, forward_at}
 use Rattle.esc_laws.specs.Calls.{calls_turn, calls_low, turn_is_due, turned_at, turns_in, turn_was_due, postponed_at, low_is_on, HasTurned, HasCaughtUp}
 use Rattle.esc_laws.specs.Tied.{WordTold}
-use Rattle.esc_laws.specs.DriveTied.{DriveView, DriveTied, CommTied, LowTied, TimerKept, ChangeTied, Turns, IsUp, Decides, Resumes, Resumed, HasActed, HasArmed, OnOrHeld, OnOrLate, PwmTied, low_on, comm_since, is_turning, is_marking, TurnTied}
-use Rattle.esc_laws.specs.World.{World, so_far, after_enter}
-use Rattle.esc_laws.specs.Rooms.{Ground, Ties, Tie, Unheld, HoldsAlone, GatesKeep, StepTold, StepKeeps, drive_seen}
+use Rattle.esc_laws.specs.DriveTied.{DriveView, DriveTied, CommTied, LowTied, IsStarted, TimerKept, ChangeTied, IsUnforced, commutes, Turns, IsUp, Decides, Resumes, Resumed, HasActed, HasArmed, OnOrHeld, OnOrLate, PwmTied, low_on, comm_since, is_turning, is_marking, TurnTied}
+use Rattle.esc_laws.specs.World.{World, so_far, after_enter, after_step}
+use Rattle.esc_laws.specs.Rooms.{Ground, Ties, Tie, Unheld, HoldsAlone, GatesKeep, StepTold, StepKeeps, drive_seen, cross_seen}
 use Rattle.esc_laws.proofs.RoomSteps.{ground_noted, quiet_gates, inside, popped}
 use Rattle.esc_laws.proofs.DriveFacts.{apart_legs, pair_apart, low_leg_off, comm_shut, rest_still, timer_kept, low_kept}
+use Rattle.zero_cross.specs.declared.phase.Phase.{Phase}
+use Rattle.zero_cross.specs.declared.phase.Phase.TheVariants as phase
+use Rattle.zero_cross.specs.Sector.{blanking_of, level_of}
+use Rattle.zero_cross.specs.Kept.{Kept, after_begin, until}
+use Rattle.commutation.specs.Pace.{Pace, wait_of}
+use Rattle.commutation.specs.Drive.{interval_at}
+use Rattle.esc_core.specs.Drive.{arms as arms_crossing}
+use Rattle.esc_laws.specs.CrossTied.{begins_search}
+use Rattle.esc_laws.proofs.CrossFacts.{cmp_unmasked, tick_unmasked, unmasked_commutes, moved_cross, prompt_late, late_blank, turned_cross, armed_cross, left_cross}
 use Rattle.esc_laws.proofs.CommFacts.{Words, same_words, high_words, low_words, Moves, moved_view, comm_moves, IsComm, place_tie, before_step, same_to, same_marked, comm_gates, waits_free}
 use Rattle.esc_laws.proofs.Law.{HandlerLaw}
 
@@ -62,6 +71,15 @@ beside_tick : (w : World) (outer : List Kind) (place place' : CommAt) (at : Chan
       bank = record w.bank { hi = hi; lo = lo; sector = sector; comm = timer; stuck = stuck };
     })
 beside_tick w outer place place' at d hi lo sector timer stuck i u = (u.0, u.1, u.2, u.3, λ z. absurd (let l = i.drives in omega arith))
+
+-- ---- the search for a crossing
+
+no_commute : (w : World) → HoldsAlone kind.Comm w → commutes w.core.cmp_at ≡ false
+no_commute w alone = unmasked_commutes w.core.cmp_at (cmp_unmasked w.core.cmp_at (alone kind.Cmp (λ e. cc)))
+
+same_search : (w : World) (outer : List Kind) (place : CommAt) (at : ChangeAt) → IsComm w outer place at
+    → begins_search place at ≡ begins_search w.core.comm_at w.core.drive.turn.at
+same_search w outer place at i = rw (i.place_is, i.change_is) refl
 
 -- ---- it decides
 
@@ -81,7 +99,7 @@ begins_turn w outer due i =
       gates = quiet_gates kind.Comm w _ (λ e. cc) refl refl refl;
       fits = λ told. tt;
       ground = i.ground;
-      tie = λ told. comm_moves (drive_seen w) 5 d comm.Turn w.bank.comm w.bank.stuck (postponed_at w.back) w.bank.hi w.bank.lo t (record {
+      tie = λ told. comm_moves (drive_seen w) 5 d comm.Turn w.bank.comm w.bank.stuck (postponed_at w.back) w.bank.hi w.bank.lo (no_commute w i.alone) t (record {
         words = same_words (drive_seen w) d refl t;
         change_is = refl;
         turned_is = refl;
@@ -105,6 +123,8 @@ begins_turn w outer due i =
       others = elim [
         | kind.Comm ↦ λ ne u. absurd (ne refl)
         | kind.Tick ↦ λ ne u. beside_tick w outer comm.Decide comm.Turn w.core.drive.turn.at d w.bank.hi w.bank.lo w.bank.sector w.bank.comm w.bank.stuck i u
+        | kind.Cmp ↦ λ ne u. moved_cross (cross_seen w) comm.Turn change.ClearHigh false (same_search w outer comm.Decide w.core.drive.turn.at i) (λ e. cc)
+            (prompt_late w.core.cmp_at w.core.drive.crossing.phase) u
         | j ↦ λ ne u. u
       ];
       stack_is = i.on;
@@ -124,7 +144,7 @@ resumes true w outer e early i =
       gates = quiet_gates kind.Comm w _ (λ e. cc) refl refl refl;
       fits = λ told. tt;
       ground = i.ground;
-      tie = λ told. comm_moves (drive_seen w) 5 w.core.drive comm.Low w.bank.comm w.bank.stuck (postponed_at w.back) w.bank.hi w.bank.lo t (record {
+      tie = λ told. comm_moves (drive_seen w) 5 w.core.drive comm.Low w.bank.comm w.bank.stuck (postponed_at w.back) w.bank.hi w.bank.lo (no_commute w i.alone) t (record {
         words = same_words (drive_seen w) w.core.drive refl t;
         change_is = refl;
         turned_is = refl;
@@ -137,7 +157,7 @@ resumes true w outer e early i =
         marked = λ l f. same_marked w outer comm.Decide w.core.drive.turn.at i refl l;
         place_is = record {
           none = tied.none;
-          not_due = off_is (turn_was_due w.back) (λ f. (let x = tied.was_due f in absurd (omega arith)));
+          not_due = off_is (turn_was_due (advance_of w.loaded.settings) w.back) (λ f. (let x = tied.was_due f in absurd (omega arith)));
           postponed = tied.postponed e;
           some = some w.bank.sector refl;
           free = elim tied.due [ inl l ↦ absurd (let x = l in omega arith) | inr p ↦ p.1 ];
@@ -149,6 +169,7 @@ resumes true w outer e early i =
       others = elim [
         | kind.Comm ↦ λ ne u. absurd (ne refl)
         | kind.Tick ↦ λ ne u. beside_tick w outer comm.Decide comm.Low w.core.drive.turn.at w.core.drive w.bank.hi w.bank.lo w.bank.sector w.bank.comm w.bank.stuck i u
+        | kind.Cmp ↦ λ ne u. moved_cross (cross_seen w) comm.Low w.core.drive.turn.at w.core.drive.postponed (same_search w outer comm.Decide w.core.drive.turn.at i) (λ e. cc) u.late u
         | j ↦ λ ne u. u
       ];
       stack_is = i.on;
@@ -188,7 +209,7 @@ clears_high w outer i =
           (high_off_keeps (gates_after g w.bank after) w.bank after mask refl refl (pair_apart w.bank.sector w.bank.hi w.bank.lo t.sectors t.pair)) pair;
       fits = λ told. tt;
       ground = i.ground;
-      tie = λ told. comm_moves (drive_seen w) 6 d comm.Turn w.bank.comm w.bank.stuck (postponed_at w.back) hi w.bank.lo t (record {
+      tie = λ told. comm_moves (drive_seen w) 6 d comm.Turn w.bank.comm w.bank.stuck (postponed_at w.back) hi w.bank.lo (no_commute w i.alone) t (record {
         words = high_words (drive_seen w) d hi refl pair t;
         change_is = refl;
         turned_is = refl;
@@ -206,6 +227,7 @@ clears_high w outer i =
       others = elim [
         | kind.Comm ↦ λ ne u. absurd (ne refl)
         | kind.Tick ↦ λ ne u. beside_tick w outer comm.Turn comm.Turn change.ClearHigh d hi w.bank.lo w.bank.sector w.bank.comm w.bank.stuck i u
+        | kind.Cmp ↦ λ ne u. moved_cross (cross_seen w) comm.Turn change.ClearLow w.core.drive.postponed (same_search w outer comm.Turn change.ClearHigh i) (λ e. cc) u.late u
         | j ↦ λ ne u. u
       ];
       stack_is = i.on;
@@ -228,7 +250,7 @@ clears_low w outer i =
           (low_off_keeps (gates_after g w.bank after) w.bank after mask refl refl (pair_apart w.bank.sector w.bank.hi w.bank.lo t.sectors t.pair)) pair;
       fits = λ told. tt;
       ground = i.ground;
-      tie = λ told. comm_moves (drive_seen w) 7 d comm.Turn w.bank.comm w.bank.stuck (postponed_at w.back) w.bank.hi lo t (record {
+      tie = λ told. comm_moves (drive_seen w) 7 d comm.Turn w.bank.comm w.bank.stuck (postponed_at w.back) w.bank.hi lo (no_commute w i.alone) t (record {
         words = low_words (drive_seen w) d lo refl pair (λ x on. inl (on_and w.bank.lo mask x on)) t;
         change_is = refl;
         turned_is = refl;
@@ -250,6 +272,7 @@ clears_low w outer i =
       others = elim [
         | kind.Comm ↦ λ ne u. absurd (ne refl)
         | kind.Tick ↦ λ ne u. beside_tick w outer comm.Turn comm.Turn change.ClearLow d w.bank.hi lo w.bank.sector w.bank.comm w.bank.stuck i u
+        | kind.Cmp ↦ λ ne u. moved_cross (cross_seen w) comm.Turn change.SetSector w.core.drive.postponed (same_search w outer comm.Turn change.ClearLow i) (λ e. cc) u.late u
         | j ↦ λ ne u. u
       ];
       stack_is = i.on;
@@ -257,36 +280,37 @@ clears_low w outer i =
 
 -- the Q
 
-may_turn : (turn : Turn) (advance interval change time : ℕ) → ChangeTied turn change time → change ≤ time → MayTurn advance interval turn time
+may_turn : (turn : Turn) (advance interval change time : ℕ) → ChangeTied (wait_of advance interval) turn change time → change ≤ time
+    → MayTurn advance interval turn time
 may_turn Idle advance interval change time c l = absurd c
 may_turn Started advance interval change time c l = tt
 may_turn (Turned q) advance interval change time c l = (let e : change ≡ q + 240000 = c in omega arith)
-may_turn (Crossed q z) advance interval change time c l = absurd c
+may_turn (Crossed q z) advance interval change time c l = (let e : change ≡ z + wait_of advance interval = c in omega arith)
 
-forced_next : (turn : Turn) (turned : Bool) (forced f change time : ℕ) → ChangeTied turn change time → turned ≡ is_forced turn → forced ≡ min 60 f
-    → (turn ≡ Started → f ≡ 0)
+forced_next : (turn : Turn) (turned : Bool) (forced f wait change time : ℕ) → ChangeTied wait turn change time → turned ≡ is_forced turn → forced ≡ min 60 f
+    → (IsUnforced turn → f ≡ 0)
     → (if turned then min 60 (forced + 1) else forced) ≡ min 60 (if is_forced turn then f + 1 else 0)
-forced_next Idle turned forced f change time c e g z = absurd c
-forced_next Started turned forced f change time c e g z = rw (e, g, z refl) refl
-forced_next (Turned q) turned forced f change time c e g z = rw (e, g) (omega arith)
-forced_next (Crossed q x) turned forced f change time c e g z = absurd c
+forced_next Idle turned forced f wait change time c e g z = absurd c
+forced_next Started turned forced f wait change time c e g z = rw (e, g, z tt) refl
+forced_next (Turned q) turned forced f wait change time c e g z = rw (e, g) (omega arith)
+forced_next (Crossed q x) turned forced f wait change time c e g z = rw (e, g, z tt) refl
 
 same_told : (told stuck a x : Bool) → told ≡ (stuck || a) → (a ≡ true → stuck ≡ true) → (told || x) ≡ (stuck || x)
 same_told told true a x e m = rw e refl
 same_told told false true x e m = (let z : false ≡ true = m refl in cc)
 same_told told false false x e m = rw e refl
 
-stuck_next : (turn : Turn) (turned told stuck : Bool) (forced f change time : ℕ) → ChangeTied turn change time → turned ≡ is_forced turn → forced ≡ min 60 f
+no_more : (a b : Bool) → ((a || b) || false) ≡ (a || b)
+no_more true b = refl
+no_more false true = refl
+no_more false false = refl
+
+stuck_next : (turn : Turn) (turned told stuck : Bool) (forced f wait change time : ℕ) → ChangeTied wait turn change time → turned ≡ is_forced turn → forced ≡ min 60 f
     → told ≡ (stuck || nat_le 60 forced) → (nat_le 60 forced ≡ true → stuck ≡ true)
     → (told || (is_forced turn && nat_le 59 f)) ≡ (stuck || nat_le 60 (if turned then min 60 (forced + 1) else forced))
-stuck_next Idle turned told stuck forced f change time c e g s m = absurd c
-stuck_next Started turned told stuck forced f change time c e g s m = rw (e, s) (no_more stuck (nat_le 60 forced))
-  where
-    no_more : (a b : Bool) → ((a || b) || false) ≡ (a || b)
-    no_more true b = refl
-    no_more false true = refl
-    no_more false false = refl
-stuck_next (Turned q) turned told stuck forced f change time c e g s m =
+stuck_next Idle turned told stuck forced f wait change time c e g s m = absurd c
+stuck_next Started turned told stuck forced f wait change time c e g s m = rw (e, s) (no_more stuck (nat_le 60 forced))
+stuck_next (Turned q) turned told stuck forced f wait change time c e g s m =
     rw (e, ← full f) (same_told told stuck (nat_le 60 forced) (nat_le 60 (min 60 (min 60 f + 1))) s m ∙ rw g refl)
   where
     full : (f : ℕ) → nat_le 60 (min 60 (min 60 f + 1)) ≡ nat_le 59 f
@@ -303,7 +327,7 @@ stuck_next (Turned q) turned told stuck forced f change time c e g s m =
 
         below_60 : (f : ℕ) → f < 59 → nat_le 60 (min 60 (min 60 f + 1)) ≡ false
         below_60 f l = not_le 60 (min 60 (min 60 f + 1)) (omega arith)
-stuck_next (Crossed q x) turned told stuck forced f change time c e g s m = absurd c
+stuck_next (Crossed q x) turned told stuck forced f wait change time c e g s m = rw (e, s) (no_more stuck (nat_le 60 forced))
 
 -- PWM has been interrupted where it has read nothing that it will use
 resumes_pwm : (at : PwmAt) (own sampled demand sector sector' : ℕ) → 8 < pwm_need at → PwmTied at own sampled demand sector → PwmTied at own sampled demand sector'
@@ -334,6 +358,17 @@ long_off w outer i = by_sector w.bank.sector refl
         let since = before_step w outer comm.Turn change.SetSector i some in
         omega arith
 
+-- the search begins anew
+begins_cross : (w : World) (outer : List Kind) → IsComm w outer comm.Turn change.SetSector → Tie kind.Cmp w
+    → Tie kind.Cmp (after_step kind.Comm w (turn_step change.SetSector w.core w.bank))
+begins_cross w outer i u =
+    let search : Kept = after_begin w.core.drive.turn.to (is_forward w.core.orders) w.bank.time w.core.drive.timing.pace.interval in
+    turned_cross (cross_seen w) comm.Turn change.Low search w.bank.time (w.bank.time + blanking_of (interval_at w.back))
+    (level_of (forward_at w.loaded.settings w.back) w.core.drive.turn.to) (λ since. 0) refl (λ e. cc)
+    (cmp_unmasked w.core.cmp_at (i.alone kind.Cmp (λ e. cc))) (tick_unmasked w.core.tick_at (i.alone kind.Tick (λ e. cc)))
+    (ap (λ (p : Pace). phase.Blank (as_tick (w.bank.time + blanking_of p.interval))) u.pace_is)
+    (ap (λ (f : Bool). level_of f w.core.drive.turn.to) (direction_is w i.ground)) (λ since. refl) u
+
 sets_sector : (w : World) (outer : List Kind) → IsComm w outer comm.Turn change.SetSector
     → StepKeeps kind.Comm outer w (turn_step change.SetSector w.core w.bank)
 sets_sector w outer i =
@@ -358,7 +393,7 @@ sets_sector w outer i =
           driven = (i.drives, rw (told.hi_is, told.lo_is) pair);
           turns = record {
             sector = tied.0.to_is;
-            time = may_turn (turn_at w.back) w.loaded.settings.advance (interval_at w.back) w.core.drive.change w.bank.time due tied.0.due;
+            time = may_turn (turn_at w.back) (advance_of w.loaded.settings) (interval_at w.back) w.core.drive.change w.bank.time due tied.0.due;
           };
           crossed = tt;
           searched = tt;
@@ -383,16 +418,18 @@ sets_sector w outer i =
         due = λ l. refl;
         first = λ z l. absurd (omega arith);
         turned = λ l. refl;
-        forced = forced_next (turn_at w.back) w.core.drive.turned w.core.drive.forced (forced_at w.back) w.core.drive.change w.bank.time due
+        forced = forced_next (turn_at w.back) w.core.drive.turned w.core.drive.forced (forced_at w.back)
+            (drive_seen w).wait w.core.drive.change w.bank.time due
             (t.turned i.drives) t.forced t.unforced;
-        unforced = λ e. cc;
+        unforced = λ e. absurd e;
         rest_unmarked = λ z. absurd (let l = i.drives in omega arith);
         stuck = λ l. stuck_next (turn_at w.back) w.core.drive.turned (stuck_at w.back) w.bank.stuck w.core.drive.forced (forced_at w.back)
-            w.core.drive.change w.bank.time due (t.turned i.drives) t.forced (t.stuck i.drives)
+            (drive_seen w).wait w.core.drive.change w.bank.time due (t.turned i.drives) t.forced (t.stuck i.drives)
             (same_marked w outer comm.Turn change.SetSector i refl i.drives);
         marked = λ l e. cc;
         place = (ap (λ (x : ℕ). x + 1) tied.0.none, some);
         low = λ e. cc;
+        crossed = λ e. absurd (let z : false ≡ true = sym (no_commute w i.alone) ∙ e in cc);
         postponed = λ e. cc;
       };
       others = elim [
@@ -402,6 +439,7 @@ sets_sector w outer i =
           resumes_pwm w.core.pwm_at w.made.pwm_own w.made.sampled (demand_at w.back) w.bank.sector to (i.alone kind.Pwm (λ e. cc)) u.0,
           u.1,
         )
+        | kind.Cmp ↦ λ ne u. begins_cross w outer i u
         | j ↦ λ ne u. u
       ];
       stack_is = i.on;
@@ -475,7 +513,7 @@ low_places None w outer e i =
           (low_pair w outer comm.Turn change.Low i tied.1 to);
       fits = λ told. tt;
       ground = i.ground;
-      tie = λ told. comm_moves (drive_seen w) 1 d comm.Turn w.bank.comm w.bank.stuck (postponed_at w.back) w.bank.hi lo t (record {
+      tie = λ told. comm_moves (drive_seen w) 1 d comm.Turn w.bank.comm w.bank.stuck (postponed_at w.back) w.bank.hi lo (no_commute w i.alone) t (record {
         words = low_after w outer comm.Turn change.Low d i tied.1 to e refl;
         change_is = refl;
         turned_is = refl;
@@ -493,6 +531,8 @@ low_places None w outer e i =
       others = elim [
         | kind.Comm ↦ λ ne u. absurd (ne refl)
         | kind.Tick ↦ λ ne u. beside_tick w outer comm.Turn comm.Turn change.Low d w.bank.hi lo w.bank.sector w.bank.comm w.bank.stuck i u
+        | kind.Cmp ↦ λ ne u. moved_cross (cross_seen w) comm.Turn change.Position false (same_search w outer comm.Turn change.Low i) (λ e. cc)
+            (prompt_late w.core.cmp_at w.core.drive.crossing.phase) u
         | j ↦ λ ne u. u
       ];
       stack_is = i.on;
@@ -507,7 +547,7 @@ low_places (Some until) w outer e i =
       gates = quiet_gates kind.Comm w _ (λ f. cc) refl refl refl;
       fits = λ told. tt;
       ground = i.ground;
-      tie = λ told. comm_moves (drive_seen w) 1 d comm.Arm w.bank.comm w.bank.stuck (postponed_at w.back) w.bank.hi w.bank.lo t (record {
+      tie = λ told. comm_moves (drive_seen w) 1 d comm.Blank w.bank.comm w.bank.stuck (postponed_at w.back) w.bank.hi w.bank.lo (no_commute w i.alone) t (record {
         words = same_words (drive_seen w) d refl t;
         change_is = refl;
         turned_is = refl;
@@ -527,7 +567,9 @@ low_places (Some until) w outer e i =
       });
       others = elim [
         | kind.Comm ↦ λ ne u. absurd (ne refl)
-        | kind.Tick ↦ λ ne u. beside_tick w outer comm.Turn comm.Arm change.Low d w.bank.hi w.bank.lo w.bank.sector w.bank.comm w.bank.stuck i u
+        | kind.Tick ↦ λ ne u. beside_tick w outer comm.Turn comm.Blank change.Low d w.bank.hi w.bank.lo w.bank.sector w.bank.comm w.bank.stuck i u
+        | kind.Cmp ↦ λ ne u. moved_cross (cross_seen w) comm.Blank w.core.drive.turn.at true (same_search w outer comm.Turn change.Low i) (λ e. cc)
+            (late_blank w.core.cmp_at w.core.drive.crossing.phase true (cross_seen w).blanked (u.begins (sym (same_search w outer comm.Turn change.Low i))).blank) u
         | j ↦ λ ne u. u
       ];
       stack_is = i.on;
@@ -552,7 +594,7 @@ resumed_places None w outer e i =
           (low_pair w outer comm.Low change.Low i tied.some to);
       fits = λ told. tt;
       ground = i.ground;
-      tie = λ told. comm_moves (drive_seen w) 6 d comm.Arm w.bank.comm w.bank.stuck (postponed_at w.back) w.bank.hi lo t (record {
+      tie = λ told. comm_moves (drive_seen w) 6 d comm.Arm w.bank.comm w.bank.stuck (postponed_at w.back) w.bank.hi lo (no_commute w i.alone) t (record {
         words = low_after w outer comm.Low change.Low d i tied.some to e refl;
         change_is = refl;
         turned_is = refl;
@@ -573,6 +615,8 @@ resumed_places None w outer e i =
       others = elim [
         | kind.Comm ↦ λ ne u. absurd (ne refl)
         | kind.Tick ↦ λ ne u. beside_tick w outer comm.Low comm.Arm change.Low d w.bank.hi lo w.bank.sector w.bank.comm w.bank.stuck i u
+        | kind.Cmp ↦ λ ne u. moved_cross (cross_seen w) comm.Arm change.Position false (same_search w outer comm.Low change.Low i) (λ e. cc)
+            (prompt_late w.core.cmp_at w.core.drive.crossing.phase) u
         | j ↦ λ ne u. u
       ];
       stack_is = i.on;
@@ -596,7 +640,7 @@ reads_position w outer i =
       gates = quiet_gates kind.Comm w _ (λ f. cc) refl refl refl;
       fits = λ told. tt;
       ground = i.ground;
-      tie = λ told. comm_moves (drive_seen w) 2 d comm.Turn w.bank.comm w.bank.stuck (postponed_at w.back) w.bank.hi w.bank.lo t (record {
+      tie = λ told. comm_moves (drive_seen w) 2 d comm.Turn w.bank.comm w.bank.stuck (postponed_at w.back) w.bank.hi w.bank.lo (no_commute w i.alone) t (record {
         words = same_words (drive_seen w) d refl t;
         change_is = refl;
         turned_is = refl;
@@ -614,6 +658,8 @@ reads_position w outer i =
       others = elim [
         | kind.Comm ↦ λ ne u. absurd (ne refl)
         | kind.Tick ↦ λ ne u. beside_tick w outer comm.Turn comm.Turn change.Position d w.bank.hi w.bank.lo w.bank.sector w.bank.comm w.bank.stuck i u
+        | kind.Cmp ↦ λ ne u. moved_cross (cross_seen w) comm.Turn (change.Duty (w.bank.time % 2000)) w.core.drive.postponed (same_search w outer comm.Turn change.Position i) (λ e. cc)
+            u.late u
         | j ↦ λ ne u. u
       ];
       stack_is = i.on;
@@ -630,7 +676,7 @@ duty_places true position w outer i =
       gates = quiet_gates kind.Comm w _ (λ f. cc) refl refl refl;
       fits = λ told. tt;
       ground = i.ground;
-      tie = λ told. comm_moves (drive_seen w) 3 d comm.Turn w.bank.comm w.bank.stuck (postponed_at w.back) w.bank.hi w.bank.lo t (record {
+      tie = λ told. comm_moves (drive_seen w) 3 d comm.Turn w.bank.comm w.bank.stuck (postponed_at w.back) w.bank.hi w.bank.lo (no_commute w i.alone) t (record {
         words = same_words (drive_seen w) d refl t;
         change_is = refl;
         turned_is = refl;
@@ -648,6 +694,7 @@ duty_places true position w outer i =
       others = elim [
         | kind.Comm ↦ λ ne u. absurd (ne refl)
         | kind.Tick ↦ λ ne u. beside_tick w outer comm.Turn comm.Turn (change.Duty position) d w.bank.hi w.bank.lo w.bank.sector w.bank.comm w.bank.stuck i u
+        | kind.Cmp ↦ λ ne u. moved_cross (cross_seen w) comm.Turn change.High w.core.drive.postponed (same_search w outer comm.Turn (change.Duty position) i) (λ e. cc) u.late u
         | j ↦ λ ne u. u
       ];
       stack_is = i.on;
@@ -661,7 +708,7 @@ duty_places false position w outer i =
       gates = quiet_gates kind.Comm w _ (λ f. cc) refl refl refl;
       fits = λ told. tt;
       ground = i.ground;
-      tie = λ told. comm_moves (drive_seen w) 3 d comm.Arm w.bank.comm w.bank.stuck (postponed_at w.back) w.bank.hi w.bank.lo t (record {
+      tie = λ told. comm_moves (drive_seen w) 3 d comm.Blank w.bank.comm w.bank.stuck (postponed_at w.back) w.bank.hi w.bank.lo (no_commute w i.alone) t (record {
         words = same_words (drive_seen w) d refl t;
         change_is = refl;
         turned_is = refl;
@@ -678,7 +725,8 @@ duty_places false position w outer i =
       });
       others = elim [
         | kind.Comm ↦ λ ne u. absurd (ne refl)
-        | kind.Tick ↦ λ ne u. beside_tick w outer comm.Turn comm.Arm (change.Duty position) d w.bank.hi w.bank.lo w.bank.sector w.bank.comm w.bank.stuck i u
+        | kind.Tick ↦ λ ne u. beside_tick w outer comm.Turn comm.Blank (change.Duty position) d w.bank.hi w.bank.lo w.bank.sector w.bank.comm w.bank.stuck i u
+        | kind.Cmp ↦ λ ne u. moved_cross (cross_seen w) comm.Blank change.Over w.core.drive.postponed (same_search w outer comm.Turn (change.Duty position) i) (λ e. cc) u.late u
         | j ↦ λ ne u. u
       ];
       stack_is = i.on;
@@ -705,7 +753,7 @@ high_places None w outer e i =
           (high_on_keeps g (gates_after g w.bank after) w.bank after x refl refl refl e (pair_apart w.bank.sector w.bank.hi w.bank.lo t.sectors t.pair)) pair;
       fits = λ told. tt;
       ground = i.ground;
-      tie = λ told. comm_moves (drive_seen w) 4 d comm.Arm w.bank.comm w.bank.stuck (postponed_at w.back) hi w.bank.lo t (record {
+      tie = λ told. comm_moves (drive_seen w) 4 d comm.Blank w.bank.comm w.bank.stuck (postponed_at w.back) hi w.bank.lo (no_commute w i.alone) t (record {
         words = high_words (drive_seen w) d hi refl pair t;
         change_is = refl;
         turned_is = refl;
@@ -722,7 +770,8 @@ high_places None w outer e i =
       });
       others = elim [
         | kind.Comm ↦ λ ne u. absurd (ne refl)
-        | kind.Tick ↦ λ ne u. beside_tick w outer comm.Turn comm.Arm change.High d hi w.bank.lo w.bank.sector w.bank.comm w.bank.stuck i u
+        | kind.Tick ↦ λ ne u. beside_tick w outer comm.Turn comm.Blank change.High d hi w.bank.lo w.bank.sector w.bank.comm w.bank.stuck i u
+        | kind.Cmp ↦ λ ne u. moved_cross (cross_seen w) comm.Blank change.Over w.core.drive.postponed (same_search w outer comm.Turn change.High i) (λ e. cc) u.late u
         | j ↦ λ ne u. u
       ];
       stack_is = i.on;
@@ -736,7 +785,7 @@ high_places (Some until) w outer e i =
       gates = quiet_gates kind.Comm w _ (λ f. cc) refl refl refl;
       fits = λ told. tt;
       ground = i.ground;
-      tie = λ told. comm_moves (drive_seen w) 4 d comm.Arm w.bank.comm w.bank.stuck (postponed_at w.back) w.bank.hi w.bank.lo t (record {
+      tie = λ told. comm_moves (drive_seen w) 4 d comm.Blank w.bank.comm w.bank.stuck (postponed_at w.back) w.bank.hi w.bank.lo (no_commute w i.alone) t (record {
         words = same_words (drive_seen w) d refl t;
         change_is = refl;
         turned_is = refl;
@@ -753,7 +802,8 @@ high_places (Some until) w outer e i =
       });
       others = elim [
         | kind.Comm ↦ λ ne u. absurd (ne refl)
-        | kind.Tick ↦ λ ne u. beside_tick w outer comm.Turn comm.Arm change.High d w.bank.hi w.bank.lo w.bank.sector w.bank.comm w.bank.stuck i u
+        | kind.Tick ↦ λ ne u. beside_tick w outer comm.Turn comm.Blank change.High d w.bank.hi w.bank.lo w.bank.sector w.bank.comm w.bank.stuck i u
+        | kind.Cmp ↦ λ ne u. moved_cross (cross_seen w) comm.Blank w.core.drive.turn.at w.core.drive.postponed (same_search w outer comm.Turn change.High i) (λ e. cc) u.late u
         | j ↦ λ ne u. u
       ];
       stack_is = i.on;
@@ -774,6 +824,87 @@ resumes_low w outer i =
     subst (λ (at : ChangeAt). StepKeeps kind.Comm outer w (resumed (place_step at w.core.drive.turn w.core.drive.gates w.bank) w.core)) (sym i.change_is)
     (resumed_places (low_wait w.core.drive.gates w.bank (low_of w.core.drive.turn.to)) w outer refl i)
 
+-- ---- it arms the crossing timer, and writes the period
+
+acts_on : (w : World) (place : CommAt) → HasActed (drive_seen w)
+    → HasActed (moved_view (drive_seen w) w.core.drive place w.bank.comm w.bank.stuck (postponed_at w.back) w.bank.hi w.bank.lo)
+acts_on w place a = record { some = a.some; done = done_kept a.done }
+  where
+    done_kept : ((turns_in w.back ≡ 1) × OnOrHeld (drive_seen w)) ⊎ Resumed (drive_seen w)
+        → ((turns_in w.back ≡ 1) × OnOrHeld (moved_view (drive_seen w) w.core.drive place w.bank.comm w.bank.stuck (postponed_at w.back) w.bank.hi w.bank.lo))
+        ⊎ Resumed (moved_view (drive_seen w) w.core.drive place w.bank.comm w.bank.stuck (postponed_at w.back) w.bank.hi w.bank.lo)
+    done_kept (inl d) = inl d
+    done_kept (inr r) = inr (record { none = r.none; not_due = r.not_due; postponed = r.postponed; low = r.low; prompt = r.prompt })
+
+blanks : (at : ChangeAt) (w : World) (outer : List Kind) → IsComm w outer comm.Blank at → StepKeeps kind.Comm outer w (comm_step comm.Blank w.core w.bank)
+blanks at w outer i =
+    let t = i.ties kind.Comm in
+    let u = i.ties kind.Cmp in
+    let tied : HasActed (drive_seen w) = place_tie w outer comm.Blank at i in
+    let begun = u.begins (sym (same_search w outer comm.Blank at i)) in
+    let by : arms_crossing (until w.core.drive.crossing.phase) ≡ Writes reg.CmpAt (cross_seen w).blanked = ap (λ (p : Phase). arms_crossing (until p)) begun.blank in
+    subst (λ (a : Access). StepKeeps kind.Comm outer w (goes_on (record w.core { comm_at = comm.Period }) a)) (sym by) (record {
+      gates = quiet_gates kind.Comm w _ (λ f. cc) refl refl refl;
+      fits = λ told. tt;
+      ground = i.ground;
+      tie = λ told. comm_moves (drive_seen w) 2 w.core.drive comm.Period w.bank.comm w.bank.stuck (postponed_at w.back) w.bank.hi w.bank.lo (no_commute w i.alone) t (record {
+        words = same_words (drive_seen w) w.core.drive refl t;
+        change_is = refl;
+        turned_is = refl;
+        forced_is = refl;
+        before = before_step w outer comm.Blank at i;
+        since_is = omega arith;
+        to_is = λ f s. same_to w outer comm.Blank at i refl s;
+        at_low = t.at_low;
+        stuck_is = t.stuck;
+        marked = λ l f. cc;
+        place_is = acts_on w comm.Period tied;
+        low = λ f. cc;
+        waits = λ f. cc;
+      });
+      others = elim [
+        | kind.Comm ↦ λ ne v. absurd (ne refl)
+        | kind.Tick ↦ λ ne v. beside_tick w outer comm.Blank comm.Period at w.core.drive w.bank.hi w.bank.lo w.bank.sector w.bank.comm w.bank.stuck i v
+        | kind.Cmp ↦ λ ne v. armed_cross (cross_seen w) comm.Period (sym (same_search w outer comm.Blank at i)) refl (λ e. cc)
+            (cmp_unmasked w.core.cmp_at (i.alone kind.Cmp (λ e. cc))) v
+        | j ↦ λ ne v. v
+      ];
+      stack_is = i.on;
+    })
+
+periods : (at : ChangeAt) (w : World) (outer : List Kind) → IsComm w outer comm.Period at → StepKeeps kind.Comm outer w (comm_step comm.Period w.core w.bank)
+periods at w outer i =
+    let t = i.ties kind.Comm in
+    let tied : HasActed (drive_seen w) = place_tie w outer comm.Period at i in
+    record {
+      gates = quiet_gates kind.Comm w _ (λ f. cc) refl refl refl;
+      fits = λ told. tt;
+      ground = i.ground;
+      tie = λ told. comm_moves (drive_seen w) 2 w.core.drive comm.Arm w.bank.comm w.bank.stuck (postponed_at w.back) w.bank.hi w.bank.lo (no_commute w i.alone) t (record {
+        words = same_words (drive_seen w) w.core.drive refl t;
+        change_is = refl;
+        turned_is = refl;
+        forced_is = refl;
+        before = before_step w outer comm.Period at i;
+        since_is = omega arith;
+        to_is = λ f s. same_to w outer comm.Period at i refl s;
+        at_low = t.at_low;
+        stuck_is = t.stuck;
+        marked = λ l f. cc;
+        place_is = acts_on w comm.Arm tied;
+        low = λ f. cc;
+        waits = λ f. cc;
+      });
+      others = elim [
+        | kind.Comm ↦ λ ne u. absurd (ne refl)
+        | kind.Tick ↦ λ ne u. beside_tick w outer comm.Period comm.Arm at w.core.drive w.bank.hi w.bank.lo w.bank.sector w.bank.comm w.bank.stuck i u
+        | kind.Cmp ↦ λ ne u. moved_cross (cross_seen w) comm.Arm w.core.drive.turn.at w.core.drive.postponed (same_search w outer comm.Period at i) (λ e. cc)
+            u.late u
+        | j ↦ λ ne u. u
+      ];
+      stack_is = i.on;
+    }
+
 -- ---- it arms its timer, and returns
 
 arms : (full : Bool) (at : ChangeAt) (w : World) (outer : List Kind) → nat_le 60 w.core.drive.forced ≡ full → IsComm w outer comm.Arm at
@@ -785,7 +916,7 @@ arms true at w outer e i =
       gates = quiet_gates kind.Comm w _ (λ f. cc) refl refl refl;
       fits = λ told. tt;
       ground = i.ground;
-      tie = λ told. comm_moves (drive_seen w) 2 w.core.drive comm.Stick (Some (due_at w.core.drive)) w.bank.stuck (postponed_at w.back) w.bank.hi w.bank.lo t (record {
+      tie = λ told. comm_moves (drive_seen w) 2 w.core.drive comm.Stick (Some (due_at w.core.drive)) w.bank.stuck (postponed_at w.back) w.bank.hi w.bank.lo (no_commute w i.alone) t (record {
         words = same_words (drive_seen w) w.core.drive refl t;
         change_is = refl;
         turned_is = refl;
@@ -803,6 +934,7 @@ arms true at w outer e i =
       others = elim [
         | kind.Comm ↦ λ ne u. absurd (ne refl)
         | kind.Tick ↦ λ ne u. beside_tick w outer comm.Arm comm.Stick at w.core.drive w.bank.hi w.bank.lo w.bank.sector (Some (due_at w.core.drive)) w.bank.stuck i u
+        | kind.Cmp ↦ λ ne u. moved_cross (cross_seen w) comm.Stick w.core.drive.turn.at w.core.drive.postponed (same_search w outer comm.Arm at i) (λ e. cc) u.late u
         | j ↦ λ ne u. u
       ];
       stack_is = i.on;
@@ -820,7 +952,7 @@ arms false at w outer e i =
       gates = quiet_gates kind.Comm w _ (λ f. cc) refl refl refl;
       fits = λ told. tt;
       ground = i.ground;
-      tie = λ told. comm_moves (drive_seen w) 2 w.core.drive comm.Back (Some (due_at w.core.drive)) w.bank.stuck (postponed_at w.back) w.bank.hi w.bank.lo t (record {
+      tie = λ told. comm_moves (drive_seen w) 2 w.core.drive comm.Back (Some (due_at w.core.drive)) w.bank.stuck (postponed_at w.back) w.bank.hi w.bank.lo (no_commute w i.alone) t (record {
         words = same_words (drive_seen w) w.core.drive refl t;
         change_is = refl;
         turned_is = refl;
@@ -838,6 +970,7 @@ arms false at w outer e i =
       others = elim [
         | kind.Comm ↦ λ ne u. absurd (ne refl)
         | kind.Tick ↦ λ ne u. beside_tick w outer comm.Arm comm.Back at w.core.drive w.bank.hi w.bank.lo w.bank.sector (Some (due_at w.core.drive)) w.bank.stuck i u
+        | kind.Cmp ↦ λ ne u. moved_cross (cross_seen w) comm.Back w.core.drive.turn.at w.core.drive.postponed (same_search w outer comm.Arm at i) (λ e. cc) u.late u
         | j ↦ λ ne u. u
       ];
       stack_is = i.on;
@@ -859,7 +992,7 @@ sticks at w outer i =
       gates = quiet_gates kind.Comm w _ (λ f. cc) refl refl refl;
       fits = λ told. tt;
       ground = i.ground;
-      tie = λ told. comm_moves (drive_seen w) 3 w.core.drive comm.Back w.bank.comm stuck (postponed_at w.back) w.bank.hi w.bank.lo t (record {
+      tie = λ told. comm_moves (drive_seen w) 3 w.core.drive comm.Back w.bank.comm stuck (postponed_at w.back) w.bank.hi w.bank.lo (no_commute w i.alone) t (record {
         words = same_words (drive_seen w) w.core.drive refl t;
         change_is = refl;
         turned_is = refl;
@@ -877,6 +1010,7 @@ sticks at w outer i =
       others = elim [
         | kind.Comm ↦ λ ne u. absurd (ne refl)
         | kind.Tick ↦ λ ne u. beside_tick w outer comm.Stick comm.Back at w.core.drive w.bank.hi w.bank.lo w.bank.sector w.bank.comm stuck i u
+        | kind.Cmp ↦ λ ne u. moved_cross (cross_seen w) comm.Back w.core.drive.turn.at w.core.drive.postponed (same_search w outer comm.Stick at i) (λ e. cc) u.late u
         | j ↦ λ ne u. u
       ];
       stack_is = i.on;
@@ -917,7 +1051,7 @@ returns at w outer i =
       );
       ground = ground_noted w (note.Leave (as_tick w.bank.time) 6) refl refl tt refl i.ground;
       tie = λ told.
-          comm_moves (drive_seen w) 3 w.core.drive comm.Shut w.bank.comm w.bank.stuck (nat_lt 0 (turns_in w.back) && not (low_is_on w.back)) w.bank.hi w.bank.lo t
+          comm_moves (drive_seen w) 3 w.core.drive comm.Shut w.bank.comm w.bank.stuck (nat_lt 0 (turns_in w.back) && not (low_is_on w.back)) w.bank.hi w.bank.lo (no_commute w i.alone) t
           (record {
             words = same_words (drive_seen w) w.core.drive refl t;
             change_is = refl;
@@ -936,6 +1070,7 @@ returns at w outer i =
       others = elim [
         | kind.Comm ↦ λ ne u. absurd (ne refl)
         | kind.Tick ↦ λ ne u. beside_tick w outer comm.Back comm.Shut at w.core.drive w.bank.hi w.bank.lo w.bank.sector w.bank.comm w.bank.stuck i u
+        | kind.Cmp ↦ λ ne u. left_cross (cross_seen w) (sym (same_search w outer comm.Back at i)) (tick_unmasked w.core.tick_at (i.alone kind.Tick (λ e. cc))) u
         | j ↦ λ ne u. u
       ];
       stack_is = popped (so_far w).stack kind.Comm outer i.on;
@@ -948,7 +1083,7 @@ returns at w outer i =
     low_same told = low_told w (comm_step comm.Back w.core w.bank) refl refl told (i.ties kind.Comm).sector_is
 
     has_done : StepTold w (comm_step comm.Back w.core w.bank) → w.core.drive.turn.to ≡ w.bank.sector
-        → ((turns_in w.back ≡ 1) × OnOrHeld (drive_seen w)) ⊎ Resumed (drive_seen w) → HasTurned w.back ⊎ HasCaughtUp w.back
+        → ((turns_in w.back ≡ 1) × OnOrHeld (drive_seen w)) ⊎ Resumed (drive_seen w) → HasTurned w.back ⊎ HasCaughtUp (advance_of w.loaded.settings) w.back
     has_done told to (inl (one, inl o)) = inl (record { one = one; low = inl (low_same told ∙ o.0) })
     has_done told to (inl (one, inr h)) =
         inl (record {
@@ -963,10 +1098,7 @@ returns at w outer i =
     on_or_late (inl (one, inr h)) = inr h.0
     on_or_late (inr r) = inl (r.low, r.prompt)
 
-    keeps_timer : (at : TickAt) → 8 < tick_need at
-        → ((w.bank.comm ≡ Some (due_at w.core.drive)) × (((low_on (drive_seen w) ≡ true) × (w.core.drive.postponed ≡ false)) ⊎ (w.core.drive.postponed ≡ true)))
-        ⊎ ((n : ℕ) × (w.bank.comm ≡ Some n) × (n ≤ w.bank.time) × (w.core.drive.change ≤ w.bank.time))
-        → LowTied at (moved_view (drive_seen w) w.core.drive comm.Shut w.bank.comm w.bank.stuck (nat_lt 0 (turns_in w.back) && not (low_is_on w.back)) w.bank.hi w.bank.lo)
+    keeps_timer : (at : TickAt) → 8 < tick_need at → TimerKept view → LowTied at view
     keeps_timer tick.Shut l k = k
     keeps_timer tick.Raise l k = k
     keeps_timer tick.Read l k = k
@@ -1001,6 +1133,8 @@ steps comm.Low w outer i left =
       past = i.past;
       alone = i.alone;
     })
+steps comm.Blank w outer i left = blanks w.core.drive.turn.at w outer i
+steps comm.Period w outer i left = periods w.core.drive.turn.at w outer i
 steps comm.Arm w outer i left = arms (nat_le 60 w.core.drive.forced) w.core.drive.turn.at w outer refl i
 steps comm.Stick w outer i left = sticks w.core.drive.turn.at w outer i
 steps comm.Back w outer i left = returns w.core.drive.turn.at w outer i
@@ -1038,19 +1172,19 @@ low_due v (inl (e, inr late)) off l =
     reached v.timer (due_at v.drive) v.time e (by_low v.drive.postponed v.drive.change (low_free v.drive) v.time late l)
 low_due v (inr (at, e, now, c)) off l = reached v.timer at v.time e now
 
-turn_due : (turn : Turn) (change time : ℕ) → ChangeTied turn change time → turn_is_due turn time ≡ true → change ≤ time
-turn_due Idle change time c e = absurd c
-turn_due Started change time c e = c
-turn_due (Turned q) change time c e = (let l = leb-true (q + 240000) time e in let s : change ≡ q + 240000 = c in omega arith)
-turn_due (Crossed q z) change time c e = absurd c
+turn_due : (wait : ℕ) (turn : Turn) (change time : ℕ) → ChangeTied wait turn change time → turn_is_due wait turn time ≡ true → change ≤ time
+turn_due wait Idle change time c e = absurd c
+turn_due wait Started change time c e = c
+turn_due wait (Turned q) change time c e = (let l = leb-true (q + 240000) time e in let s : change ≡ q + 240000 = c in omega arith)
+turn_due wait (Crossed q z) change time c e = (let l = leb-true (z + wait) time e in let s : change ≡ z + wait = c in omega arith)
 
 -- what is called for a change of sector has a demand
-turn_drives : (w : World) → Ties w → calls_turn w.back w.bank.time ≡ true → 0 < demand_at w.back
+turn_drives : (w : World) → Ties w → calls_turn (advance_of w.loaded.settings) w.back w.bank.time ≡ true → 0 < demand_at w.back
 turn_drives w t e = elim (cases_lt 0 (demand_at w.back)) [
   | inl l ↦ l
   | inr z ↦ absurd (
       let idle : turn_at w.back ≡ Idle = (t kind.Comm).idle (omega arith) in
-      let f : false ≡ true = subst (λ (x : Turn). turn_is_due x w.bank.time ≡ true) idle e in
+      let f : false ≡ true = subst (λ (x : Turn). turn_is_due (drive_seen w).wait x w.bank.time ≡ true) idle e in
       cc)
 ]
 
@@ -1059,11 +1193,11 @@ or_parts true b e = inl refl
 or_parts false b e = inr e
 
 called : (w : World) → Ties w → WordTold w.core w.bank w.back → Unheld w → w.core.comm_at ≡ comm.Shut
-    → (calls_turn w.back w.bank.time || calls_low w.back w.bank.time) ≡ true → is_reached w.bank.comm w.bank.time ≡ true
-called w t told unheld shut e = elim (or_parts (calls_turn w.back w.bank.time) (calls_low w.back w.bank.time) e) [
+    → (calls_turn (advance_of w.loaded.settings) w.back w.bank.time || calls_low w.back w.bank.time) ≡ true → is_reached w.bank.comm w.bank.time ≡ true
+called w t told unheld shut e = elim (or_parts (calls_turn (advance_of w.loaded.settings) w.back w.bank.time) (calls_low w.back w.bank.time) e) [
   | inl turn ↦ (
       let some = turn_drives w t turn in
-      change_due (drive_seen w) (kept some) (turn_due (turn_at w.back) w.core.drive.change w.bank.time (d.due some) turn))
+      change_due (drive_seen w) (kept some) (turn_due (drive_seen w).wait (turn_at w.back) w.core.drive.change w.bank.time (d.due some) turn))
   | inr low ↦ (
       let p = and_parts (nat_lt 0 (demand_at w.back)) _ low in
       let q = and_parts (not (low_is_on w.back)) (nat_le (high_free_at (low_of (sector_at w.back)) w.back) w.bank.time) p.1 in
@@ -1076,7 +1210,7 @@ called w t told unheld shut e = elim (or_parts (calls_turn w.back w.bank.time) (
     d = t kind.Comm
 
     kept : 0 < demand_at w.back → TimerKept (drive_seen w)
-    kept some = timer_kept w.core.tick_at (drive_seen w) (unheld kind.Tick) ((t kind.Comm).low shut some)
+    kept some = timer_kept w.core.tick_at (drive_seen w) (unheld kind.Tick) ((t kind.Comm).low shut some (unmasked_commutes w.core.cmp_at (cmp_unmasked w.core.cmp_at (unheld kind.Cmp))))
 
     by_sector : (s : ℕ) → w.bank.sector ≡ s → 0 < demand_at w.back → low_is_on w.back ≡ false → high_free_at (low_of (sector_at w.back)) w.back ≤ w.bank.time
         → is_reached w.bank.comm w.bank.time ≡ true
@@ -1110,14 +1244,14 @@ brought : (v : DriveView) → TimerKept v → is_reached v.timer v.time ≡ true
 brought v (inl (e, o)) due =
     due_split v.drive.postponed v.drive.change (low_free v.drive) v.time
     (leb-true (due_at v.drive) v.time (subst (λ (x : Option ℕ). is_reached x v.time ≡ true) e due))
-brought v (inr (at, e, now, c)) due = inl c
+brought v (inr (at, e, now, c)) due = inl c.due
 
 entered : (w : World) → Ties w → Unheld w → w.core.comm_at ≡ comm.Shut → is_reached w.bank.comm w.bank.time ≡ true → w.made.comm_past ≤ w.bank.time
     → Tie kind.Comm (after_enter kind.Comm w)
 entered w t unheld shut due past =
     let d = t kind.Comm in
     let some = entry_drives w t unheld due in
-    let kept = timer_kept w.core.tick_at (drive_seen w) (unheld kind.Tick) (d.low shut some) in
+    let kept = timer_kept w.core.tick_at (drive_seen w) (unheld kind.Tick) (d.low shut some (unmasked_commutes w.core.cmp_at (cmp_unmasked w.core.cmp_at (unheld kind.Cmp)))) in
     record {
       sector_is = d.sector_is;
       sectors = d.sectors;
@@ -1142,20 +1276,21 @@ entered w t unheld shut due past =
       place = record {
         none = refl;
         due = brought (drive_seen w) kept due;
-        was_due = λ e. turn_due (turn_at w.back) w.core.drive.change w.bank.time (d.due some) e;
+        was_due = λ e. turn_due (drive_seen w).wait (turn_at w.back) w.core.drive.change w.bank.time (d.due some) e;
         postponed = d.postponed shut some;
       };
       low = λ e. cc;
+      crossed = d.crossed;
       postponed = λ e. cc;
     }
 
 -- ---- time goes on
 
-change_later : (turn : Turn) (change t u : ℕ) → t ≤ u → ChangeTied turn change t → ChangeTied turn change u
-change_later Idle change t u l c = c
-change_later Started change t u l c = omega arith
-change_later (Turned q) change t u l c = c
-change_later (Crossed q z) change t u l c = c
+change_later : (wait : ℕ) (turn : Turn) (change t u : ℕ) → t ≤ u → ChangeTied wait turn change t → ChangeTied wait turn change u
+change_later wait Idle change t u l c = c
+change_later wait Started change t u l c = omega arith
+change_later wait (Turned q) change t u l c = c
+change_later wait (Crossed q z) change t u l c = c
 
 turn_later : (at : ChangeAt) (v : DriveView) (u : ℕ) → v.time ≤ u → TurnTied at v → TurnTied at (record v { time = u })
 turn_later change.ClearHigh v u l x = record { none = x.none; to_is = x.to_is; due = (let d = x.due in omega arith); prompt = x.prompt }
@@ -1192,13 +1327,15 @@ place_later comm.Low v u l x = record {
   free = (let f = x.free in omega arith);
   late = x.late;
 }
+place_later comm.Blank v u l x = acted_later v u x
+place_later comm.Period v u l x = acted_later v u x
 place_later comm.Arm v u l x = acted_later v u x
 place_later comm.Stick v u l x = ((acted_later v u x.0.0, x.0.1), x.1)
 place_later comm.Back v u l x = (acted_later v u x.0, x.1)
 
 timer_later : (v : DriveView) (u : ℕ) → v.time ≤ u → TimerKept v → TimerKept (record v { time = u })
 timer_later v u l (inl k) = inl k
-timer_later v u l (inr (at, e, now, c)) = inr (at, e, omega arith, omega arith)
+timer_later v u l (inr (at, e, now, c)) = inr (at, e, omega arith, record { started = c.started; due = (let d = c.due in omega arith) })
 
 later : (v : DriveView) (u : ℕ) → v.time ≤ u → DriveTied v → DriveTied (record v { time = u })
 later v u l t = record {
@@ -1214,7 +1351,7 @@ later v u l t = record {
   to_is = t.to_is;
   at_low = t.at_low;
   idle = t.idle;
-  due = λ d. change_later v.turn v.drive.change v.time u l (t.due d);
+  due = λ d. change_later v.wait v.turn v.drive.change v.time u l (t.due d);
   first = λ z d. (let f = t.first z d in omega arith);
   turned = t.turned;
   forced = t.forced;
@@ -1223,7 +1360,9 @@ later v u l t = record {
   stuck = t.stuck;
   marked = t.marked;
   place = place_later v.comm_at v u l t.place;
-  low = λ e d. low_kept v.tick_at v (record v { time = u }) (timer_later v u l) (λ c. omega arith) (t.low e d);
+  low = λ e d s. low_kept v.tick_at v (record v { time = u }) (timer_later v u l) (λ c. record { started = c.started; due = (let x = c.due in omega arith) })
+      (t.low e d s);
+  crossed = t.crossed;
   postponed = t.postponed;
 }
 
@@ -1241,6 +1380,8 @@ comm_law = record {
       (t kind.Tick).3,
       λ z. absurd (let l = entry_drives w t unheld due in omega arith),
     )
+    | kind.Cmp ↦ λ ne. moved_cross (cross_seen w) comm.Decide w.core.drive.turn.at w.core.drive.postponed
+        (rw (comm_shut w.core.comm_at w.core.drive.turn.at none) refl) (λ e. cc) (t kind.Cmp).late (t kind.Cmp)
     | j ↦ λ ne. t j
   ];
   steps = λ w answers outer g t above alone past on left. steps w.core.comm_at w outer (record {

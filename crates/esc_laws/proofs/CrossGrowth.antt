@@ -18,8 +18,8 @@ use Rattle.esc_laws.proofs.Comparator.{held_before, steady_grows, steady_was}
 
 -- ---- Z
 
-may_cross_grows : (trace : List Event) (e : Event) (expects : Bool) (blanked z : ℕ) (turn : Turn) → z < tick_of e → MayCross trace expects blanked z turn
-    → MayCross (trace ++ e ∷ []) expects blanked z turn
+may_cross_grows : (trace : List Event) (e : Event) (expects : Bool) (blanked z : ℕ) (turn : Turn) → z < tick_of e → MayCross trace expects blanked turn z
+    → MayCross (trace ++ e ∷ []) expects blanked turn z
 may_cross_grows trace e expects blanked z Idle l c = c
 may_cross_grows trace e expects blanked z Started l c = c
 may_cross_grows trace e expects blanked z (Turned q) l c =
@@ -42,7 +42,7 @@ cross_from trace e forward before (n ∷ notes) below c = (
 
 pub crossed_grows : (loaded : Loaded) (trace : List Event) (e : Event) (forward : List Note → Bool) (rest : List Note)
     → All (λ n. time_of n < tick_of e) rest → CrossedAll trace forward (opening loaded ++ rest) → CrossedAll (trace ++ e ∷ []) forward (opening loaded ++ rest)
-crossed_grows loaded trace e forward rest below c = (c.0, c.1.0, cross_from trace e forward (opening loaded) rest below c.1.1)
+crossed_grows loaded trace e forward rest below c = (c.0, (c.1.0, cross_from trace e forward (opening loaded) rest below c.1.1))
 
 -- ---- the activations of CMP
 
@@ -128,7 +128,7 @@ search_from trace e forward before (n ∷ notes) below b c =
 
 pub searched_grows : (loaded : Loaded) (trace : List Event) (e : Event) (forward : List Note → Bool) (rest : List Note)
     → All (λ n. time_of n < tick_of e) rest → Searched trace forward (opening loaded ++ rest) → Searched (trace ++ e ∷ []) forward (opening loaded ++ rest)
-searched_grows loaded trace e forward rest below c = (c.0, c.1.0, search_from trace e forward (opening loaded) rest below tt c.1.1)
+searched_grows loaded trace e forward rest below c = (c.0, (c.1.0, search_from trace e forward (opening loaded) rest below tt c.1.1))
 
 -- ---- the notes of steps that stand below a tick
 

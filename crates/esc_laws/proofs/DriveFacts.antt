@@ -21,7 +21,7 @@ use Rattle.esc_core.specs.declared.state.TickAt.TheVariants as tick
 use Rattle.esc_core.specs.Drive.{due_at, low_free}
 use Rattle.esc_core.specs.Firmware.{comm_left, pwm_left, tick_left, tick_need}
 use Rattle.esc_laws.specs.Driven.{InPair}
-use Rattle.esc_laws.specs.DriveTied.{DriveView, DriveTied, CommTied, TimerKept, LowTied, RestAt, Still, Decides, OnOrLate, low_on, writes_duty}
+use Rattle.esc_laws.specs.DriveTied.{DriveView, DriveTied, CommTied, IsStarted, TimerKept, LowTied, RestAt, Still, Decides, OnOrLate, low_on, writes_duty}
 
 -- ---- places
 
@@ -96,7 +96,7 @@ soon_word f w w' t x l = rw (at_offs f w w' t x) (soon_test (is_on w x) (is_on w
 
 -- ---- what holds of COMM_AT between two steps of COMM is carried on where the timer and the next change are
 
-pub low_kept : (at : TickAt) (v v' : DriveView) → (TimerKept v → TimerKept v') → (v.drive.change ≤ v.time → v'.drive.change ≤ v'.time) → LowTied at v
+pub low_kept : (at : TickAt) (v v' : DriveView) → (TimerKept v → TimerKept v') → (IsStarted v → IsStarted v') → LowTied at v
     → LowTied at v'
 low_kept tick.Shut v v' f g t = f t
 low_kept tick.Raise v v' f g t = f t
@@ -111,6 +111,10 @@ low_kept tick.Lower v v' f g t = f t
 low_kept tick.Back v v' f g t = f t
 
 -- while COMM is shut a command may turn the direction
+redirect_timer : (v : DriveView) (forward : Bool) → TimerKept v → TimerKept (record v { forward = forward })
+redirect_timer v forward (inl e) = inl e
+redirect_timer v forward (inr (at, e, l, c)) = inr (at, e, l, record { started = c.started; due = c.due })
+
 pub redirected : (v : DriveView) (forward : Bool) → v.comm_at ≡ comm.Shut → DriveTied v → DriveTied (record v { forward = forward })
 redirected v forward shut t = record {
   sector_is = t.sector_is;
@@ -134,7 +138,9 @@ redirected v forward shut t = record {
   stuck = t.stuck;
   marked = t.marked;
   place = subst (λ (x : CommAt). CommTied x (record v { forward = forward })) (sym shut) tt;
-  low = λ e d. low_kept v.tick_at v (record v { forward = forward }) (λ k. k) (λ c. c) (t.low e d);
+  low = λ e d s. low_kept v.tick_at v (record v { forward = forward }) (redirect_timer v forward)
+      (λ c. record { started = c.started; due = c.due }) (t.low e d s);
+  crossed = t.crossed;
   postponed = t.postponed;
 }
 
@@ -159,7 +165,7 @@ timer_view : (v : DriveView) (hi : ℕ) → at_leg (offs v.drive.gates.hi_free v
     → TimerKept (high_view v hi)
 timer_view v hi same (inl (e, o)) =
     inl (e ∙ ap (λ (f : ℕ). Some (if v.drive.postponed then min v.drive.change f else v.drive.change)) (sym same), o)
-timer_view v hi same (inr k) = inr k
+timer_view v hi same (inr (at, e, l, c)) = inr (at, e, l, record { started = c.started; due = c.due })
 
 pub with_high : (v : DriveView) (hi : ℕ) → v.comm_at ≡ comm.Shut → InPair v.sector hi v.lo → DriveTied v → DriveTied (high_view v hi)
 with_high v hi shut pair t =
@@ -184,11 +190,12 @@ with_high v hi shut pair t =
       first = t.first;
       turned = t.turned;
       forced = t.forced;
-  unforced = t.unforced;
+      unforced = t.unforced;
       rest_unmarked = t.rest_unmarked;
       stuck = t.stuck;
       marked = t.marked;
       place = subst (λ (x : CommAt). CommTied x (high_view v hi)) (sym shut) tt;
-      low = λ e d. low_kept v.tick_at v (high_view v hi) (timer_view v hi same) (λ c. c) (t.low e d);
+      low = λ e d s. low_kept v.tick_at v (high_view v hi) (timer_view v hi same) (λ c. record { started = c.started; due = c.due }) (t.low e d s);
+      crossed = t.crossed;
       postponed = t.postponed;
     }

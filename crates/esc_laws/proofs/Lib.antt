@@ -17,6 +17,7 @@ pub mod Lines
 pub mod RoomSteps
 pub mod Returns
 pub mod DriveFacts
+pub mod CrossFacts
 pub mod CommFacts
 pub mod TickFacts
 pub mod Law

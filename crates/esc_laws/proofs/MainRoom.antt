@@ -29,6 +29,9 @@ saves w saved outer g asked none on = record {
     level = g.level;
     edges = g.edges;
     rested = g.rested;
+    events = g.events;
+    in_time = g.in_time;
+    comparator = g.comparator;
     small = g.small;
   };
   tie = λ told. ap (λ (n : ℕ). n + 1) none;

@@ -17,6 +17,7 @@ use Rattle.arming.proofs.InOrder.{each_rest}
 use Rattle.interrupt_machine.specs.Open.{is_open, kind_of}
 use Rattle.interrupt_machine.specs.Response.{counts, wait_next}
 use Rattle.esc_laws.specs.Place.{Signal, Rests, Place, place_entered, place_left, next, place}
+use Rattle.esc_laws.specs.Saves.{advance_of}
 use Rattle.esc_laws.specs.Nested.{HasDone, NestRule}
 use Rattle.esc_laws.specs.Windowed.{AnswersAt, WindowRuleAt, WindowRule}
 use Rattle.esc_laws.specs.Rested.{first_rested}
@@ -112,14 +113,14 @@ nothing_on loaded trace f r p back (note.Nothing t) o w h = absurd (answers_none
 nothing_on loaded trace f r p back (note.Bad t y) o w h = absurd (answers_none loaded trace p.signal f r p.cap_entered t.0 (note.Bad t y) h.signal w)
 nothing_on loaded trace f r p back n o w h = record { signal = h.signal; windows = h.windows; verdicts = h.verdicts }
 
-not_done : (f r : ℕ) (p : Place) (back : List Note) → NothingYet f r p → HasDone kind.Cap p back → ⊥
-not_done f r p back h (inl v) = let z = h.verdicts in omega arith
-not_done f r p back h (inr w) = let z = h.windows in let y = w.1 in omega arith
+not_done : (f r : ℕ) (p : Place) (back : List Note) (advance : ℕ) → NothingYet f r p → HasDone advance kind.Cap p back → ⊥
+not_done f r p back advance h (inl v) = let z = h.verdicts in omega arith
+not_done f r p back advance h (inr w) = let z = h.windows in let y = w.1 in omega arith
 
 returns_not : (loaded : Loaded) (nest : Nest) (trace : List Event) (f r : ℕ) (before through after : List Note) (u : Tick) → NothingYet f r (place before)
     → All OpensNone through
-    → Each (WindowRule loaded trace) before (through ++ note.Leave u 3 ∷ after) → Each (NestRule nest) before (through ++ note.Leave u 3 ∷ after) → ⊥
-returns_not loaded nest trace f r before [] after u h a w n = not_done f r (place before) (reverse before) h n.0.1
+    → Each (WindowRule loaded trace) before (through ++ note.Leave u 3 ∷ after) → Each (NestRule (advance_of loaded.settings) nest) before (through ++ note.Leave u 3 ∷ after) → ⊥
+returns_not loaded nest trace f r before [] after u h a w n = not_done f r (place before) (reverse before) (advance_of loaded.settings) h n.0.1
 returns_not loaded nest trace f r before (x ∷ through) after u h a w n =
     returns_not loaded nest trace f r (before ++ x ∷ []) through after u
     (rw (place-push before x) (nothing_on loaded trace f r (place before) (reverse before) x (All-head OpensNone x through a) w.0 h))
@@ -131,6 +132,6 @@ cap_opens_window loaded nest trace before through after f r t u windowed nested 
     let all : List Note = note.Enter t 3 ∷ through ++ note.Leave u 3 ∷ after in
     let w : Each (WindowRule loaded trace) start all = each_rest (WindowRule loaded trace) (opening loaded) before all
     (each_rest (WindowRule loaded trace) [] (opening loaded) (before ++ all) windowed) in
-    let n : Each (NestRule nest) start all = each_rest (NestRule nest) (opening loaded) before all nested in
+    let n : Each (NestRule (advance_of loaded.settings) nest) start all = each_rest (NestRule (advance_of loaded.settings) nest) (opening loaded) before all nested in
     returns_not loaded nest trace f r (start ++ note.Enter t 3 ∷ []) through after u
     (rw (place-push start (note.Enter t 3)) (record { signal = rests; windows = refl; verdicts = refl })) none w.1 n.1

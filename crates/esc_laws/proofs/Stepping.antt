@@ -8,13 +8,14 @@ use Rattle.esc_base.specs.declared.event.Event.{Event}
 use Rattle.esc_base.specs.declared.note.Note.{Note}
 use Rattle.esc_base.specs.Journal.{time_of}
 use Rattle.settings_block.specs.declared.stored.Loaded.{Loaded}
+use Rattle.esc_base.specs.Numbers.{kind_number}
 use Rattle.timer_regs.specs.Bank.{Bank}
 use Rattle.timer_regs.specs.Effects.{after_entry}
 use Rattle.interrupt_machine.specs.declared.nest.Nest.{Nest}
 use Rattle.interrupt_machine.specs.declared.firmware.Did.{Did}
 use Rattle.interrupt_machine.specs.declared.firmware.Did.TheVariants.{More, Return}
 use Rattle.interrupt_machine.specs.Did.{most, accessed}
-use Rattle.interrupt_machine.specs.Open.{is_open, due_now, next_entry, IsStack}
+use Rattle.interrupt_machine.specs.Open.{is_open, innermost, highest, due_now, next_entry, IsAbove, IsStack}
 use Rattle.interrupt_machine.specs.Response.{is_waiting}
 use Rattle.interrupt_machine.specs.Turn.{open_after}
 use Rattle.interrupt_machine.proofs.OpenKinds.{closed_above, entry_above, same_kind}
@@ -34,8 +35,9 @@ use Rattle.esc_laws.specs.Logged.{Logged}
 use Rattle.esc_laws.proofs.Pushes.{own-push, made-push, since-push}
 use Rattle.esc_laws.proofs.Stalls.{free_ended}
 use Rattle.esc_laws.proofs.Facts.{of_self, of_other, some_open, outer_open, left_open, access_time}
+use Rattle.esc_laws.proofs.Law.{Highest}
 use Rattle.esc_laws.proofs.Laws.{law}
-use Rattle.esc_laws.proofs.Stages.{IsOwn, placed-is, enter_time, enter_stood, step_made}
+use Rattle.esc_laws.proofs.Stages.{world_of, IsOwn, placed-is, enter_time, enter_stood, step_made}
 use Rattle.esc_laws.proofs.Entries.{unheld_down, holds_alone, entered_others, entered_most, entry_above_all, keeps_entry}
 use Rattle.esc_laws.proofs.OwnTurns.{steady, keeps_own}
 use Rattle.esc_laws.proofs.Turns.{reached_on, reached_new, by_on, by_new, stood, logged_after}
@@ -124,6 +126,26 @@ entry_by cost trace b stack log k at reached j o t below = elim (same_kind j k) 
       (reached j (other_open k j stack ne o)) below
 ]
 
+-- no higher kind is open or due
+above_more : (stack : List Kind) (k j : Kind) → IsAbove (innermost stack) k → kind_number k < kind_number j → IsAbove (innermost stack) j
+above_more [] k j a l = tt
+above_more (i ∷ outer) k j a l = (let b : kind_number i < kind_number k = a in omega arith)
+
+not_due : (due : Kind → Bool) (k j : Kind) → highest due ≡ Some k → kind_number k < kind_number j → due j ≡ false
+not_due due k j h l = by_test (due j) refl
+  where
+    by_test : (v : Bool) → due j ≡ v → due j ≡ false
+    by_test true e = absurd (let m = highest_most due k j e h in omega arith)
+    by_test false e = e
+
+entry_highest_of : (nest : Nest) (loaded : Loaded) (trace : List Event) (c : Brain) (b : Bank) (stack : List Kind) (log : List Turned) (k : Kind) → Keeps c b stack
+    → IsStack stack → next_entry nest stack (due_now c.orders.save_asked b) ≡ Some k
+    → Highest k (world_of loaded nest trace c b (made log) (notes_in log))
+entry_highest_of nest loaded trace c b stack log k keeps sorted chosen = record {
+  shut = λ j l. keeps.shut j (closed_above stack j sorted (above_more stack k j (entry_above nest stack (due_now c.orders.save_asked b) k chosen) l));
+  none = λ j l. not_due (due_now c.orders.save_asked b) k j (entry_highest nest stack (due_now c.orders.save_asked b) k chosen) l;
+}
+
 pub entry_turn : (loaded : Loaded) (nest : Nest) (cost : ℕ) (trace : List Event) (c : Brain) (b : Bank) (stack : List Kind) (log : List Turned) (k : Kind)
     → 1 ≤ cost → Logged loaded nest cost trace b.time c b stack log
     → b.masked ≡ false → next_entry nest stack (due_now c.orders.save_asked b) ≡ Some k
@@ -139,7 +161,7 @@ entry_turn loaded nest cost trace c b stack log k some l down chosen =
       out =
           rw (made-push log (entry_of b.time k))
           (enter_stood k loaded nest trace c b (made log) (notes_in log) stack (stood loaded nest cost trace b.time c b stack log l) l.made_past none
-          (unheld_down c b stack l.keeps down) due
+          (unheld_down c b stack l.keeps down) due (entry_highest_of nest loaded trace c b stack log k l.keeps l.sorted chosen)
           (entry_above_all nest stack (due_now c.orders.save_asked b) k l.sorted chosen));
       patient =
           rw still

@@ -17,9 +17,10 @@ use Rattle.esc_core.specs.declared.state.TickAt.{TickAt}
 use Rattle.esc_core.specs.declared.state.TickAt.TheVariants as tick
 use Rattle.esc_core.specs.declared.drive.Drive.{Drive}
 use Rattle.esc_core.specs.Drive.{is_stuck}
+use Rattle.esc_core.specs.Drive.{search_after}
 use Rattle.esc_core.specs.Tick.{drive_after}
 use Rattle.esc_laws.specs.Driven.{InPair}
-use Rattle.esc_laws.specs.DriveTied.{DriveView, DriveTied, CommTied, TurnTied, HasActed, OnOrHeld, Resumed, LowTied, TimerKept, FlagTied, writes_duty}
+use Rattle.esc_laws.specs.DriveTied.{DriveView, DriveTied, CommTied, TurnTied, HasActed, OnOrHeld, Resumed, LowTied, IsStarted, commutes, ChangeTied, TimerKept, FlagTied, writes_duty}
 
 -- ---- PWM's flag
 
@@ -93,11 +94,17 @@ place_retimed comm.Low v place x = record {
   free = x.free;
   late = x.late;
 }
+place_retimed comm.Blank v place x = acted_retimed v place x
+place_retimed comm.Period v place x = acted_retimed v place x
 place_retimed comm.Arm v place x = acted_retimed v place x
 place_retimed comm.Stick v place x = ((acted_retimed v place x.0.0, x.0.1), x.1)
 place_retimed comm.Back v place x = (acted_retimed v place x.0, x.1)
 
-pub retimed : (v : DriveView) (place : TickAt) → (v.comm_at ≡ comm.Shut → 0 < v.demand → LowTied place (record v { tick_at = place })) → DriveTied v
+pub timer_retimed : (v : DriveView) (place : TickAt) → TimerKept v → TimerKept (record v { tick_at = place })
+timer_retimed v place (inl e) = inl e
+timer_retimed v place (inr (at, e, l, c)) = inr (at, e, l, record { started = c.started; due = c.due })
+
+pub retimed : (v : DriveView) (place : TickAt) → (v.comm_at ≡ comm.Shut → 0 < v.demand → commutes v.cmp_at ≡ false → LowTied place (record v { tick_at = place })) → DriveTied v
     → DriveTied (record v { tick_at = place })
 retimed v place low t = record {
   sector_is = t.sector_is;
@@ -122,6 +129,7 @@ retimed v place low t = record {
   marked = t.marked;
   place = place_retimed v.comm_at v place t.place;
   low = low;
+  crossed = t.crossed;
   postponed = t.postponed;
 }
 
@@ -150,7 +158,8 @@ timed v place shut low t = record {
   stuck = t.stuck;
   marked = t.marked;
   place = subst (λ (x : CommAt). CommTied x (record v { tick_at = place; timer = Some v.time })) (sym shut) tt;
-  low = λ e l. low l;
+  low = λ e l s. low l;
+  crossed = t.crossed;
   postponed = t.postponed;
 }
 
@@ -164,9 +173,9 @@ low_view v lo place = record v {
   };
 }
 
-pub with_low : (v : DriveView) (lo : ℕ) (place : TickAt) → v.comm_at ≡ comm.Shut → v.demand ≡ 0 → ((x : Leg) → is_on lo x ≡ true → is_on v.lo x ≡ true)
+pub with_low : (v : DriveView) (lo : ℕ) (place : TickAt) → v.comm_at ≡ comm.Shut → commutes v.cmp_at ≡ false → v.demand ≡ 0 → ((x : Leg) → is_on lo x ≡ true → is_on v.lo x ≡ true)
     → DriveTied v → DriveTied (low_view v lo place)
-with_low v lo place shut zero fewer t =
+with_low v lo place shut none zero fewer t =
     let f : Legs = v.drive.gates.hi_free in
     let same = offs_same f v.hi v.time in
     record {
@@ -191,7 +200,8 @@ with_low v lo place shut zero fewer t =
       stuck = t.stuck;
       marked = t.marked;
       place = subst (λ (x : CommAt). CommTied x (low_view v lo place)) (sym shut) tt;
-      low = λ e l. absurd (omega arith);
+      low = λ e l s. absurd (omega arith);
+      crossed = λ e. absurd (let z : false ≡ true = sym none ∙ e in cc);
       postponed = λ e l. absurd (omega arith);
     }
 
@@ -222,17 +232,19 @@ driven_off v shut zero t = record {
   stuck = λ l. absurd (omega arith);
   marked = λ l. absurd (omega arith);
   place = subst (λ (x : CommAt). CommTied x (off_view v)) (sym shut) tt;
-  low = λ e l. absurd (omega arith);
+  low = λ e l s. absurd (omega arith);
+  crossed = λ e. ((t.crossed e).0, refl);
   postponed = λ e l. absurd (omega arith);
 }
 
 -- ---- a K
 
 -- by whether its demand is 0, whether the one before was, and whether it starts a drive
-abbrev pub asked_view : DriveView → Bool → Bool → Bool → Bool → ℕ → DriveView
-asked_view v zero was some start d = record v {
+abbrev pub asked_view : DriveView → Bool → Bool → Bool → Bool → ℕ → ℕ → DriveView
+asked_view v zero was some start d wait = record v {
+  wait = wait;
   tick_at = if zero then tick.Off off.High else tick.DutyOn start;
-  drive = drive_after start v.time v.drive;
+  drive = record (drive_after start v.time v.drive) { crossing = search_after zero v.drive.crossing };
   demand = d;
   turn = if zero then Idle else if was then Started else v.turn;
   told_forced = if some && was then 0 else v.told_forced;
@@ -258,10 +270,10 @@ pub record AskedIn (v : DriveView) : Type 0 where
   pub prompt : v.demand ≡ 0 → v.drive.postponed ≡ false
   pub unmarked : v.demand ≡ 0 → v.stuck ≡ false
 
-pub asked_drive : (zero was some start : Bool) (v : DriveView) (d : ℕ) → (d == 0) ≡ zero → (v.demand == 0) ≡ was → nat_lt 0 d ≡ some → start ≡ (some && was)
-    → AskedIn v → DriveTied v → DriveTied (asked_view v zero was some start d)
-asked_drive true was true start v d e f g h i t = absurd (let z : true ≡ false = sym g ∙ none_lt d e in cc)
-asked_drive true was false start v d e f g h i t = subst (λ (s : Bool). DriveTied (asked_view v true was false s d)) (sym h) (record {
+pub asked_drive : (zero was some start : Bool) (v : DriveView) (d wait : ℕ) → (was ≡ false → wait ≡ v.wait) → (d == 0) ≡ zero → (v.demand == 0) ≡ was → nat_lt 0 d ≡ some → start ≡ (some && was)
+    → AskedIn v → DriveTied v → DriveTied (asked_view v zero was some start d wait)
+asked_drive true was true start v d wait y e f g h i t = absurd (let z : true ≡ false = sym g ∙ none_lt d e in cc)
+asked_drive true was false start v d wait y e f g h i t = subst (λ (s : Bool). DriveTied (asked_view v true was false s d wait)) (sym h) (record {
   sector_is = t.sector_is;
   sectors = t.sectors;
   pair = t.pair;
@@ -278,16 +290,17 @@ asked_drive true was false start v d e f g h i t = subst (λ (s : Bool). DriveTi
   first = λ s l. absurd (let z = is_zero d e in omega arith);
   turned = λ l. absurd (let z = is_zero d e in omega arith);
   forced = t.forced;
-  unforced = λ z. cc;
+  unforced = λ z. absurd z;
   rest_unmarked = λ z. refl;
   stuck = λ l. absurd (let z = is_zero d e in omega arith);
   marked = λ l. absurd (let z = is_zero d e in omega arith);
-  place = subst (λ (x : CommAt). CommTied x (asked_view v true was false false d)) (sym i.shut) tt;
-  low = λ s l. tt;
+  place = subst (λ (x : CommAt). CommTied x (asked_view v true was false false d wait)) (sym i.shut) tt;
+  low = λ s l m. tt;
+  crossed = t.crossed;
   postponed = λ s l. absurd (let z = is_zero d e in omega arith);
 })
-asked_drive false was false start v d e f g h i t = absurd (let z : false ≡ true = sym g ∙ some_lt d e in cc)
-asked_drive false true true start v d e f g h i t = subst (λ (s : Bool). DriveTied (asked_view v false true true s d)) (sym h) (record {
+asked_drive false was false start v d wait y e f g h i t = absurd (let z : false ≡ true = sym g ∙ some_lt d e in cc)
+asked_drive false true true start v d wait y e f g h i t = subst (λ (s : Bool). DriveTied (asked_view v false true true s d wait)) (sym h) (record {
   sector_is = t.sector_is;
   sectors = t.sectors;
   pair = t.pair;
@@ -308,11 +321,12 @@ asked_drive false true true start v d e f g h i t = subst (λ (s : Bool). DriveT
   rest_unmarked = λ z. absurd (let l = is_some d e in omega arith);
   stuck = λ l. rw (t.rest_unmarked (is_zero v.demand f), i.unmarked (is_zero v.demand f)) refl;
   marked = λ l m s. cc;
-  place = subst (λ (x : CommAt). CommTied x (asked_view v false true true true d)) (sym i.shut) tt;
-  low = λ s l. inl (refl, omega arith);
+  place = subst (λ (x : CommAt). CommTied x (asked_view v false true true true d wait)) (sym i.shut) tt;
+  low = λ s l m. inl (refl, record { started = refl; due = omega arith });
+  crossed = t.crossed;
   postponed = λ s l p. (let z : false ≡ true = sym (i.prompt (is_zero v.demand f)) ∙ p in cc);
 })
-asked_drive false false true start v d e f g h i t = subst (λ (s : Bool). DriveTied (asked_view v false false true s d)) (sym h) (record {
+asked_drive false false true start v d wait y e f g h i t = subst (λ (s : Bool). DriveTied (asked_view v false false true s d wait)) (sym h) (record {
   sector_is = t.sector_is;
   sectors = t.sectors;
   pair = t.pair;
@@ -325,7 +339,7 @@ asked_drive false false true start v d e f g h i t = subst (λ (s : Bool). Drive
   to_is = t.to_is;
   at_low = t.at_low;
   idle = λ z. absurd (let l = is_some d e in omega arith);
-  due = λ l. t.due (is_some v.demand f);
+  due = λ l. subst (λ (x : ℕ). ChangeTied x v.turn v.drive.change v.time) (sym (y refl)) (t.due (is_some v.demand f));
   first = λ s l. t.first s (is_some v.demand f);
   turned = λ l. t.turned (is_some v.demand f);
   forced = t.forced;
@@ -333,7 +347,12 @@ asked_drive false false true start v d e f g h i t = subst (λ (s : Bool). Drive
   rest_unmarked = λ z. absurd (let l = is_some d e in omega arith);
   stuck = λ l. t.stuck (is_some v.demand f);
   marked = λ l. t.marked (is_some v.demand f);
-  place = subst (λ (x : CommAt). CommTied x (asked_view v false false true false d)) (sym i.shut) tt;
-  low = λ s l. inr (refl, i.kept (is_some v.demand f));
+  place = subst (λ (x : CommAt). CommTied x (asked_view v false false true false d wait)) (sym i.shut) tt;
+  low = λ s l m. inr (refl, kept (i.kept (is_some v.demand f)));
+  crossed = t.crossed;
   postponed = λ s l. t.postponed i.shut (is_some v.demand f);
 })
+  where
+    kept : TimerKept v → TimerKept (asked_view v false false true false d wait)
+    kept (inl e) = inl e
+    kept (inr (at, e, l, c)) = inr (at, e, l, record { started = c.started; due = c.due })

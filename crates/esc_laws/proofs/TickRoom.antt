@@ -45,12 +45,21 @@ use Rattle.esc_laws.specs.Calls.{pwm_asked_at, pwm_entered_at}
 use Rattle.esc_laws.specs.Tied.{TickTied, WordTold}
 use Rattle.esc_laws.specs.DriveTied.{DriveView, DriveTied, LowTied, TimerKept, FlagTied, PwmTied, DutyTied, RestAt, Still, Rests, writes_duty}
 use Rattle.esc_laws.specs.World.{World, so_far}
-use Rattle.esc_laws.specs.Rooms.{Ground, Ties, Tie, TickTie, DriveKeeps, GateFits, GatesKeep, StepKeeps, drive_seen}
+use Rattle.esc_laws.specs.Rooms.{Ground, Ties, Tie, TickTie, DriveKeeps, GateFits, GatesKeep, StepKeeps, drive_seen, cross_seen}
 use Rattle.esc_laws.proofs.Facts.{due_tick, tick_due}
 use Rattle.esc_laws.proofs.Saves.{orders_other}
 use Rattle.esc_laws.proofs.RoomSteps.{quiet_gates, ground_noted, inside, popped, if_true}
 use Rattle.esc_laws.proofs.DriveFacts.{comm_shut, pwm_shut, tick_shut, pair_apart, high_view, with_high}
-use Rattle.esc_laws.proofs.TickFacts.{same_flag, none_flag, asked_flag, duty_flag, retimed, timed, with_low, driven_off, asked_view, AskedIn, asked_drive}
+use Rattle.esc_laws.proofs.TickFacts.{same_flag, none_flag, asked_flag, duty_flag, timer_retimed, retimed, timed, with_low, driven_off, asked_view, AskedIn, asked_drive}
+use Rattle.esc_core.specs.declared.state.CmpAt.TheVariants as cmp
+use Rattle.esc_core.specs.Drive.{search_after}
+use Rattle.commutation.specs.Pace.{Pace, first_pace, wait_of}
+use Rattle.commutation.specs.Drive.{pace_at, wait_at}
+use Rattle.esc_laws.specs.Saves.{advance_of}
+use Rattle.commutation.specs.Commutated.{Idle, Started, turn_at}
+use Rattle.esc_laws.specs.Searched.{Away, sight_at}
+use Rattle.esc_laws.specs.CrossTied.{CrossView, CrossTied, HasNoQ, ends_drive}
+use Rattle.esc_laws.proofs.CrossFacts.{cmp_shut, cross_retimed, asked_cross, driven_cross}
 use Rattle.esc_laws.proofs.Law.{HandlerLaw}
 
 -- what holds before each own step of TICK
@@ -61,6 +70,7 @@ record IsTick (w : World) (outer : List Kind) (place : TickAt) : Type 0 where
   place_is : w.core.tick_at ≡ place
   comm_is : w.core.comm_at ≡ comm.Shut
   pwm_is : w.core.pwm_at ≡ pwm.Shut
+  cmp_is : w.core.cmp_at ≡ cmp.Shut
 
 ticks_tie : (w : World) (outer : List Kind) (place : TickAt) → IsTick w outer place → TickTied place w.bank.number_read w.bank.time (so_far w).ticks
 ticks_tie w outer place i = subst (λ (p : TickAt). TickTied p w.bank.number_read w.bank.time (so_far w).ticks) i.place_is (i.ties kind.Tick).0
@@ -74,7 +84,7 @@ rest_tie w outer place i z =
     subst (λ (p : TickAt). RestAt p w.bank.hi w.bank.lo w.bank.flag w.bank.comm w.core.drive.postponed w.bank.stuck) i.place_is ((i.ties kind.Tick).4 z).rest
 
 low_tie : (w : World) (outer : List Kind) (place : TickAt) → IsTick w outer place → 0 < demand_at w.back → LowTied place (drive_seen w)
-low_tie w outer place i l = subst (λ (p : TickAt). LowTied p (drive_seen w)) i.place_is ((i.ties kind.Comm).low i.comm_is l)
+low_tie w outer place i l = subst (λ (p : TickAt). LowTied p (drive_seen w)) i.place_is ((i.ties kind.Comm).low i.comm_is l (rw i.cmp_is refl))
 
 flag_tie : (w : World) (outer : List Kind) (place : TickAt) → IsTick w outer place
     → FlagTied place w.bank.flag (pwm_asked_at w.back) (demand_at w.back) (pwm_entered_at w.back) w.bank.time
@@ -136,6 +146,41 @@ asked_rest false start d hi lo flag timer postponed stuck e z = absurd (some d e
     some : (n : ℕ) → (n == 0) ≡ false → n ≡ 0 → ⊥
     some n e z = grind (arith, nat_tests)
 
+-- what it leaves of the search for a crossing
+abbrev cross_after : World → ℕ → Bool → CrossView
+cross_after w demand s = record (cross_seen w) {
+  tick_at = if demand == 0 then tick.Off off.High else tick.DutyOn s;
+  search = search_after (demand == 0) w.core.drive.crossing;
+  pace = (drive_after s w.bank.time w.core.drive).timing.pace;
+  advance = (drive_after s w.bank.time w.core.drive).timing.advance;
+  postponed = (drive_after s w.bank.time w.core.drive).postponed;
+  turn_at = (drive_after s w.bank.time w.core.drive).turn.at;
+  turn = if demand == 0 then Idle else if rests_at w.back then Started else turn_at w.back;
+  told_pace = if nat_lt 0 demand && rests_at w.back then first_pace else pace_at w.back;
+  sight = if demand == 0 then Away else sight_at w.back;
+}
+
+-- where no drive starts the wait is as it was
+plain_wait : (a b : Bool) (advance : ℕ) (p : Pace) → b ≡ false → wait_of advance (if a && b then first_pace else p).interval ≡ wait_of advance p.interval
+plain_wait true true advance p e = cc
+plain_wait true false advance p e = refl
+plain_wait false b advance p e = refl
+
+some_not : (n : ℕ) → nat_lt 0 n ≡ not (n == 0)
+some_not n = grind (arith, nat_tests)
+
+chosen_pace : (b : Bool) (p q : Pace) → b ≡ true → p ≡ (if b then p else q)
+chosen_pace b p q e = rw e refl
+
+kept_pace : (b : Bool) (p q : Pace) → b ≡ false → q ≡ (if b then p else q)
+kept_pace b p q e = rw e refl
+
+no_drive : (w : World) → Ties w → rests_at w.back ≡ true → HasNoQ (turn_at w.back)
+no_drive w t e = rw ((t kind.Comm).idle (is_zero (demand_at w.back) (rests_is w.back ∙ e))) tt
+  where
+    is_zero : (n : ℕ) → (n == 0) ≡ true → n ≡ 0
+    is_zero n e = grind (arith, nat_tests)
+
 -- it asks control: a K, then an A or an X
 asks : (lost : Option Cause) (armed_now start : Bool) (w : World) (outer : List Kind) (marks demand : ℕ) (kept : Kept) → IsTick w outer tick.Read
     → start ≡ (nat_lt 0 demand && rests_at w.back) → (so_far w).ticks ≡ 0
@@ -145,7 +190,7 @@ asks : (lost : Option Cause) (armed_now start : Bool) (w : World) (outer : List 
       core = record w.core {
         tick_at = if demand == 0 then tick.Off off.High else tick.DutyOn start;
         control = kept;
-        drive = drive_after start w.bank.time w.core.drive;
+        drive = record (drive_after start w.bank.time w.core.drive) { crossing = search_after (demand == 0) w.core.drive.crossing };
       };
       access = Reads reg.TickState;
       notes = note.Control (as_tick w.bank.time) (w.bank.time / 2400) marks demand ∷ outcome_note w.bank.time lost armed_now;
@@ -172,9 +217,20 @@ asks lost armed_now start w outer marks demand kept i begins none st number = by
     flag_now : FlagTied (if demand == 0 then tick.Off off.High else tick.DutyOn start) w.bank.flag (not (demand == 0)) demand (pwm_entered_at w.back) w.bank.time
     flag_now = asked_flag (demand == 0) start w.bank.flag demand (pwm_entered_at w.back) w.bank.time refl (i.ties kind.Pwm).1.past
 
-    drive_now : DriveTied (asked_view (drive_seen w) (demand == 0) (rests_at w.back) (nat_lt 0 demand) start demand)
-    drive_now = asked_drive (demand == 0) (rests_at w.back) (nat_lt 0 demand) start (drive_seen w) demand refl (rests_is w.back) refl begins (asked_in w outer i)
+    drive_now : DriveTied (asked_view (drive_seen w) (demand == 0) (rests_at w.back) (nat_lt 0 demand) start demand (wait_at (advance_of w.loaded.settings) (k ∷ w.back)))
+    drive_now = asked_drive (demand == 0) (rests_at w.back) (nat_lt 0 demand) start (drive_seen w) demand
+        (wait_at (advance_of w.loaded.settings) (k ∷ w.back)) (λ e. plain_wait (nat_lt 0 demand) (rests_at w.back) (advance_of w.loaded.settings) (pace_at w.back) e) refl (rests_is w.back) refl begins (asked_in w outer i)
         (i.ties kind.Comm)
+
+    cross_now : (s : Bool) → start ≡ s → CrossTied (cross_after w demand s)
+    cross_now true e =
+        asked_cross (demand == 0) (rests_at w.back) (nat_lt 0 demand) true (cross_seen w) first_pace i.cmp_is i.comm_is (rw i.comm_is refl)
+        (rw i.place_is refl) (no_drive w i.ties) (some_not demand)
+        (chosen_pace (nat_lt 0 demand && rests_at w.back) first_pace w.core.drive.timing.pace (sym begins ∙ e)) (i.ties kind.Cmp)
+    cross_now false e =
+        asked_cross (demand == 0) (rests_at w.back) (nat_lt 0 demand) false (cross_seen w) w.core.drive.timing.pace i.cmp_is i.comm_is (rw i.comm_is refl)
+        (rw i.place_is refl) (no_drive w i.ties) (some_not demand)
+        (kept_pace (nat_lt 0 demand && rests_at w.back) first_pace w.core.drive.timing.pace (sym begins ∙ e)) (i.ties kind.Cmp)
 
     ticks_now : (so_far w).ticks + 1 ≡ 1
     ticks_now = ap (λ (n : ℕ). n + 1) none
@@ -188,7 +244,7 @@ asks lost armed_now start w outer marks demand kept i begins none st number = by
           core = record w.core {
             tick_at = if demand == 0 then tick.Off off.High else tick.DutyOn start;
             control = kept;
-            drive = drive_after start w.bank.time w.core.drive;
+            drive = record (drive_after start w.bank.time w.core.drive) { crossing = search_after (demand == 0) w.core.drive.crossing };
           };
           access = Reads reg.TickState;
           notes = note.Control (as_tick w.bank.time) (w.bank.time / 2400) marks demand ∷ outcome_note w.bank.time lost armed_now;
@@ -207,6 +263,9 @@ asks lost armed_now start w outer marks demand kept i begins none st number = by
         level = i.ground.level;
         edges = i.ground.edges;
         rested = i.ground.rested;
+        events = i.ground.events;
+        in_time = i.ground.in_time;
+        comparator = i.ground.comparator;
         small = i.ground.small;
       };
       tie = λ told. (
@@ -220,6 +279,7 @@ asks lost armed_now start w outer marks demand kept i begins none st number = by
         | kind.Tick ↦ λ ne u. absurd (ne refl)
         | kind.Pwm ↦ λ ne u. (pwm_still w outer tick.Read demand i, flag_now)
         | kind.Comm ↦ λ ne u. drive_now
+        | kind.Cmp ↦ λ ne u. cross_now start refl
         | j ↦ λ ne u. u
       ];
       stack_is = i.on;
@@ -237,6 +297,9 @@ asks lost armed_now start w outer marks demand kept i begins none st number = by
         level = i.ground.level;
         edges = i.ground.edges;
         rested = i.ground.rested;
+        events = i.ground.events;
+        in_time = i.ground.in_time;
+        comparator = i.ground.comparator;
         small = i.ground.small;
       };
       tie = λ told. (
@@ -250,6 +313,7 @@ asks lost armed_now start w outer marks demand kept i begins none st number = by
         | kind.Tick ↦ λ ne u. absurd (ne refl)
         | kind.Pwm ↦ λ ne u. (pwm_still w outer tick.Read demand i, flag_now)
         | kind.Comm ↦ λ ne u. drive_now
+        | kind.Cmp ↦ λ ne u. cross_now start refl
         | j ↦ λ ne u. u
       ];
       stack_is = i.on;
@@ -263,6 +327,9 @@ asks lost armed_now start w outer marks demand kept i begins none st number = by
         level = i.ground.level;
         edges = i.ground.edges;
         rested = i.ground.rested;
+        events = i.ground.events;
+        in_time = i.ground.in_time;
+        comparator = i.ground.comparator;
         small = i.ground.small;
       };
       tie = λ told. (
@@ -276,6 +343,7 @@ asks lost armed_now start w outer marks demand kept i begins none st number = by
         | kind.Tick ↦ λ ne u. absurd (ne refl)
         | kind.Pwm ↦ λ ne u. (pwm_still w outer tick.Read demand i, flag_now)
         | kind.Comm ↦ λ ne u. drive_now
+        | kind.Cmp ↦ λ ne u. cross_now start refl
         | j ↦ λ ne u. u
       ];
       stack_is = i.on;
@@ -371,7 +439,8 @@ high_off w outer i =
       others = elim [
         | kind.Tick ↦ λ ne u. absurd (ne refl)
         | kind.Pwm ↦ λ ne u. (u.0, none_flag (tick.Off off.Low) w.bank.flag (pwm_asked_at w.back) (demand_at w.back) (pwm_entered_at w.back) w.bank.time refl zero u.1.past)
-        | kind.Comm ↦ λ ne u. retimed (high_view (drive_seen w) hi) (tick.Off off.Low) (λ e l. tt) (with_high (drive_seen w) hi i.comm_is pair u)
+        | kind.Comm ↦ λ ne u. retimed (high_view (drive_seen w) hi) (tick.Off off.Low) (λ e l s. tt) (with_high (drive_seen w) hi i.comm_is pair u)
+        | kind.Cmp ↦ λ ne u. cross_retimed (cross_seen w) (tick.Off off.Low) (sym (ap ends_drive i.place_is)) u
         | j ↦ λ ne u. u
       ];
       stack_is = i.on;
@@ -399,7 +468,8 @@ low_off w outer i =
       others = elim [
         | kind.Tick ↦ λ ne u. absurd (ne refl)
         | kind.Pwm ↦ λ ne u. (u.0, none_flag tick.DutyOff w.bank.flag (pwm_asked_at w.back) (demand_at w.back) (pwm_entered_at w.back) w.bank.time refl zero u.1.past)
-        | kind.Comm ↦ λ ne u. with_low (drive_seen w) lo tick.DutyOff i.comm_is zero (λ x on. on_and w.bank.lo 0 x on) u
+        | kind.Comm ↦ λ ne u. with_low (drive_seen w) lo tick.DutyOff i.comm_is (rw i.cmp_is refl) zero (λ x on. on_and w.bank.lo 0 x on) u
+        | kind.Cmp ↦ λ ne u. cross_retimed (cross_seen w) tick.DutyOff (sym (ap ends_drive i.place_is)) u
         | j ↦ λ ne u. u
       ];
       stack_is = i.on;
@@ -423,7 +493,8 @@ duty_off w outer i =
       others = elim [
         | kind.Tick ↦ λ ne u. absurd (ne refl)
         | kind.Pwm ↦ λ ne u. (u.0, none_flag tick.DriveOff false (pwm_asked_at w.back) (demand_at w.back) (pwm_entered_at w.back) w.bank.time refl zero u.1.past)
-        | kind.Comm ↦ λ ne u. retimed (drive_seen w) tick.DriveOff (λ e l. tt) u
+        | kind.Comm ↦ λ ne u. retimed (drive_seen w) tick.DriveOff (λ e l s. tt) u
+        | kind.Cmp ↦ λ ne u. cross_retimed (cross_seen w) tick.DriveOff (sym (ap ends_drive i.place_is)) u
         | j ↦ λ ne u. u
       ];
       stack_is = i.on;
@@ -455,6 +526,7 @@ drive_off w outer i =
           none_flag tick.Lower w.bank.flag (pwm_asked_at w.back) (demand_at w.back) (pwm_entered_at w.back) w.bank.time refl duty.0 u.1.past,
         )
         | kind.Comm ↦ λ ne u. driven_off (drive_seen w) i.comm_is duty.0 u
+        | kind.Cmp ↦ λ ne u. driven_cross (cross_seen w) (rw i.place_is refl) u
         | j ↦ λ ne u. u
       ];
       stack_is = i.on;
@@ -485,10 +557,11 @@ duty_on true w outer i =
           rw (lt-ltb 0 w.core.control.demand (omega arith)) (duty_flag tick.Start true w.bank.flag (pwm_asked_at w.back) (demand_at w.back)
               (pwm_entered_at w.back) w.bank.time refl (flag_tie w outer (tick.DutyOn true) i)),
         )
-        | kind.Comm ↦ λ ne u. retimed (drive_seen w) tick.Start (λ e l. elim (low_tie w outer (tick.DutyOn true) i l) [
-          | inl q ↦ q.1
+        | kind.Comm ↦ λ ne u. retimed (drive_seen w) tick.Start (λ e l s. elim (low_tie w outer (tick.DutyOn true) i l) [
+          | inl q ↦ record { started = q.1.started; due = q.1.due }
           | inr q ↦ (let z : true ≡ false = q.0 in cc)
         ]) u
+        | kind.Cmp ↦ λ ne u. cross_retimed (cross_seen w) tick.Start (sym (ap ends_drive i.place_is)) u
         | j ↦ λ ne u. u
       ];
       stack_is = i.on;
@@ -514,10 +587,11 @@ duty_on false w outer i =
           rw (lt-ltb 0 w.core.control.demand (omega arith)) (duty_flag tick.Lower false w.bank.flag (pwm_asked_at w.back) (demand_at w.back)
               (pwm_entered_at w.back) w.bank.time refl (flag_tie w outer (tick.DutyOn false) i)),
         )
-        | kind.Comm ↦ λ ne u. retimed (drive_seen w) tick.Lower (λ e l. elim (low_tie w outer (tick.DutyOn false) i l) [
+        | kind.Comm ↦ λ ne u. retimed (drive_seen w) tick.Lower (λ e l s. elim (low_tie w outer (tick.DutyOn false) i l) [
           | inl q ↦ (let z : false ≡ true = q.0 in cc)
-          | inr q ↦ q.1
+          | inr q ↦ timer_retimed (drive_seen w) tick.Lower q.1
         ]) u
+        | kind.Cmp ↦ λ ne u. cross_retimed (cross_seen w) tick.Lower (sym (ap ends_drive i.place_is)) u
         | j ↦ λ ne u. u
       ];
       stack_is = i.on;
@@ -544,7 +618,8 @@ starts w outer i =
           same_flag tick.Start tick.Lower w.bank.flag (pwm_asked_at w.back) (demand_at w.back) (pwm_entered_at w.back) w.bank.time refl
               (flag_tie w outer tick.Start i),
         )
-        | kind.Comm ↦ λ ne u. timed (drive_seen w) tick.Lower i.comm_is (λ l. inr (w.bank.time, refl, omega arith, low_tie w outer tick.Start i l)) u
+        | kind.Comm ↦ λ ne u. timed (drive_seen w) tick.Lower i.comm_is (λ l. inr (w.bank.time, refl, omega arith, (let q = low_tie w outer tick.Start i l in record { started = q.started; due = q.due }))) u
+        | kind.Cmp ↦ λ ne u. cross_retimed (cross_seen w) tick.Lower (sym (ap ends_drive i.place_is)) u
         | j ↦ λ ne u. u
       ];
       stack_is = i.on;
@@ -572,7 +647,8 @@ steps tick.Raise w outer i left = record {
       same_flag tick.Raise tick.Read w.bank.flag (pwm_asked_at w.back) (demand_at w.back) (pwm_entered_at w.back) w.bank.time refl
           (flag_tie w outer tick.Raise i),
     )
-    | kind.Comm ↦ λ ne u. retimed (drive_seen w) tick.Read (λ e l. low_tie w outer tick.Raise i l) u
+    | kind.Comm ↦ λ ne u. retimed (drive_seen w) tick.Read (λ e l s. timer_retimed (drive_seen w) tick.Read (low_tie w outer tick.Raise i l)) u
+    | kind.Cmp ↦ λ ne u. cross_retimed (cross_seen w) tick.Read (sym (ap ends_drive i.place_is)) u
     | j ↦ λ ne u. u
   ];
   stack_is = i.on;
@@ -603,7 +679,8 @@ steps tick.Lower w outer i left = record {
       same_flag tick.Lower tick.Back w.bank.flag (pwm_asked_at w.back) (demand_at w.back) (pwm_entered_at w.back) w.bank.time refl
           (flag_tie w outer tick.Lower i),
     )
-    | kind.Comm ↦ λ ne u. retimed (drive_seen w) tick.Back (λ e l. low_tie w outer tick.Lower i l) u
+    | kind.Comm ↦ λ ne u. retimed (drive_seen w) tick.Back (λ e l s. timer_retimed (drive_seen w) tick.Back (low_tie w outer tick.Lower i l)) u
+    | kind.Cmp ↦ λ ne u. cross_retimed (cross_seen w) tick.Back (sym (ap ends_drive i.place_is)) u
     | j ↦ λ ne u. u
   ];
   stack_is = i.on;
@@ -639,7 +716,8 @@ steps tick.Back w outer i left = record {
       same_flag tick.Back tick.Shut w.bank.flag (pwm_asked_at w.back) (demand_at w.back) (pwm_entered_at w.back) w.bank.time refl
           (flag_tie w outer tick.Back i),
     )
-    | kind.Comm ↦ λ ne u. retimed (drive_seen w) tick.Shut (λ e l. low_tie w outer tick.Back i l) u
+    | kind.Comm ↦ λ ne u. retimed (drive_seen w) tick.Shut (λ e l s. timer_retimed (drive_seen w) tick.Shut (low_tie w outer tick.Back i l)) u
+    | kind.Cmp ↦ λ ne u. cross_retimed (cross_seen w) tick.Shut (sym (ap ends_drive i.place_is)) u
     | j ↦ λ ne u. u
   ];
   stack_is = popped (so_far w).stack kind.Tick outer i.on;
@@ -714,7 +792,9 @@ tick_law = record {
           (tick_shut w.core.tick_at none) (t kind.Pwm).1),
     )
     | kind.Comm ↦ λ ne. retimed (drive_seen w) tick.Raise
-        (λ e l. subst (λ (p : TickAt). LowTied p (drive_seen w)) (tick_shut w.core.tick_at none) ((t kind.Comm).low e l)) (t kind.Comm)
+        (λ e l s. timer_retimed (drive_seen w) tick.Raise
+        (subst (λ (p : TickAt). LowTied p (drive_seen w)) (tick_shut w.core.tick_at none) ((t kind.Comm).low e l s))) (t kind.Comm)
+    | kind.Cmp ↦ λ ne. cross_retimed (cross_seen w) tick.Raise (sym (ap ends_drive (tick_shut w.core.tick_at none))) (t kind.Cmp)
     | j ↦ λ ne. t j
   ];
   steps = λ w answers outer g t above alone past on left. steps w.core.tick_at w outer (record {
@@ -724,6 +804,7 @@ tick_law = record {
     place_is = refl;
     comm_is = comm_shut w.core.comm_at w.core.drive.turn.at (above kind.Comm (omega arith));
     pwm_is = pwm_shut w.core.pwm_at (above kind.Pwm (omega arith));
+    cmp_is = cmp_shut w.core.cmp_at (above kind.Cmp (omega arith));
   }) left;
   later = λ w u from small g t. (
     later w.core.tick_at w.bank.number_read w.bank.time u (so_far w).ticks from (t kind.Tick).0,

@@ -258,6 +258,12 @@ is_marking comm.Arm at = true
 is_marking comm.Stick at = true
 is_marking place at = false
 
+-- the row of forced Q has ended, by a start or by a Z
+abbrev pub IsUnforced : Turn → Type 0
+IsUnforced Started = Unit {0}
+IsUnforced (Crossed q z) = Unit {0}
+IsUnforced turn = ⊥
+
 -- when the next sector change is due
 abbrev pub ChangeTied : ℕ → Turn → ℕ → ℕ → Type 0
 ChangeTied wait Idle at time = ⊥
@@ -317,7 +323,7 @@ pub record DriveTied (v : DriveView) : Type 0 where
   -- the row of forced ones, and the stuck mark
   pub turned : 0 < v.demand → v.drive.turned ≡ is_forced v.turn
   pub forced : v.drive.forced ≡ min 60 v.told_forced
-  pub unforced : v.turn ≡ Started → v.told_forced ≡ 0
+  pub unforced : IsUnforced v.turn → v.told_forced ≡ 0
   pub rest_unmarked : v.demand ≡ 0 → v.told_stuck ≡ false
   pub stuck : 0 < v.demand → v.told_stuck ≡ (v.stuck || is_stuck v.drive)
   pub marked : 0 < v.demand → is_marking v.comm_at v.drive.turn.at ≡ false → is_stuck v.drive ≡ true → v.stuck ≡ true

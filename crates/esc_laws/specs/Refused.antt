@@ -14,6 +14,7 @@ use Rattle.interrupt_machine.specs.declared.nest.Nest.{Nest}
 use Rattle.interrupt_machine.specs.declared.nest.Nest.TheVariants.{One, Full}
 use Rattle.arming.specs.Controlled.{Controlled}
 use Rattle.esc_laws.specs.Windowed.{Windowed}
+use Rattle.esc_laws.specs.Saves.{advance_of}
 use Rattle.esc_laws.specs.Nested.{NestedAfter}
 use Rattle.esc_laws.specs.Steps.{Turned, opening, open_in, own_steps, EachStep, StepFits, OpenFew}
 use Rattle.esc_laws.specs.Legal.{Legal}
@@ -153,7 +154,7 @@ pub record WindowsRefuse : Type 0 where
 
 -- these notes, behind the first two, don't nest, whatever stands behind them
 abbrev pub Unnested : Nest → List Note → Type 0
-Unnested nest notes = (loaded : Loaded) (after : List Note) → NestedAfter nest (opening loaded) (notes ++ after) → ⊥
+Unnested nest notes = (loaded : Loaded) (after : List Note) → NestedAfter (advance_of loaded.settings) nest (opening loaded) (notes ++ after) → ⊥
 
 pub record NestingRefuses : Type 0 where
   -- O stands for the innermost open kind
@@ -165,7 +166,6 @@ pub record NestingRefuses : Type 0 where
   pub enters_above_another_with_nest_1 : Unnested One (enters 2400 2 ∷ enters 2402 3 ∷ [])
   -- kinds that aren't built don't enter
   pub uart_enters : (nest : Nest) → Unnested nest (enters 2400 1 ∷ [])
-  pub cmp_enters : (nest : Nest) → Unnested nest (enters 2400 4 ∷ [])
   -- W, F and M stand in CAP; K, A and X in TICK; P in MAIN
   pub window_in_tick : (nest : Nest) → Unnested nest (enters 2400 2 ∷ window 2402 0 ∷ [])
   pub verdict_where_none_is_open : (nest : Nest) → Unnested nest (nothing 5000 ∷ [])

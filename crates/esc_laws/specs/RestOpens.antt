@@ -13,6 +13,7 @@ use Rattle.interrupt_machine.specs.Open.{is_open}
 use Rattle.interrupt_machine.specs.Response.{counts}
 use Rattle.esc_laws.specs.Place.{Rests, place}
 use Rattle.esc_laws.specs.Rested.{first_rested}
+use Rattle.esc_laws.specs.Saves.{advance_of}
 use Rattle.esc_laws.specs.Nested.{NestedAfter}
 use Rattle.esc_laws.specs.Windowed.{Windowed}
 use Rattle.esc_laws.specs.Steps.{Turned, opening, journal, open_in, EachStep, StepFits}
@@ -52,7 +53,7 @@ abbrev pub CapOpensWindow : Type 0
 CapOpensWindow =
     (loaded : Loaded) (nest : Nest) (trace : List Event) (before through after : List Note) (f r : ℕ) (t u : Tick)
     → Windowed loaded trace (opening loaded ++ (before ++ (note.Enter t 3 ∷ through ++ note.Leave u 3 ∷ after)))
-    → NestedAfter nest (opening loaded) (before ++ (note.Enter t 3 ∷ through ++ note.Leave u 3 ∷ after))
+    → NestedAfter (advance_of loaded.settings) nest (opening loaded) (before ++ (note.Enter t 3 ∷ through ++ note.Leave u 3 ∷ after))
     → (place (opening loaded ++ before)).signal ≡ Rests f r
     → All OpensNone through
     → ⊥
