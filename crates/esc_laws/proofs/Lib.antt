@@ -38,5 +38,6 @@ pub mod Start
 pub mod Carried
 pub mod FlashSteps
 pub mod Refused
+pub mod RefusedCrossings
 pub mod RefusedSteps
 pub mod Allowed

@@ -149,7 +149,7 @@ windows_refuse = record {
 
 -- ---- nesting
 
-nest_fits : (nest : Nest) (loaded : Loaded) (notes after : List Note) (n : Note) → NestedAfter (advance_of loaded.settings) nest (opening loaded) (notes ++ n ∷ after)
+pub nest_fits : (nest : Nest) (loaded : Loaded) (notes after : List Note) (n : Note) → NestedAfter (advance_of loaded.settings) nest (opening loaded) (notes ++ n ∷ after)
     → NestRuleAt (advance_of loaded.settings) nest (placed (reverse (opening loaded ++ notes))) (reverse (opening loaded ++ notes)) n
 nest_fits nest loaded notes after n whole =
     subst (λ (p : Place). NestRuleAt (advance_of loaded.settings) nest p (reverse (opening loaded ++ notes)) n) (sym (placed-is (opening loaded ++ notes))) (each_at (NestRule (advance_of loaded.settings) nest) (opening loaded) notes n after whole)

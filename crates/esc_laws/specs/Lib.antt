@@ -15,6 +15,7 @@ pub mod Legal
 pub mod Saves
 -- what is shown of them
 pub mod Refused
+pub mod RefusedCrossings
 pub mod Allowed
 -- the machinery that proves a run legal
 pub mod Tied

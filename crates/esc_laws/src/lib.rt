@@ -5,7 +5,9 @@
 mod shown;
 mod signal_laws;
 
-pub use shown::{control_refuses, nesting_refuses, some_are_legal, steps_refuse, windows_refuse};
+pub use shown::{
+    activations_refuse, control_refuses, crossed_turns_refuse, crossings_refuse, nesting_refuses, searches_refuse, some_are_legal, steps_refuse, windows_refuse,
+};
 pub use signal_laws::{
     cap_opens_window, first_rested_tick, rest_calls_cap, sent_frame_is_read, whole_signal_is_heard,
 };

@@ -1,0 +1,5 @@
+use Rattle.esc_laws.proofs.RefusedCrossings.{crossed_turns_refuse}
+use Rattle.esc_laws.proofs.shown.crossed_turns_refuse.Goals as goal
+
+pub returns : goal.returns
+returns c = crossed_turns_refuse
