@@ -26,6 +26,8 @@ pub mod TickRoom
 pub mod CapRoom
 pub mod PwmRoom
 pub mod CommRoom
+pub mod CmpFacts
+pub mod CmpEvents
 pub mod CmpRoom
 pub mod Laws
 pub mod Stages
