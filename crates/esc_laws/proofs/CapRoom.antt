@@ -409,7 +409,7 @@ cap_law = record {
     (t kind.Cap).1,
     timer_off (so_far w).signal (line w.trace).edges w.made.cap_past None,
   );
-  beside = λ w g t unheld none due past. elim [ kind.Cap ↦ λ ne. absurd (ne refl) | j ↦ λ ne. t j ];
+  beside = λ w g t unheld none due past high. elim [ kind.Cap ↦ λ ne. absurd (ne refl) | j ↦ λ ne. t j ];
   steps = λ w answers outer g t above alone past on left.
       steps (so_far w).signal w.core.cap_at w outer g (t kind.Cap).1 refl (t kind.Cap).0 (t kind.Cap).2 past.cap on (comm_shut w.core.comm_at w.core.drive.turn.at (above kind.Comm (omega arith))) left;
   later = λ w u from small g t. later w u from (t kind.Cap);

@@ -1,6 +1,444 @@
 -- CMP's room.
+use Rattle.std.proofs.Common.{◌≡◌, ◌≢◌, ◌≤◌, ◌<◌, ◌+◌, ◌-◌, ◌⊎◌, inl, inr, ℕ, Bool, true, false, not, ◌&&◌, ◌||◌, ◌==◌, min, nat_lt, nat_le, if◌then◌else◌, List, [], ◌∷◌, ◌++◌, Option, Some, None, refl, sym, ◌∙◌, ap, subst, arith}
+use Rattle.std.proofs.lemmas.Bool.{cases_Bool, cases_lt, le-leb, leb-true, not-true}
+use Rattle.std.proofs.lemmas.Bool.Decides.{nat_tests}
+use Rattle.esc_base.specs.declared.kind.Kind.{Kind}
 use Rattle.esc_base.specs.declared.kind.Kind.TheVariants as kind
-use Rattle.esc_laws.proofs.Law.{HandlerLaw}
+use Rattle.esc_base.specs.declared.event.Event.{Event}
+use Rattle.esc_base.specs.declared.event.Event.TheVariants as event
+use Rattle.esc_base.specs.declared.note.Note.{Note}
+use Rattle.esc_base.specs.declared.note.Note.TheVariants as note
+use Rattle.esc_base.specs.declared.tick.Tick.{Tick}
+use Rattle.esc_base.specs.Numbers.{as_tick, kind_number}
+use Rattle.esc_base.specs.Times.{is_reached}
+use Rattle.esc_base.specs.Trace.{differ, tick_of}
+use Rattle.timer_regs.specs.Bank.{Bank}
+use Rattle.timer_regs.specs.Effects.{after_comp}
+use Rattle.timer_regs.specs.declared.regs.Reg.TheVariants as reg
+use Rattle.interrupt_machine.specs.Did.{NoAccess, Reads, Writes, accessed}
+use Rattle.interrupt_machine.specs.Open.{innermost, due_now}
+use Rattle.zero_cross.specs.declared.phase.Phase.{Phase}
+use Rattle.zero_cross.specs.declared.phase.Phase.TheVariants as phase
+use Rattle.zero_cross.specs.Comparator.{Held, held, held_to, is_steady}
+use Rattle.zero_cross.specs.Kept.{Kept, is_expected, is_clean, after_changed, until, MayFilter}
+use Rattle.commutation.specs.Commutated.{Turn, Idle, Started, Turned, Crossed, crossed_by, is_forced, sector_at, turn_at, forced_at, stuck_at}
+use Rattle.commutation.specs.Pace.{Pace, paced, wait_of}
+use Rattle.commutation.specs.Drive.{pace_at, wait_at}
+use Rattle.commutation.specs.Sectors.{high_of, low_of}
+use Rattle.arming.specs.ControlAt.{demand_at}
+use Rattle.esc_core.specs.declared.state.CmpAt.{CmpAt}
+use Rattle.esc_core.specs.declared.state.CmpAt.TheVariants as cmp
+use Rattle.esc_core.specs.declared.state.CommAt.{CommAt}
+use Rattle.esc_core.specs.declared.state.CommAt.TheVariants as comm
+use Rattle.esc_core.specs.declared.drive.Drive.{Drive}
+use Rattle.esc_core.specs.Drive.{is_stuck, low_free, due_at, arms, in_phase, crossed}
+use Rattle.esc_core.specs.Cmp.{ready_step, judged_step, passes, blank_step, filter_step, look_step, may_filter, ack_step, cmp_step}
+use Rattle.esc_core.specs.Stepped.{Stepped, goes_on}
+use Rattle.esc_core.specs.Calls.{Answer}
+use Rattle.esc_core.specs.Firmware.{cmp_left, tick_need}
+use Rattle.esc_laws.specs.Calls.{turned_at}
+use Rattle.esc_laws.specs.Crossed.{blanked_at, expects_at, IsCrossing, MayCross}
+use Rattle.esc_laws.specs.Searched.{Sight, Away, Begun, Awaits, First, Settles, Second, calls_cmp, sight_at, quiet_at, HasCrossed}
+use Rattle.esc_laws.specs.Saves.{advance_of, forward_at}
+use Rattle.esc_laws.specs.DriveTied.{DriveView, DriveTied, CommTied, LowTied, TimerKept, IsStarted, ChangeTied, commutes, low_on, is_marking}
+use Rattle.esc_laws.specs.CrossTied.{CrossView, CrossTied, PhaseTied, RegsTied, Waits, HasQ, HasZ, IsEarly, SightTied, SecondTied, LateTied, begins_search, ends_drive, is_shut}
+use Rattle.esc_laws.specs.World.{World, so_far, noted, enters, after_enter, after_step, at_time, after_outside}
+use Rattle.esc_laws.specs.Rooms.{Ground, Ties, Tie, Above, Unheld, HoldsAlone, Past, StepKeeps, Fits, drive_seen, cross_seen}
+use Rattle.esc_laws.proofs.Comparator.{steady_of, steady_by, since_past, held_stays, held-push, held_now, bit_steady, bit_event}
+use Rattle.esc_laws.proofs.RoomSteps.{quiet_gates, ground_noted, inside, popped}
+use Rattle.esc_laws.proofs.DriveFacts.{comm_shut, timer_kept, apart_legs, low_kept}
+use Rattle.esc_laws.proofs.CrossFacts.{cmp_shut, cmp_unmasked, tick_unmasked, unmasked_commutes}
+use Rattle.esc_laws.proofs.CmpFacts.{Stands, Free, stands, Goes, goes, cmp_moves, cmp_view, raised, looked_off, looked_done, looked_early, looked_ready, looked_unready, looked_watch, looked_reject, acked, armed, enabled, commuted, lowered, returned, accepted}
+use Rattle.esc_laws.proofs.CmpEvents.{cross_later, cross_changes, seen_due, cross_entered}
+use Rattle.esc_laws.proofs.Law.{HandlerLaw, Highest}
+
+-- ---- what holds before each own step of CMP
+
+free_at : (w : World) → w.core.comm_at ≡ comm.Shut → 8 < tick_need w.core.tick_at → Past w.made w.bank.time → Free (cross_seen w)
+free_at w closed unmasked past = record {
+  closed = closed;
+  no_search = rw closed refl;
+  goes = tick_unmasked w.core.tick_at unmasked;
+  past = past.cmp;
+  since = since_past w.trace w.bank.time;
+}
+
+record IsCmp (w : World) (outer : List Kind) (place : CmpAt) : Type 0 where
+  ground : Ground w
+  ties : Ties w
+  on : (so_far w).stack ≡ kind.Cmp ∷ outer
+  place_is : w.core.cmp_at ≡ place
+  comm_is : w.core.comm_at ≡ comm.Shut
+  unmasked : 8 < tick_need w.core.tick_at
+  past : Past w.made w.bank.time
+
+free_of : (w : World) (outer : List Kind) (place : CmpAt) → IsCmp w outer place → Free (cross_seen w)
+free_of w outer place i = free_at w i.comm_is i.unmasked i.past
+
+stands_at : (w : World) (outer : List Kind) (place : CmpAt) (p : Phase) → IsCmp w outer place → w.core.drive.crossing.phase ≡ p → Stands (cross_seen w) place p
+stands_at w outer place p i e = stands (cross_seen w) place p i.place_is e (free_of w outer place i) (i.ties kind.Cmp)
+
+-- ---- the drive beside a step that doesn't commute
+
+abbrev pub searched_view : DriveView → CmpAt → Kept → DriveView
+searched_view v at search = record v { cmp_at = at; drive = record v.drive { crossing = search } }
+
+pub searched_drive : (v : DriveView) (at : CmpAt) (search : Kept) → v.comm_at ≡ comm.Shut → commutes v.cmp_at ≡ false → commutes at ≡ false → DriveTied v
+    → DriveTied (searched_view v at search)
+searched_drive v at search shut was is t = record {
+  sector_is = t.sector_is;
+  sectors = t.sectors;
+  pair = t.pair;
+  held = t.held;
+  soon = t.soon;
+  outer = t.outer;
+  unused = t.unused;
+  past = t.past;
+  since = t.since;
+  to_is = t.to_is;
+  at_low = t.at_low;
+  idle = t.idle;
+  due = t.due;
+  first = t.first;
+  turned = t.turned;
+  forced = t.forced;
+  unforced = t.unforced;
+  rest_unmarked = t.rest_unmarked;
+  stuck = t.stuck;
+  marked = t.marked;
+  place = subst (λ (x : CommAt). CommTied x (searched_view v at search)) (sym shut) tt;
+  low = λ e d s. low_kept v.tick_at v (searched_view v at search) timer (λ c. record { started = c.started; due = c.due }) (t.low e d was);
+  crossed = λ e. absurd (let z : false ≡ true = sym is ∙ e in cc);
+  postponed = t.postponed;
+}
+  where
+    timer : TimerKept v → TimerKept (searched_view v at search)
+    timer (inl e) = inl e
+    timer (inr (n, e, l, c)) = inr (n, e, l, record { started = c.started; due = c.due })
+
+-- a step without a note, that leaves the commutation timer
+quiet_drive : (w : World) (outer : List Kind) (place at : CmpAt) (search : Kept) → commutes place ≡ false → commutes at ≡ false → IsCmp w outer place
+    → DriveTied (searched_view (drive_seen w) at search)
+quiet_drive w outer place at search was is i =
+    searched_drive (drive_seen w) at search i.comm_is (subst (λ (x : CmpAt). commutes x ≡ false) (sym i.place_is) was) is (i.ties kind.Comm)
+
+not_shut : (w : World) (outer : List Kind) (place : CmpAt) → is_shut place ≡ false → IsCmp w outer place → is_shut w.core.cmp_at ≡ false
+not_shut w outer place e i = subst (λ (x : CmpAt). is_shut x ≡ false) (sym i.place_is) e
+
+-- ---- it raises the mask
+
+raises : (w : World) (outer : List Kind) → IsCmp w outer cmp.Raise → StepKeeps kind.Cmp outer w (cmp_step cmp.Raise w.core w.bank)
+raises w outer i = record {
+  gates = quiet_gates kind.Cmp w _ (λ e. cc) refl refl refl;
+  fits = λ told. tt;
+  ground = i.ground;
+  tie = λ told. cmp_moves (cross_seen w) cmp.Look w.core.drive.crossing w.bank.comp_changed w.bank.comp_enabled w.bank.crossing (not_shut w outer cmp.Raise refl i)
+      (free_of w outer cmp.Raise i) (i.ties kind.Cmp)
+      (goes (cross_seen w) cmp.Look w.core.drive.crossing.phase w.core.drive.crossing w.bank.comp_changed w.bank.comp_enabled w.bank.crossing refl refl
+      (raised (cross_seen w) w.core.drive.crossing.phase (free_of w outer cmp.Raise i) (stands_at w outer cmp.Raise w.core.drive.crossing.phase i refl)));
+  others = elim [
+    | kind.Cmp ↦ λ ne u. absurd (ne refl)
+    | kind.Comm ↦ λ ne u. quiet_drive w outer cmp.Raise cmp.Look w.core.drive.crossing refl refl i
+    | j ↦ λ ne u. u
+  ];
+  stack_is = i.on;
+}
+
+-- ---- it looks
+
+passes_off : (w : World) (outer : List Kind) → w.core.drive.crossing.phase ≡ phase.Off → IsCmp w outer cmp.Look → StepKeeps kind.Cmp outer w (passes w.core)
+passes_off w outer e i = record {
+  gates = quiet_gates kind.Cmp w _ (λ e. cc) refl refl refl;
+  fits = λ told. tt;
+  ground = i.ground;
+  tie = λ told. cmp_moves (cross_seen w) cmp.Lower (w.core.drive.crossing) (w.bank.comp_changed) (w.bank.comp_enabled) (w.bank.crossing) (not_shut w outer cmp.Look refl i)
+      (free_of w outer cmp.Look i) (i.ties kind.Cmp)
+      (goes (cross_seen w) cmp.Lower (phase.Off) (w.core.drive.crossing) (w.bank.comp_changed) (w.bank.comp_enabled) (w.bank.crossing) e refl
+      (looked_off (cross_seen w) (free_of w outer cmp.Look i) (stands_at w outer cmp.Look phase.Off i e)));
+  others = elim [
+    | kind.Cmp ↦ λ ne u. absurd (ne refl)
+    | kind.Comm ↦ λ ne u. quiet_drive w outer cmp.Look cmp.Lower (w.core.drive.crossing) refl refl i
+    | j ↦ λ ne u. u
+  ];
+  stack_is = i.on;
+}
+
+passes_done : (w : World) (outer : List Kind) → w.core.drive.crossing.phase ≡ phase.Done → IsCmp w outer cmp.Look → StepKeeps kind.Cmp outer w (passes w.core)
+passes_done w outer e i = record {
+  gates = quiet_gates kind.Cmp w _ (λ e. cc) refl refl refl;
+  fits = λ told. tt;
+  ground = i.ground;
+  tie = λ told. cmp_moves (cross_seen w) cmp.Lower (w.core.drive.crossing) (w.bank.comp_changed) (w.bank.comp_enabled) (w.bank.crossing) (not_shut w outer cmp.Look refl i)
+      (free_of w outer cmp.Look i) (i.ties kind.Cmp)
+      (goes (cross_seen w) cmp.Lower (phase.Done) (w.core.drive.crossing) (w.bank.comp_changed) (w.bank.comp_enabled) (w.bank.crossing) e refl
+      (looked_done (cross_seen w) (free_of w outer cmp.Look i) (stands_at w outer cmp.Look phase.Done i e)));
+  others = elim [
+    | kind.Cmp ↦ λ ne u. absurd (ne refl)
+    | kind.Comm ↦ λ ne u. quiet_drive w outer cmp.Look cmp.Lower (w.core.drive.crossing) refl refl i
+    | j ↦ λ ne u. u
+  ];
+  stack_is = i.on;
+}
+
+begins_early : (end : Tick) (w : World) (outer : List Kind) → w.core.drive.crossing.phase ≡ phase.Blank end → nat_le end.0 w.bank.time ≡ false → IsCmp w outer cmp.Look → StepKeeps kind.Cmp outer w (passes w.core)
+begins_early end w outer e early i = record {
+  gates = quiet_gates kind.Cmp w _ (λ e. cc) refl refl refl;
+  fits = λ told. tt;
+  ground = i.ground;
+  tie = λ told. cmp_moves (cross_seen w) cmp.Lower (w.core.drive.crossing) (w.bank.comp_changed) (w.bank.comp_enabled) (w.bank.crossing) (not_shut w outer cmp.Look refl i)
+      (free_of w outer cmp.Look i) (i.ties kind.Cmp)
+      (goes (cross_seen w) cmp.Lower (phase.Blank end) (w.core.drive.crossing) (w.bank.comp_changed) (w.bank.comp_enabled) (w.bank.crossing) e refl
+      (looked_early (cross_seen w) end.0 early (free_of w outer cmp.Look i) (stands_at w outer cmp.Look (phase.Blank end) i e)));
+  others = elim [
+    | kind.Cmp ↦ λ ne u. absurd (ne refl)
+    | kind.Comm ↦ λ ne u. quiet_drive w outer cmp.Look cmp.Lower (w.core.drive.crossing) refl refl i
+    | j ↦ λ ne u. u
+  ];
+  stack_is = i.on;
+}
+
+is_ready : (end : Tick) (w : World) (outer : List Kind) → w.core.drive.crossing.phase ≡ phase.Blank end → nat_le end.0 w.bank.time ≡ true
+    → is_expected w.core.drive.crossing w.bank.comp ≡ true → IsCmp w outer cmp.Look → StepKeeps kind.Cmp outer w (ready_step true w.core w.bank)
+is_ready end w outer e over well i = record {
+  gates = quiet_gates kind.Cmp w _ (λ e. cc) refl refl refl;
+  fits = λ told. tt;
+  ground = i.ground;
+  tie = λ told. cmp_moves (cross_seen w) cmp.Ack (w.core.drive.crossing) (w.bank.comp_changed) (w.bank.comp_enabled) (w.bank.crossing) (not_shut w outer cmp.Look refl i)
+      (free_of w outer cmp.Look i) (i.ties kind.Cmp)
+      (goes (cross_seen w) cmp.Ack (phase.Blank end) (w.core.drive.crossing) (w.bank.comp_changed) (w.bank.comp_enabled) (w.bank.crossing) e refl
+      (looked_ready (cross_seen w) end.0 over well (free_of w outer cmp.Look i) (stands_at w outer cmp.Look (phase.Blank end) i e)));
+  others = elim [
+    | kind.Cmp ↦ λ ne u. absurd (ne refl)
+    | kind.Comm ↦ λ ne u. quiet_drive w outer cmp.Look cmp.Ack (w.core.drive.crossing) refl refl i
+    | j ↦ λ ne u. u
+  ];
+  stack_is = i.on;
+}
+
+isnt_ready : (end : Tick) (w : World) (outer : List Kind) → w.core.drive.crossing.phase ≡ phase.Blank end → nat_le end.0 w.bank.time ≡ true
+    → is_expected w.core.drive.crossing w.bank.comp ≡ false → IsCmp w outer cmp.Look → StepKeeps kind.Cmp outer w (ready_step false w.core w.bank)
+isnt_ready end w outer e over ill i = record {
+  gates = quiet_gates kind.Cmp w _ (λ e. cc) refl refl refl;
+  fits = λ told. tt;
+  ground = i.ground;
+  tie = λ told. cmp_moves (cross_seen w) cmp.Enable (record w.core.drive.crossing { phase = phase.Watch }) (w.bank.comp_changed) (w.bank.comp_enabled) (w.bank.crossing) (not_shut w outer cmp.Look refl i)
+      (free_of w outer cmp.Look i) (i.ties kind.Cmp)
+      (goes (cross_seen w) cmp.Enable (phase.Watch) (record w.core.drive.crossing { phase = phase.Watch }) (w.bank.comp_changed) (w.bank.comp_enabled) (w.bank.crossing) refl refl
+      (looked_unready (cross_seen w) end.0 over ill (free_of w outer cmp.Look i) (i.ties kind.Cmp) (stands_at w outer cmp.Look (phase.Blank end) i e)));
+  others = elim [
+    | kind.Cmp ↦ λ ne u. absurd (ne refl)
+    | kind.Comm ↦ λ ne u. quiet_drive w outer cmp.Look cmp.Enable (record w.core.drive.crossing { phase = phase.Watch }) refl refl i
+    | j ↦ λ ne u. u
+  ];
+  stack_is = i.on;
+}
+
+watches : (w : World) (outer : List Kind) → w.core.drive.crossing.phase ≡ phase.Watch → IsCmp w outer cmp.Look → StepKeeps kind.Cmp outer w (goes_on (record w.core { cmp_at = cmp.Ack }) NoAccess)
+watches w outer e i = record {
+  gates = quiet_gates kind.Cmp w _ (λ e. cc) refl refl refl;
+  fits = λ told. tt;
+  ground = i.ground;
+  tie = λ told. cmp_moves (cross_seen w) cmp.Ack (w.core.drive.crossing) (w.bank.comp_changed) (w.bank.comp_enabled) (w.bank.crossing) (not_shut w outer cmp.Look refl i)
+      (free_of w outer cmp.Look i) (i.ties kind.Cmp)
+      (goes (cross_seen w) cmp.Ack (phase.Watch) (w.core.drive.crossing) (w.bank.comp_changed) (w.bank.comp_enabled) (w.bank.crossing) e refl
+      (looked_watch (cross_seen w) (free_of w outer cmp.Look i) (stands_at w outer cmp.Look phase.Watch i e)));
+  others = elim [
+    | kind.Cmp ↦ λ ne u. absurd (ne refl)
+    | kind.Comm ↦ λ ne u. quiet_drive w outer cmp.Look cmp.Ack (w.core.drive.crossing) refl refl i
+    | j ↦ λ ne u. u
+  ];
+  stack_is = i.on;
+}
+
+rejects : (end : Tick) (w : World) (outer : List Kind) → w.core.drive.crossing.phase ≡ phase.Filter end → nat_le end.0 w.bank.time ≡ true
+    → is_clean w.core.drive.crossing w.bank.comp w.bank.comp_changed ≡ false → IsCmp w outer cmp.Look → StepKeeps kind.Cmp outer w (judged_step false w.core w.bank)
+rejects end w outer e over ill i = record {
+  gates = quiet_gates kind.Cmp w _ (λ e. cc) refl refl refl;
+  fits = λ told. tt;
+  ground = i.ground;
+  tie = λ told. cmp_moves (cross_seen w) cmp.Arm (record w.core.drive.crossing { phase = phase.Blank (as_tick (w.bank.time + 400)) }) (w.bank.comp_changed) (w.bank.comp_enabled) (w.bank.crossing) (not_shut w outer cmp.Look refl i)
+      (free_of w outer cmp.Look i) (i.ties kind.Cmp)
+      (goes (cross_seen w) cmp.Arm (phase.Blank (as_tick (w.bank.time + 400))) (record w.core.drive.crossing { phase = phase.Blank (as_tick (w.bank.time + 400)) }) (w.bank.comp_changed) (w.bank.comp_enabled) (w.bank.crossing) refl refl
+      (looked_reject (cross_seen w) end.0 over ill (free_of w outer cmp.Look i) (i.ties kind.Cmp) (stands_at w outer cmp.Look (phase.Filter end) i e)));
+  others = elim [
+    | kind.Cmp ↦ λ ne u. absurd (ne refl)
+    | kind.Comm ↦ λ ne u. quiet_drive w outer cmp.Look cmp.Arm (record w.core.drive.crossing { phase = phase.Blank (as_tick (w.bank.time + 400)) }) refl refl i
+    | j ↦ λ ne u. u
+  ];
+  stack_is = i.on;
+}
+
+-- a crossing is accepted
+accepts : (end : Tick) (w : World) (outer : List Kind) → w.core.drive.crossing.phase ≡ phase.Filter end → nat_le end.0 w.bank.time ≡ true
+    → is_clean w.core.drive.crossing w.bank.comp w.bank.comp_changed ≡ true → IsCmp w outer cmp.Look
+    → StepKeeps kind.Cmp outer w (judged_step true w.core w.bank)
+accepts end w outer e over well i = ?
+
+by_expected : (v : Bool) (end : Tick) (w : World) (outer : List Kind) → w.core.drive.crossing.phase ≡ phase.Blank end → nat_le end.0 w.bank.time ≡ true
+    → is_expected w.core.drive.crossing w.bank.comp ≡ v → IsCmp w outer cmp.Look → StepKeeps kind.Cmp outer w (ready_step v w.core w.bank)
+by_expected true end w outer e over well i = is_ready end w outer e over well i
+by_expected false end w outer e over ill i = isnt_ready end w outer e over ill i
+
+by_blank : (v : Bool) (end : Tick) (w : World) (outer : List Kind) → w.core.drive.crossing.phase ≡ phase.Blank end → nat_le end.0 w.bank.time ≡ v
+    → IsCmp w outer cmp.Look → StepKeeps kind.Cmp outer w (blank_step v w.core w.bank)
+by_blank true end w outer e over i = by_expected (is_expected w.core.drive.crossing w.bank.comp) end w outer e over refl i
+by_blank false end w outer e early i = begins_early end w outer e early i
+
+by_clean : (v : Bool) (end : Tick) (w : World) (outer : List Kind) → w.core.drive.crossing.phase ≡ phase.Filter end → nat_le end.0 w.bank.time ≡ true
+    → is_clean w.core.drive.crossing w.bank.comp w.bank.comp_changed ≡ v → IsCmp w outer cmp.Look → StepKeeps kind.Cmp outer w (judged_step v w.core w.bank)
+by_clean true end w outer e over well i = accepts end w outer e over well i
+by_clean false end w outer e over ill i = rejects end w outer e over ill i
+
+-- CMP comes no earlier than the filter's end
+by_filter : (v : Bool) (end : Tick) (w : World) (outer : List Kind) → w.core.drive.crossing.phase ≡ phase.Filter end → nat_le end.0 w.bank.time ≡ v
+    → IsCmp w outer cmp.Look → StepKeeps kind.Cmp outer w (filter_step v w.core w.bank)
+by_filter true end w outer e over i = by_clean (is_clean w.core.drive.crossing w.bank.comp w.bank.comp_changed) end w outer e over refl i
+by_filter false end w outer e early i = absurd (
+    let l : end.0 ≤ w.bank.time = (stands_at w outer cmp.Look (phase.Filter end) i e).regs.0.1 in
+    let g : nat_le end.0 w.bank.time ≡ true = le-leb end.0 w.bank.time l in
+    let z : false ≡ true = sym early ∙ g in cc)
+
+looks : (p : Phase) (w : World) (outer : List Kind) → w.core.drive.crossing.phase ≡ p → IsCmp w outer cmp.Look
+    → StepKeeps kind.Cmp outer w (look_step p w.core w.bank)
+looks phase.Off w outer e i = passes_off w outer e i
+looks (phase.Blank end) w outer e i = by_blank (nat_le end.0 w.bank.time) end w outer e refl i
+looks phase.Watch w outer e i = watches w outer e i
+looks (phase.Filter end) w outer e i = by_filter (nat_le end.0 w.bank.time) end w outer e refl i
+looks phase.Done w outer e i = passes_done w outer e i
+
+-- ---- a filter begins
+
+acks : (w : World) (outer : List Kind) → IsCmp w outer cmp.Ack → StepKeeps kind.Cmp outer w (ack_step true w.core w.bank)
+acks w outer i = record {
+  gates = quiet_gates kind.Cmp w _ (λ e. cc) refl refl refl;
+  fits = λ told. tt;
+  ground = i.ground;
+  tie = λ told. cmp_moves (cross_seen w) cmp.Arm (after_changed w.core.drive.crossing w.bank.time) (false) (w.bank.comp_enabled) (w.bank.crossing) (not_shut w outer cmp.Ack refl i)
+      (free_of w outer cmp.Ack i) (i.ties kind.Cmp)
+      (goes (cross_seen w) cmp.Arm (phase.Filter (as_tick (w.bank.time + 24))) (after_changed w.core.drive.crossing w.bank.time) (false) (w.bank.comp_enabled) (w.bank.crossing) refl refl
+      (acked (cross_seen w) w.core.drive.crossing.phase (free_of w outer cmp.Ack i) (stands_at w outer cmp.Ack w.core.drive.crossing.phase i refl)));
+  others = elim [
+    | kind.Cmp ↦ λ ne u. absurd (ne refl)
+    | kind.Comm ↦ λ ne u. quiet_drive w outer cmp.Ack cmp.Arm (after_changed w.core.drive.crossing w.bank.time) refl refl i
+    | j ↦ λ ne u. u
+  ];
+  stack_is = i.on;
+}
+
+may_is : (p : Phase) (t : ℕ) → MayFilter p t → may_filter p t ≡ true
+may_is (phase.Blank end) t m = le-leb end.0 t m
+may_is phase.Watch t m = refl
+may_is phase.Off t m = absurd m
+may_is (phase.Filter end) t m = absurd m
+may_is phase.Done t m = absurd m
+
+by_may : (v : Bool) (w : World) (outer : List Kind) → may_filter w.core.drive.crossing.phase w.bank.time ≡ v → IsCmp w outer cmp.Ack
+    → StepKeeps kind.Cmp outer w (ack_step v w.core w.bank)
+by_may true w outer e i = acks w outer i
+by_may false w outer e i = absurd (
+    let m = may_is w.core.drive.crossing.phase w.bank.time (stands_at w outer cmp.Ack w.core.drive.crossing.phase i refl).regs in
+    let z : false ≡ true = sym e ∙ m in cc)
+
+-- ---- the registers are written
+
+arms_blank : (end : Tick) (w : World) (outer : List Kind) → w.core.drive.crossing.phase ≡ phase.Blank end → IsCmp w outer cmp.Arm → StepKeeps kind.Cmp outer w (goes_on (record w.core { cmp_at = cmp.Lower }) (Writes reg.CmpAt end.0))
+arms_blank end w outer e i = record {
+  gates = quiet_gates kind.Cmp w _ (λ e. cc) refl refl refl;
+  fits = λ told. tt;
+  ground = i.ground;
+  tie = λ told. cmp_moves (cross_seen w) cmp.Lower (w.core.drive.crossing) (w.bank.comp_changed) (false) (Some end.0) (not_shut w outer cmp.Arm refl i)
+      (free_of w outer cmp.Arm i) (i.ties kind.Cmp)
+      (goes (cross_seen w) cmp.Lower (phase.Blank end) (w.core.drive.crossing) (w.bank.comp_changed) (false) (Some end.0) e refl
+      (armed (cross_seen w) (phase.Blank end) end.0 (inl refl) (free_of w outer cmp.Arm i) (stands_at w outer cmp.Arm (phase.Blank end) i e)));
+  others = elim [
+    | kind.Cmp ↦ λ ne u. absurd (ne refl)
+    | kind.Comm ↦ λ ne u. quiet_drive w outer cmp.Arm cmp.Lower (w.core.drive.crossing) refl refl i
+    | j ↦ λ ne u. u
+  ];
+  stack_is = i.on;
+}
+
+arms_filter : (end : Tick) (w : World) (outer : List Kind) → w.core.drive.crossing.phase ≡ phase.Filter end → IsCmp w outer cmp.Arm → StepKeeps kind.Cmp outer w (goes_on (record w.core { cmp_at = cmp.Lower }) (Writes reg.CmpAt end.0))
+arms_filter end w outer e i = record {
+  gates = quiet_gates kind.Cmp w _ (λ e. cc) refl refl refl;
+  fits = λ told. tt;
+  ground = i.ground;
+  tie = λ told. cmp_moves (cross_seen w) cmp.Lower (w.core.drive.crossing) (w.bank.comp_changed) (false) (Some end.0) (not_shut w outer cmp.Arm refl i)
+      (free_of w outer cmp.Arm i) (i.ties kind.Cmp)
+      (goes (cross_seen w) cmp.Lower (phase.Filter end) (w.core.drive.crossing) (w.bank.comp_changed) (false) (Some end.0) e refl
+      (armed (cross_seen w) (phase.Filter end) end.0 (inr refl) (free_of w outer cmp.Arm i) (stands_at w outer cmp.Arm (phase.Filter end) i e)));
+  others = elim [
+    | kind.Cmp ↦ λ ne u. absurd (ne refl)
+    | kind.Comm ↦ λ ne u. quiet_drive w outer cmp.Arm cmp.Lower (w.core.drive.crossing) refl refl i
+    | j ↦ λ ne u. u
+  ];
+  stack_is = i.on;
+}
+
+arms_by : (p : Phase) (w : World) (outer : List Kind) → w.core.drive.crossing.phase ≡ p → IsCmp w outer cmp.Arm
+    → StepKeeps kind.Cmp outer w (goes_on (record w.core { cmp_at = cmp.Lower }) (arms (until p)))
+arms_by (phase.Blank end) w outer e i = arms_blank end w outer e i
+arms_by (phase.Filter end) w outer e i = arms_filter end w outer e i
+arms_by phase.Off w outer e i = absurd (stands_at w outer cmp.Arm phase.Off i e).regs
+arms_by phase.Watch w outer e i = absurd (stands_at w outer cmp.Arm phase.Watch i e).regs
+arms_by phase.Done w outer e i = absurd (stands_at w outer cmp.Arm phase.Done i e).regs
+
+enables_at : (w : World) (outer : List Kind) → w.core.drive.crossing.phase ≡ phase.Watch → IsCmp w outer cmp.Enable → StepKeeps kind.Cmp outer w (cmp_step cmp.Enable w.core w.bank)
+enables_at w outer e i = record {
+  gates = quiet_gates kind.Cmp w _ (λ e. cc) refl refl refl;
+  fits = λ told. tt;
+  ground = i.ground;
+  tie = λ told. cmp_moves (cross_seen w) cmp.Lower (w.core.drive.crossing) (w.bank.comp_changed && false) (w.bank.comp_enabled || true) (w.bank.crossing) (not_shut w outer cmp.Enable refl i)
+      (free_of w outer cmp.Enable i) (i.ties kind.Cmp)
+      (goes (cross_seen w) cmp.Lower (phase.Watch) (w.core.drive.crossing) (w.bank.comp_changed && false) (w.bank.comp_enabled || true) (w.bank.crossing) e refl
+      (enabled (cross_seen w) (free_of w outer cmp.Enable i) (stands_at w outer cmp.Enable phase.Watch i e)));
+  others = elim [
+    | kind.Cmp ↦ λ ne u. absurd (ne refl)
+    | kind.Comm ↦ λ ne u. quiet_drive w outer cmp.Enable cmp.Lower (w.core.drive.crossing) refl refl i
+    | j ↦ λ ne u. u
+  ];
+  stack_is = i.on;
+}
+
+-- the time of the sector change is set
+commutes_at : (w : World) (outer : List Kind) → w.core.drive.crossing.phase ≡ phase.Done → IsCmp w outer cmp.Commute
+    → StepKeeps kind.Cmp outer w (cmp_step cmp.Commute w.core w.bank)
+commutes_at w outer e i = ?
+
+-- ---- it lowers the mask, and returns
+
+lowers : (w : World) (outer : List Kind) → IsCmp w outer cmp.Lower → StepKeeps kind.Cmp outer w (cmp_step cmp.Lower w.core w.bank)
+lowers w outer i = record {
+  gates = quiet_gates kind.Cmp w _ (λ e. cc) refl refl refl;
+  fits = λ told. tt;
+  ground = i.ground;
+  tie = λ told. cmp_moves (cross_seen w) cmp.Back (w.core.drive.crossing) (w.bank.comp_changed) (w.bank.comp_enabled) (w.bank.crossing) (not_shut w outer cmp.Lower refl i)
+      (free_of w outer cmp.Lower i) (i.ties kind.Cmp)
+      (goes (cross_seen w) cmp.Back (w.core.drive.crossing.phase) (w.core.drive.crossing) (w.bank.comp_changed) (w.bank.comp_enabled) (w.bank.crossing) refl refl
+      (lowered (cross_seen w) w.core.drive.crossing.phase (free_of w outer cmp.Lower i) (stands_at w outer cmp.Lower w.core.drive.crossing.phase i refl)));
+  others = elim [
+    | kind.Cmp ↦ λ ne u. absurd (ne refl)
+    | kind.Comm ↦ λ ne u. quiet_drive w outer cmp.Lower cmp.Back (w.core.drive.crossing) refl refl i
+    | j ↦ λ ne u. u
+  ];
+  stack_is = i.on;
+}
+
+returns : (w : World) (outer : List Kind) → IsCmp w outer cmp.Back → StepKeeps kind.Cmp outer w (cmp_step cmp.Back w.core w.bank)
+returns w outer i = ?
+
+-- ---- all its steps
+
+steps : (place : CmpAt) (w : World) (outer : List Kind) → IsCmp w outer place → 0 < cmp_left place → StepKeeps kind.Cmp outer w (cmp_step place w.core w.bank)
+steps cmp.Shut w outer i left = absurd (omega arith)
+steps cmp.Raise w outer i left = raises w outer i
+steps cmp.Look w outer i left = looks w.core.drive.crossing.phase w outer refl i
+steps cmp.Ack w outer i left = by_may (may_filter w.core.drive.crossing.phase w.bank.time) w outer refl i
+steps cmp.Arm w outer i left = arms_by w.core.drive.crossing.phase w outer refl i
+steps cmp.Enable w outer i left = enables_at w outer (stands_at w outer cmp.Enable w.core.drive.crossing.phase i refl).regs i
+steps cmp.Commute w outer i left = commutes_at w outer (stands_at w outer cmp.Commute w.core.drive.crossing.phase i refl).regs.0 i
+steps cmp.Lower w outer i left = lowers w outer i
+steps cmp.Back w outer i left = returns w outer i
 
 pub cmp_law : HandlerLaw kind.Cmp
 cmp_law = ?

@@ -1371,7 +1371,7 @@ comm_law = record {
   called = λ w g t told unheld none s. called w t told unheld (comm_shut w.core.comm_at w.core.drive.turn.at none) s;
   asked = λ w g t unheld due. (tt, tt);
   entered = λ w g t unheld none due past high. entered w t unheld (comm_shut w.core.comm_at w.core.drive.turn.at none) due past.comm;
-  beside = λ w g t unheld none due past. elim [
+  beside = λ w g t unheld none due past high. elim [
     | kind.Comm ↦ λ ne. absurd (ne refl)
     | kind.Tick ↦ λ ne. (
       (t kind.Tick).0,

@@ -28,7 +28,7 @@ pub record HandlerLaw (k : Kind) : Type 0 where
   pub entered : (w : World) → Ground w → Ties w → Unheld w → left_of w.core k ≡ 0 → due_now w.core.orders.save_asked w.bank k ≡ true → Past w.made w.bank.time
       → Highest k w → Tie k (after_enter k w)
   pub beside : (w : World) → Ground w → Ties w → Unheld w → left_of w.core k ≡ 0 → due_now w.core.orders.save_asked w.bank k ≡ true → Past w.made w.bank.time
-      → (j : Kind) → j ≢ k → Tie j (after_enter k w)
+      → Highest k w → (j : Kind) → j ≢ k → Tie j (after_enter k w)
   -- each of its steps, the return too, whatever the flash answers
   pub steps : (w : World) (answers : List Answer) (outer : List Kind) → Ground w → Ties w → Above k w → HoldsAlone k w → Past w.made w.bank.time
       → (so_far w).stack ≡ k ∷ outer → 0 < left_of w.core k

@@ -437,7 +437,7 @@ pwm_law = record {
       past = omega arith;
     },
   );
-  beside = λ w g t unheld none due past. elim [
+  beside = λ w g t unheld none due past high. elim [
     | kind.Pwm ↦ λ ne. absurd (ne refl)
     | kind.Tick ↦ λ ne. (
       (t kind.Tick).0,

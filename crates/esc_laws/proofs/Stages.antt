@@ -333,7 +333,7 @@ enter_stood k loaded nest trace c b made rest stack i past none unheld due high 
       ground = subst (λ (ns : List Note). Ground (record (after_enter k w) { back = ns })) back (ground_enter k w i.ground);
       ties = λ j. subst (λ (ns : List Note). Tie j (record (after_enter k w) { back = ns })) back (elim (same_kind j k) [
         | inl e ↦ subst (λ (x : Kind). Tie x (after_enter k w)) (sym e) ((law k).entered w i.ground i.ties unheld none due past high)
-        | inr ne ↦ (law k).beside w i.ground i.ties unheld none due past j ne
+        | inr ne ↦ (law k).beside w i.ground i.ties unheld none due past high j ne
       ]);
       stack_is = ap (λ (ns : List Note). (place ns).stack) (sym (append_assoc (opening loaded) rest (n ∷ [])))
           ∙ ap (λ (p : Place). p.stack) (place-push (opening loaded ++ rest) n) ∙ enter_stack k (place (opening loaded ++ rest)) b.time

@@ -783,7 +783,7 @@ tick_law = record {
       comm_shut = ((t kind.Tick).4 z).comm_shut;
     },
   );
-  beside = λ w g t unheld none due past. elim [
+  beside = λ w g t unheld none due past high. elim [
     | kind.Tick ↦ λ ne. absurd (ne refl)
     | kind.Pwm ↦ λ ne. (
       (t kind.Pwm).0,
