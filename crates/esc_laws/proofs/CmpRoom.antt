@@ -30,6 +30,8 @@ use Rattle.esc_core.specs.declared.state.CmpAt.{CmpAt}
 use Rattle.esc_core.specs.declared.state.CmpAt.TheVariants as cmp
 use Rattle.esc_core.specs.declared.state.CommAt.{CommAt}
 use Rattle.esc_core.specs.declared.state.CommAt.TheVariants as comm
+use Rattle.esc_core.specs.declared.state.TickAt.{TickAt}
+use Rattle.esc_core.specs.declared.state.TickAt.TheVariants as tick
 use Rattle.esc_core.specs.declared.drive.Drive.{Drive}
 use Rattle.esc_core.specs.Drive.{is_stuck, low_free, due_at, arms, in_phase, crossed}
 use Rattle.esc_core.specs.Cmp.{ready_step, judged_step, passes, blank_step, filter_step, look_step, may_filter, ack_step, cmp_step}
@@ -43,7 +45,7 @@ use Rattle.esc_laws.specs.Saves.{advance_of, forward_at}
 use Rattle.esc_laws.specs.DriveTied.{DriveView, DriveTied, CommTied, LowTied, TimerKept, IsStarted, ChangeTied, commutes, low_on, is_marking}
 use Rattle.esc_laws.specs.CrossTied.{CrossView, CrossTied, PhaseTied, RegsTied, Waits, HasQ, HasZ, IsEarly, SightTied, SecondTied, LateTied, begins_search, ends_drive, is_shut}
 use Rattle.esc_laws.specs.World.{World, so_far, noted, enters, after_enter, after_step, at_time, after_outside}
-use Rattle.esc_laws.specs.Rooms.{Ground, Ties, Tie, Above, Unheld, HoldsAlone, Past, StepKeeps, Fits, drive_seen, cross_seen}
+use Rattle.esc_laws.specs.Rooms.{IsInTime, Ground, Ties, Tie, Above, Unheld, HoldsAlone, Past, StepKeeps, Fits, drive_seen, cross_seen}
 use Rattle.esc_laws.proofs.Comparator.{steady_of, steady_by, since_past, held_stays, held-push, held_now, bit_steady, bit_event}
 use Rattle.esc_laws.proofs.RoomSteps.{quiet_gates, ground_noted, inside, popped}
 use Rattle.esc_laws.proofs.DriveFacts.{comm_shut, timer_kept, apart_legs, low_kept}
@@ -268,11 +270,150 @@ rejects end w outer e over ill i = record {
   stack_is = i.on;
 }
 
+-- after a Q there is a demand
+q_drives : (turn : Turn) (demand : ℕ) → HasQ turn → (demand ≡ 0 → turn ≡ Idle) → 0 < demand
+q_drives turn demand q idle = elim (cases_lt 0 demand) [
+  | inl l ↦ l
+  | inr z ↦ absurd (subst (λ (x : Turn). HasQ x) (idle (omega arith)) q)
+]
+
+may_cross : (trace : List Event) (expects : Bool) (blanked z : ℕ) (turn : Turn) → HasQ turn → IsCrossing trace expects blanked z
+    → MayCross trace expects blanked turn z
+may_cross trace expects blanked z (Turned q) h c = c
+may_cross trace expects blanked z Idle h c = absurd h
+may_cross trace expects blanked z Started h c = absurd h
+may_cross trace expects blanked z (Crossed q y) h c = absurd h
+
+and_not : (well changed : Bool) → (well && not changed) ≡ true → (well ≡ true) × (changed ≡ false)
+and_not true false e = (refl, refl)
+and_not true true e = cc
+and_not false changed e = cc
+
+-- the level has stood since the filter began
+is_crossing : (w : World) (outer : List Kind) (end : Tick) → IsCmp w outer cmp.Look → w.core.drive.crossing.phase ≡ phase.Filter end → end.0 ≤ w.bank.time
+    → is_clean w.core.drive.crossing w.bank.comp w.bank.comp_changed ≡ true
+    → IsCrossing w.trace (cross_seen w).expects (blanked_at w.back) w.bank.time
+is_crossing w outer end i e over well =
+    let u = i.ties kind.Cmp in
+    let f = (stands_at w outer cmp.Look (phase.Filter end) i e).phase_is.1 in
+    let h : Held = held w.trace w.bank.time in
+    let two = and_not (is_expected w.core.drive.crossing w.bank.comp) w.bank.comp_changed well in
+    let level : differ h.level (cross_seen w).expects ≡ false =
+    subst (λ (x : Bool). differ x (cross_seen w).expects ≡ false) u.level_is
+    (subst (λ (x : Bool). differ w.bank.comp x ≡ false) u.expects_is (not-true (differ w.bank.comp w.core.drive.crossing.expects) two.0)) in
+    record {
+      steady = steady_of w.trace (cross_seen w).expects (w.bank.time - 24) w.bank.time (omega arith) i.ground.in_time
+          (bit_steady h (cross_seen w).expects w.bank.comp_changed f.begun (w.bank.time - 24) f.bit (let a = f.end_is in omega arith) two.1 level);
+      blanked_before = (let a = f.end_is in let b = f.after in omega arith);
+    }
+
+-- where COMM wasn't late, the low switch is on
+low_up : (v : DriveView) → HasQ v.turn → v.drive.postponed ≡ false → TimerKept v → (low_on v ≡ true) × (v.drive.postponed ≡ false)
+low_up v q prompt (inl (e, inl on)) = on
+low_up v q prompt (inl (e, inr late)) = absurd (let z : false ≡ true = sym prompt ∙ late in cc)
+low_up v q prompt (inr (at, e, l, c)) = absurd (subst (λ (x : Turn). HasQ x) c.started q)
+
+crossed_change : (turn : Turn) (wait z at time : ℕ) → HasQ turn → at ≡ z + wait → ChangeTied wait (crossed_by turn z) at time
+crossed_change (Turned q) wait z at time h e = e
+crossed_change Idle wait z at time h e = absurd h
+crossed_change Started wait z at time h e = absurd h
+crossed_change (Crossed q y) wait z at time h e = absurd h
+
+unforced_now : (turn : Turn) (z : ℕ) → HasQ turn → false ≡ is_forced (crossed_by turn z)
+unforced_now (Turned q) z h = refl
+unforced_now Idle z h = absurd h
+unforced_now Started z h = absurd h
+unforced_now (Crossed q y) z h = absurd h
+
+told_mark : (told stuck a : Bool) → told ≡ (stuck || a) → (a ≡ true → stuck ≡ true) → told ≡ (stuck || false)
+told_mark told true a e m = e
+told_mark told false true e m = (let z : false ≡ true = m refl in cc)
+told_mark told false false e m = e
+
+-- the drive after a crossing at now
+abbrev crossed_drive_view : DriveView → Drive → ℕ → DriveView
+crossed_drive_view v d wait =
+    record v { drive = d; cmp_at = cmp.Commute; turn = crossed_by v.turn v.time; wait = wait; told_forced = 0 }
+
+crossed_drive : (v : DriveView) (wait : ℕ) → v.comm_at ≡ comm.Shut → HasQ v.turn → low_on v ≡ true → v.drive.postponed ≡ false
+    → wait_of v.drive.timing.advance (paced v.drive.timing.pace (as_tick v.time)).interval ≡ wait → DriveTied v
+    → DriveTied (crossed_drive_view v (crossed v.drive v.time) wait)
+crossed_drive v wait shut q on prompt same t =
+    let some : 0 < v.sector = (t.pair.low (low_of v.sector) on).1 in
+    record {
+      sector_is = t.sector_is;
+      sectors = t.sectors;
+      pair = t.pair;
+      held = t.held;
+      soon = t.soon;
+      outer = t.outer;
+      unused = t.unused;
+      past = t.past;
+      since = t.since;
+      to_is = t.to_is;
+      at_low = t.at_low;
+      idle = λ z. absurd (let l = q_drives v.turn v.demand q t.idle in omega arith);
+      due = λ l. crossed_change v.turn wait v.time _ v.time q (ap (λ (x : ℕ). v.time + x) same);
+      first = λ z l. absurd (omega arith);
+      turned = λ l. unforced_now v.turn v.time q;
+      forced = refl;
+      unforced = λ x. refl;
+      rest_unmarked = t.rest_unmarked;
+      stuck = λ l. told_mark v.told_stuck v.stuck (is_stuck v.drive) (t.stuck l) (t.marked l (rw shut refl));
+      marked = λ l m x. cc;
+      place = subst (λ (x : CommAt). CommTied x (crossed_drive_view v (crossed v.drive v.time) wait)) (sym shut) tt;
+      low = λ e l x. cc;
+      crossed = λ e. (on, prompt);
+      postponed = t.postponed;
+    }
+
 -- a crossing is accepted
 accepts : (end : Tick) (w : World) (outer : List Kind) → w.core.drive.crossing.phase ≡ phase.Filter end → nat_le end.0 w.bank.time ≡ true
     → is_clean w.core.drive.crossing w.bank.comp w.bank.comp_changed ≡ true → IsCmp w outer cmp.Look
     → StepKeeps kind.Cmp outer w (judged_step true w.core w.bank)
-accepts end w outer e over well i = ?
+accepts end w outer e over well i =
+    let u = i.ties kind.Cmp in
+    let t = i.ties kind.Comm in
+    let st = stands_at w outer cmp.Look (phase.Filter end) i e in
+    let q : HasQ (turn_at w.back) = st.phase_is.0 in
+    let some : 0 < demand_at w.back = q_drives (turn_at w.back) (demand_at w.back) q t.idle in
+    let told : paced w.core.drive.timing.pace (as_tick w.bank.time) ≡ paced (pace_at w.back) (as_tick w.bank.time) =
+    ap (λ (p : Pace). paced p (as_tick w.bank.time)) u.pace_is in
+    let wait : wait_of w.core.drive.timing.advance (paced w.core.drive.timing.pace (as_tick w.bank.time)).interval
+        ≡ wait_of (advance_of w.loaded.settings) (paced (pace_at w.back) (as_tick w.bank.time)).interval =
+    ap (λ (a : ℕ). wait_of a (paced w.core.drive.timing.pace (as_tick w.bank.time)).interval) u.advance_is
+    ∙ ap (λ (p : Pace). wait_of (advance_of w.loaded.settings) p.interval) told in
+    let kept : TimerKept (drive_seen w) =
+    timer_kept w.core.tick_at (drive_seen w) i.unmasked (t.low i.comm_is some (subst (λ (x : CmpAt). commutes x ≡ false) (sym i.place_is) refl)) in
+    let up = low_up (drive_seen w) q st.late kept in
+    record {
+      gates = quiet_gates kind.Cmp w _ (λ f. cc) refl refl refl;
+      fits = λ g. (
+        record {
+          at = refl;
+          owned = refl;
+          window = tt;
+          nest = inside (so_far w).stack kind.Cmp outer i.on;
+          driven = some;
+          turns = tt;
+          crossed = may_cross w.trace (cross_seen w).expects (blanked_at w.back) w.bank.time (turn_at w.back) q
+              (is_crossing w outer end i e (leb-true end.0 w.bank.time over) well);
+          searched = tt;
+          waits = tt;
+        },
+        tt,
+      );
+      ground = ground_noted w (note.Cross (as_tick w.bank.time)) refl refl tt refl i.ground;
+      tie = λ g. accepted (cross_seen w) end.0 (paced w.core.drive.timing.pace (as_tick w.bank.time)) (paced (pace_at w.back) (as_tick w.bank.time)) told
+          i.place_is (free_of w outer cmp.Look i) u st;
+      others = elim [
+        | kind.Cmp ↦ λ ne v. absurd (ne refl)
+        | kind.Comm ↦ λ ne v. crossed_drive (drive_seen w) (wait_at (advance_of w.loaded.settings) (note.Cross (as_tick w.bank.time) ∷ w.back))
+            i.comm_is q up.0 up.1 wait t
+        | j ↦ λ ne v. v
+      ];
+      stack_is = i.on;
+    }
 
 by_expected : (v : Bool) (end : Tick) (w : World) (outer : List Kind) → w.core.drive.crossing.phase ≡ phase.Blank end → nat_le end.0 w.bank.time ≡ true
     → is_expected w.core.drive.crossing w.bank.comp ≡ v → IsCmp w outer cmp.Look → StepKeeps kind.Cmp outer w (ready_step v w.core w.bank)
@@ -400,10 +541,77 @@ enables_at w outer e i = record {
   stack_is = i.on;
 }
 
+z_drives : (turn : Turn) (demand : ℕ) → HasZ turn → (demand ≡ 0 → turn ≡ Idle) → 0 < demand
+z_drives turn demand q idle = elim (cases_lt 0 demand) [
+  | inl l ↦ l
+  | inr z ↦ absurd (subst (λ (x : Turn). HasZ x) (idle (omega arith)) q)
+]
+
+low_timed : (at : TickAt) (v : DriveView) → 8 < tick_need at → TimerKept v → LowTied at v
+low_timed tick.Shut v l k = k
+low_timed tick.Raise v l k = k
+low_timed tick.Back v l k = k
+low_timed tick.Read v l k = k
+low_timed tick.Lower v l k = k
+low_timed (tick.Off at) v l k = tt
+low_timed tick.DutyOff v l k = tt
+low_timed tick.DriveOff v l k = tt
+low_timed (tick.DutyOn start) v l k = absurd (omega arith)
+low_timed tick.Start v l k = absurd (omega arith)
+
+abbrev timed_view : DriveView → DriveView
+timed_view v = record v { cmp_at = cmp.Lower; timer = Some (due_at v.drive) }
+
+timed_drive : (v : DriveView) → v.comm_at ≡ comm.Shut → 8 < tick_need v.tick_at → commutes v.cmp_at ≡ true → DriveTied v → DriveTied (timed_view v)
+timed_drive v shut unmasked was t = record {
+  sector_is = t.sector_is;
+  sectors = t.sectors;
+  pair = t.pair;
+  held = t.held;
+  soon = t.soon;
+  outer = t.outer;
+  unused = t.unused;
+  past = t.past;
+  since = t.since;
+  to_is = t.to_is;
+  at_low = t.at_low;
+  idle = t.idle;
+  due = t.due;
+  first = t.first;
+  turned = t.turned;
+  forced = t.forced;
+  unforced = t.unforced;
+  rest_unmarked = t.rest_unmarked;
+  stuck = t.stuck;
+  marked = t.marked;
+  place = subst (λ (x : CommAt). CommTied x (timed_view v)) (sym shut) tt;
+  low = λ e d s. low_timed v.tick_at (timed_view v) unmasked (inl (refl, inl (t.crossed was)));
+  crossed = λ e. cc;
+  postponed = t.postponed;
+}
+
 -- the time of the sector change is set
 commutes_at : (w : World) (outer : List Kind) → w.core.drive.crossing.phase ≡ phase.Done → IsCmp w outer cmp.Commute
     → StepKeeps kind.Cmp outer w (cmp_step cmp.Commute w.core w.bank)
-commutes_at w outer e i = ?
+commutes_at w outer e i =
+    let st = stands_at w outer cmp.Commute phase.Done i e in
+    let some : 0 < demand_at w.back = z_drives (turn_at w.back) (demand_at w.back) st.phase_is (i.ties kind.Comm).idle in
+    record {
+      gates = quiet_gates kind.Cmp w _ (λ f. cc) refl refl refl;
+      fits = λ told. tt;
+      ground = i.ground;
+      tie = λ told. cmp_moves (cross_seen w) cmp.Lower w.core.drive.crossing w.bank.comp_changed w.bank.comp_enabled w.bank.crossing
+          (not_shut w outer cmp.Commute refl i) (free_of w outer cmp.Commute i) (i.ties kind.Cmp)
+          (goes (cross_seen w) cmp.Lower phase.Done w.core.drive.crossing w.bank.comp_changed w.bank.comp_enabled w.bank.crossing e refl
+          (commuted (cross_seen w) (free_of w outer cmp.Commute i) st));
+      others = elim [
+        | kind.Cmp ↦ λ ne u. absurd (ne refl)
+        | kind.Comm ↦ λ ne u. timed_drive (drive_seen w) i.comm_is i.unmasked (rw i.place_is refl) u
+        | kind.Tick ↦ λ ne u. (u.0, u.1, u.2, u.3, λ z. absurd (omega arith))
+        | j ↦ λ ne u. u
+      ];
+      stack_is = i.on;
+    }
 
 -- ---- it lowers the mask, and returns
 
@@ -424,8 +632,43 @@ lowers w outer i = record {
   stack_is = i.on;
 }
 
+-- with the Z that is owed
+has_crossed : (trace : List Event) (expects : Bool) (t : ℕ) (s : Sight) (p : Phase) (blanked past : ℕ) → past ≤ t → IsInTime 0 trace
+    → SightTied s cmp.Back p (held trace t) expects blanked t past → HasCrossed trace expects s t
+has_crossed trace expects t (Second i z) p blanked past le order s = λ st. s.1 (steady_by trace expects i t (let a = s.0 in omega arith) order st)
+has_crossed trace expects t Away p blanked past le order s = tt
+has_crossed trace expects t Begun p blanked past le order s = tt
+has_crossed trace expects t (Awaits u) p blanked past le order s = tt
+has_crossed trace expects t (First i) p blanked past le order s = tt
+has_crossed trace expects t (Settles i u) p blanked past le order s = tt
+
 returns : (w : World) (outer : List Kind) → IsCmp w outer cmp.Back → StepKeeps kind.Cmp outer w (cmp_step cmp.Back w.core w.bank)
-returns w outer i = ?
+returns w outer i = record {
+  gates = quiet_gates kind.Cmp w _ (λ e. cc) refl refl refl;
+  fits = λ told. (
+    record {
+      at = refl;
+      owned = refl;
+      window = λ e. cc;
+      nest = (inside (so_far w).stack kind.Cmp outer i.on, tt);
+      driven = λ e. cc;
+      turns = tt;
+      crossed = tt;
+      searched = λ four. has_crossed w.trace (cross_seen w).expects w.bank.time (sight_at w.back) w.core.drive.crossing.phase (blanked_at w.back) w.made.cmp_past
+          i.past.cmp i.ground.in_time (stands_at w outer cmp.Back w.core.drive.crossing.phase i refl).seen;
+      waits = tt;
+    },
+    tt,
+  );
+  ground = ground_noted w (note.Leave (as_tick w.bank.time) 4) refl refl tt refl i.ground;
+  tie = λ told. returned (cross_seen w) (free_of w outer cmp.Back i) (i.ties kind.Cmp) (stands_at w outer cmp.Back w.core.drive.crossing.phase i refl);
+  others = elim [
+    | kind.Cmp ↦ λ ne u. absurd (ne refl)
+    | kind.Comm ↦ λ ne u. quiet_drive w outer cmp.Back cmp.Shut w.core.drive.crossing refl refl i
+    | j ↦ λ ne u. u
+  ];
+  stack_is = popped (so_far w).stack kind.Cmp outer i.on;
+}
 
 -- ---- all its steps
 
