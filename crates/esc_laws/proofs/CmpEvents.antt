@@ -270,7 +270,7 @@ seen_due (Second i z) p h expects changed blanked time past timer enabled e a s 
 
 -- ---- CMP is entered
 
-reached_at : (timer : Option ℕ) (enabled changed : Bool) (end time : ℕ) → timer ≡ Some end → enabled ≡ false
+pub reached_at : (timer : Option ℕ) (enabled changed : Bool) (end time : ℕ) → timer ≡ Some end → enabled ≡ false
     → (is_reached timer time || (enabled && changed)) ≡ true → end ≤ time
 reached_at timer enabled changed end time c h d = by_test (nat_le end time) refl (rw (c, h) at d)
   where

@@ -1,5 +1,5 @@
 -- CMP's room.
-use Rattle.std.proofs.Common.{◌≡◌, ◌≢◌, ◌≤◌, ◌<◌, ◌+◌, ◌-◌, ◌⊎◌, inl, inr, ℕ, Bool, true, false, not, ◌&&◌, ◌||◌, ◌==◌, min, nat_lt, nat_le, if◌then◌else◌, List, [], ◌∷◌, ◌++◌, Option, Some, None, refl, sym, ◌∙◌, ap, subst, arith}
+use Rattle.std.proofs.Common.{zero, suc, ◌≡◌, ◌≢◌, ◌≤◌, ◌<◌, ◌+◌, ◌-◌, ◌⊎◌, inl, inr, ℕ, Bool, true, false, not, ◌&&◌, ◌||◌, ◌==◌, min, nat_lt, nat_le, if◌then◌else◌, List, [], ◌∷◌, ◌++◌, Option, Some, None, refl, sym, ◌∙◌, ap, subst, arith}
 use Rattle.std.proofs.lemmas.Bool.{cases_Bool, cases_lt, le-leb, leb-true, not-true}
 use Rattle.std.proofs.lemmas.Bool.Decides.{nat_tests}
 use Rattle.esc_base.specs.declared.kind.Kind.{Kind}
@@ -23,7 +23,9 @@ use Rattle.zero_cross.specs.Comparator.{Held, held, held_to, is_steady}
 use Rattle.zero_cross.specs.Kept.{Kept, is_expected, is_clean, after_changed, until, MayFilter}
 use Rattle.commutation.specs.Commutated.{Turn, Idle, Started, Turned, Crossed, crossed_by, is_forced, sector_at, turn_at, forced_at, stuck_at}
 use Rattle.commutation.specs.Pace.{Pace, paced, wait_of}
-use Rattle.commutation.specs.Drive.{pace_at, wait_at}
+use Rattle.zero_cross.specs.Sector.{blanking_of}
+use Rattle.gate_driver.specs.Gated.{at_leg}
+use Rattle.commutation.specs.Drive.{pace_at, wait_at, interval_at, rests_at}
 use Rattle.commutation.specs.Sectors.{high_of, low_of}
 use Rattle.arming.specs.ControlAt.{demand_at}
 use Rattle.esc_core.specs.declared.state.CmpAt.{CmpAt}
@@ -51,7 +53,7 @@ use Rattle.esc_laws.proofs.RoomSteps.{quiet_gates, ground_noted, inside, popped}
 use Rattle.esc_laws.proofs.DriveFacts.{comm_shut, timer_kept, apart_legs, low_kept}
 use Rattle.esc_laws.proofs.CrossFacts.{cmp_shut, cmp_unmasked, tick_unmasked, unmasked_commutes}
 use Rattle.esc_laws.proofs.CmpFacts.{Stands, Free, stands, Goes, goes, cmp_moves, cmp_view, raised, looked_off, looked_done, looked_early, looked_ready, looked_unready, looked_watch, looked_reject, acked, armed, enabled, commuted, lowered, returned, accepted}
-use Rattle.esc_laws.proofs.CmpEvents.{cross_later, cross_changes, seen_due, cross_entered}
+use Rattle.esc_laws.proofs.CmpEvents.{reached_at, cross_later, cross_changes, seen_due, cross_entered}
 use Rattle.esc_laws.proofs.Law.{HandlerLaw, Highest}
 
 -- ---- what holds before each own step of CMP
@@ -683,5 +685,178 @@ steps cmp.Commute w outer i left = commutes_at w outer (stands_at w outer cmp.Co
 steps cmp.Lower w outer i left = lowers w outer i
 steps cmp.Back w outer i left = returns w outer i
 
+-- ---- what the notes call is due
+
+early_calls : (h : Held) (expects : Bool) (s : Sight) (t : ℕ) → IsEarly s → calls_cmp h expects s t ≡ true → ⊥
+early_calls h expects Away t e c = (let z : false ≡ true = c in cc)
+early_calls h expects Begun t e c = (let z : false ≡ true = c in cc)
+early_calls h expects (Awaits u) t e c = absurd e
+early_calls h expects (First i) t e c = absurd e
+early_calls h expects (Settles i u) t e c = absurd e
+early_calls h expects (Second i z) t e c = absurd e
+
+called : (w : World) → Ties w → Unheld w → w.core.cmp_at ≡ cmp.Shut
+    → calls_cmp (held w.trace w.bank.time) (expects_at (forward_at w.loaded.settings) w.back) (sight_at w.back) w.bank.time ≡ true
+    → (is_reached w.bank.crossing w.bank.time || (w.bank.comp_enabled && w.bank.comp_changed)) ≡ true
+called w t unheld shut c = by_search (begins_search w.core.comm_at w.core.drive.turn.at) refl
+  where
+    u : CrossTied (cross_seen w)
+    u = t kind.Cmp
+
+    by_search : (v : Bool) → begins_search w.core.comm_at w.core.drive.turn.at ≡ v
+        → (is_reached w.bank.crossing w.bank.time || (w.bank.comp_enabled && w.bank.comp_changed)) ≡ true
+    by_search true e = absurd (early_calls (held w.trace w.bank.time) (expects_at (forward_at w.loaded.settings) w.back) (sight_at w.back) w.bank.time
+        (u.begins e).early c)
+    by_search false e =
+        seen_due (sight_at w.back) w.core.drive.crossing.phase (held w.trace w.bank.time) (expects_at (forward_at w.loaded.settings) w.back) w.bank.comp_changed
+        (blanked_at w.back) w.bank.time w.made.cmp_past w.bank.crossing w.bank.comp_enabled c
+        (subst (λ (x : CmpAt). RegsTied x w.core.drive.crossing.phase w.bank.crossing w.bank.comp_enabled w.bank.time) shut
+        (u.regs e (tick_unmasked w.core.tick_at (unheld kind.Tick))))
+        (subst (λ (x : CmpAt). SightTied (sight_at w.back) x w.core.drive.crossing.phase (held w.trace w.bank.time)
+        (expects_at (forward_at w.loaded.settings) w.back) (blanked_at w.back) w.bank.time w.made.cmp_past) shut u.seen)
+
+-- ---- its entry
+
+-- blanking lasts for at least 300 ticks
+by_control : (a b : Bool) (turn : Turn) → HasQ (if a then Idle else if b then Started else turn) → HasQ turn
+by_control true b turn q = absurd q
+by_control false true turn q = absurd q
+by_control false false turn q = q
+
+no_second : (turn : Turn) (z : ℕ) → HasQ (crossed_by turn z) → ⊥
+no_second Idle z q = q
+no_second Started z q = q
+no_second (Turned t) z q = q
+no_second (Crossed t y) z q = q
+
+long_blank : (back : List Note) → HasQ (turn_at back) → turned_at back + 300 ≤ blanked_at back
+long_blank [] q = absurd q
+long_blank (note.Step t s ∷ back) q = longer t.0 (interval_at back)
+  where
+    longer : (t interval : ℕ) → t + 300 ≤ t + blanking_of interval
+    longer t interval = omega arith
+long_blank (note.Control t n s d ∷ back) q = long_blank back (by_control (d == 0) (rests_at back) (turn_at back) q)
+long_blank (note.Cross t ∷ back) q = absurd (no_second (turn_at back) t.0 q)
+long_blank (n ∷ back) q = long_blank back q
+
+-- COMM isn't due: so a switch that is postponed would have been due since the Q, which is too long ago
+not_late : (v : DriveView) → TimerKept v → is_reached v.timer v.time ≡ false → low_free v.drive ≤ v.time → v.drive.postponed ≡ false
+not_late v k none free = by_test v.drive.postponed refl k
+  where
+    min_le : (change free time : ℕ) → free ≤ time → nat_le (min change free) time ≡ true
+    min_le change free time l = grind (arith, nat_tests)
+
+    by_test : (p : Bool) → v.drive.postponed ≡ p → TimerKept v → v.drive.postponed ≡ false
+    by_test false e k = e
+    by_test true e (inl (at, o)) = absurd (
+        let due : due_at v.drive ≡ min v.drive.change (low_free v.drive) = rw e refl in
+        let f : is_reached v.timer v.time ≡ true = rw (at, due) (min_le v.drive.change (low_free v.drive) v.time free) in
+        let z : true ≡ false = sym f ∙ none in cc)
+    by_test true e (inr (n, at, l, c)) = absurd (let f : is_reached v.timer v.time ≡ true = rw at (le-leb n v.time l) in let z : true ≡ false = sym f ∙ none in cc)
+
+late_entered : (p : Phase) (w : World) → w.core.drive.crossing.phase ≡ p → Ties w → Unheld w → w.core.comm_at ≡ comm.Shut → w.core.cmp_at ≡ cmp.Shut
+    → is_reached w.bank.comm w.bank.time ≡ false → (is_reached w.bank.crossing w.bank.time || (w.bank.comp_enabled && w.bank.comp_changed)) ≡ true
+    → Stands (cross_seen w) cmp.Shut p
+    → LateTied cmp.Raise p w.core.drive.postponed
+late_entered phase.Off w e t unheld shut at none due s = tt
+late_entered (phase.Blank end) w e t unheld shut at none due s = tt
+late_entered phase.Watch w e t unheld shut at none due s = tt
+late_entered phase.Done w e t unheld shut at none due s = tt
+late_entered (phase.Filter end) w e t unheld shut at none due s =
+    let d = t kind.Comm in
+    let q : HasQ (turn_at w.back) = s.phase_is.0 in
+    let some : 0 < demand_at w.back = q_drives (turn_at w.back) (demand_at w.back) q d.idle in
+    let kept : TimerKept (drive_seen w) =
+    timer_kept w.core.tick_at (drive_seen w) (unheld kind.Tick) (d.low shut some (subst (λ (x : CmpAt). commutes x ≡ false) (sym at) refl)) in
+    not_late (drive_seen w) kept none (by_sector w.bank.sector refl q some)
+  where
+    over : end.0 ≤ w.bank.time
+    over = reached_at w.bank.crossing w.bank.comp_enabled w.bank.comp_changed end.0 w.bank.time s.regs.0 s.regs.1 due
+
+    by_sector : (n : ℕ) → w.bank.sector ≡ n → HasQ (turn_at w.back) → 0 < demand_at w.back → low_free w.core.drive ≤ w.bank.time
+    by_sector zero z q some =
+        (let first : at_leg w.core.drive.gates.hi_free (low_of w.core.drive.turn.to) ≡ 0 = (t kind.Comm).unused z (low_of w.core.drive.turn.to) in omega arith)
+    by_sector (suc n) z q some =
+        let d = t kind.Comm in
+        let on : 0 < w.bank.sector = omega arith in
+        let to : w.core.drive.turn.to ≡ w.bank.sector = d.to_is (rw shut refl) on in
+        let free : at_leg w.core.drive.gates.hi_free (low_of w.core.drive.turn.to) ≤ turned_at w.back + 48 =
+        d.outer on (low_of w.core.drive.turn.to) (λ same. apart_legs w.bank.sector on d.sectors (same ∙ ap low_of to)) in
+        let long = long_blank w.back q in
+        let f = s.phase_is.1 in
+        let end_is : end.0 ≡ f.begun + 24 = f.end_is in
+        let past = f.after in
+        let l = over in
+        omega arith
+
+none_above : (since t q : ℕ) → t < since → (if nat_le since t then q + 1 else 0) ≡ 0
+none_above since t q l = by_test (nat_le since t) (grind (arith, nat_tests))
+  where
+    by_test : (v : Bool) → v ≡ false → (if v then q + 1 else 0) ≡ 0
+    by_test true e = cc
+    by_test false e = refl
+
+one_more : (since t q : ℕ) → since ≤ t → (if nat_le since t then q + 1 else 0) ≡ q + 1
+one_more since t q l = rw (le-leb since t l) refl
+
+entered : (w : World) → Ties w → Unheld w → w.core.cmp_at ≡ cmp.Shut
+    → (is_reached w.bank.crossing w.bank.time || (w.bank.comp_enabled && w.bank.comp_changed)) ≡ true → Past w.made w.bank.time → w.core.comm_at ≡ comm.Shut
+    → is_reached w.bank.comm w.bank.time ≡ false
+    → Tie kind.Cmp (after_enter kind.Cmp w)
+entered w t unheld shut due past closed none =
+    let free = free_at w closed (unheld kind.Tick) past in
+    let s = stands (cross_seen w) cmp.Shut w.core.drive.crossing.phase shut refl free (t kind.Cmp) in
+    cross_entered (cross_seen w) (λ since. quiet_at since (enters kind.Cmp w.bank.time ∷ w.back)) free (t kind.Cmp) s due
+    (late_entered w.core.drive.crossing.phase w refl t unheld closed shut none due s)
+    (λ since l. none_above since w.bank.time (quiet_at since w.back) l)
+    (one_more (held w.trace w.bank.time).since w.bank.time (quiet_at (held w.trace w.bank.time).since w.back) (since_past w.trace w.bank.time))
+
+-- ---- an event
+
+outside : (w : World) (e : Event) → tick_of e ≡ w.bank.time → w.made.cmp_past ≤ w.bank.time → CrossTied (cross_seen w) → Tie kind.Cmp (after_outside w e)
+outside w (event.Comp at level) is past t = by_test (differ w.bank.comp level) refl
+  where
+    same : held (w.trace ++ event.Comp at level ∷ []) w.bank.time ≡ held_to true at.0 (held w.trace w.bank.time) level
+    same = held_now w.trace at level w.bank.time is
+
+    by_test : (v : Bool) → differ w.bank.comp level ≡ v → Tie kind.Cmp (after_outside w (event.Comp at level))
+    by_test true d =
+        let h : held (w.trace ++ event.Comp at level ∷ []) w.bank.time ≡ record { level = level; since = w.bank.time } =
+        same ∙ rw (subst (λ (x : Bool). differ x level ≡ true) t.level_is d, is) refl in
+        rw (h, d) (cross_changes (cross_seen w) level past t)
+    by_test false d =
+        let h : held (w.trace ++ event.Comp at level ∷ []) w.bank.time ≡ held w.trace w.bank.time =
+        same ∙ rw (subst (λ (x : Bool). differ x level ≡ false) t.level_is d) refl in
+        rw (h, d) t
+outside w (event.Edge at level) is past t = rw (held-push w.trace (event.Edge at level) w.bank.time) t
+outside w (event.Serial at byte) is past t = rw (held-push w.trace (event.Serial at byte) w.bank.time) t
+outside w (event.Stall at n) is past t = rw (held-push w.trace (event.Stall at n) w.bank.time) t
+
 pub cmp_law : HandlerLaw kind.Cmp
-cmp_law = ?
+cmp_law = record {
+  called = λ w g t told unheld none s. called w t unheld (cmp_shut w.core.cmp_at none) s;
+  asked = λ w g t unheld due. (tt, tt);
+  entered = λ w g t unheld none due past high.
+      entered w t unheld (cmp_shut w.core.cmp_at none) due past (comm_shut w.core.comm_at w.core.drive.turn.at (high.shut kind.Comm (omega arith)))
+      (high.none kind.Comm (omega arith));
+  beside = λ w g t unheld none due past high. elim [
+    | kind.Cmp ↦ λ ne. absurd (ne refl)
+    | kind.Comm ↦ λ ne. searched_drive (drive_seen w) cmp.Raise w.core.drive.crossing
+        (comm_shut w.core.comm_at w.core.drive.turn.at (high.shut kind.Comm (omega arith)))
+        (subst (λ (x : CmpAt). commutes x ≡ false) (sym (cmp_shut w.core.cmp_at none)) refl) refl (t kind.Comm)
+    | j ↦ λ ne. t j
+  ];
+  steps = λ w answers outer g t above alone past on left. steps w.core.cmp_at w outer (record {
+    ground = g;
+    ties = t;
+    on = on;
+    place_is = refl;
+    comm_is = comm_shut w.core.comm_at w.core.drive.turn.at (above kind.Comm (omega arith));
+    unmasked = alone kind.Tick (λ e. cc);
+    past = past;
+  }) left;
+  later = λ w u from small g t.
+      subst (λ (h : Held). CrossTied (record (cross_seen w) { time = u; held = h })) (sym (held_stays w.trace w.bank.time u from g.events))
+      (cross_later (cross_seen w) u from (t kind.Cmp));
+  outside = λ w e at past g t. outside w e at past.cmp (t kind.Cmp);
+}
