@@ -6,6 +6,8 @@ mod cap;
 mod cmp;
 mod comm;
 mod drive;
+#[cfg(test)]
+mod drive_tests;
 mod firmware;
 mod orders;
 mod own;
