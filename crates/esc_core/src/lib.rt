@@ -5,6 +5,8 @@ mod background;
 mod cap;
 mod cmp;
 mod comm;
+#[cfg(test)]
+mod cross_tests;
 mod drive;
 #[cfg(test)]
 mod drive_tests;
