@@ -34,5 +34,6 @@ pub mod Start
 pub mod Carried
 pub mod FlashSteps
 pub mod Refused
+pub mod RefusedDrive
 pub mod RefusedSteps
 pub mod Allowed

@@ -5,7 +5,10 @@
 mod shown;
 mod signal_laws;
 
-pub use shown::{control_refuses, nesting_refuses, some_are_legal, steps_refuse, windows_refuse};
+pub use shown::{
+    control_refuses, drive_refuses, gates_refuse, nesting_refuses, some_are_legal, steps_refuse,
+    turns_refuse, windows_refuse,
+};
 pub use signal_laws::{
     cap_opens_window, first_rested_tick, rest_calls_cap, sent_frame_is_read, whole_signal_is_heard,
 };

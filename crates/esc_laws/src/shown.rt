@@ -1,6 +1,6 @@
 //! What the laws refuse, and what they don't.
 ghost use Rattle.esc_laws.specs.Allowed.{SomeAreLegal};
-ghost use Rattle.esc_laws.specs.Refused.{ControlRefuses, NestingRefuses, StepsRefuse, WindowsRefuse};
+ghost use Rattle.esc_laws.specs.Refused.{ControlRefuses, DriveRefuses, GatesRefuse, NestingRefuses, StepsRefuse, TurnsRefuse, WindowsRefuse};
 
 /// The rules of control refuse each of these small journals.
 pub fn control_refuses()
@@ -10,6 +10,21 @@ pub fn control_refuses()
 /// The rules of windows and their verdicts refuse each of these.
 pub fn windows_refuse()
     ensures { WindowsRefuse }
+{}
+
+/// The rules of the dead time refuse each of these.
+pub fn gates_refuse()
+    ensures { GatesRefuse }
+{}
+
+/// The rules of the drive refuse each of these.
+pub fn drive_refuses()
+    ensures { DriveRefuses }
+{}
+
+/// The rules of sectors refuse each of these.
+pub fn turns_refuse()
+    ensures { TurnsRefuse }
 {}
 
 /// The rules of which note stands in which activation refuse each of these.
