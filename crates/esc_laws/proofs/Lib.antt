@@ -17,6 +17,17 @@ pub mod Returns
 pub mod DriveFacts
 pub mod CommFacts
 pub mod TickFacts
+pub mod ChopCalm
+pub mod ChopPushes
+pub mod ChopPlaced
+pub mod ChopFresh
+pub mod ChopHigh
+pub mod ChopLow
+pub mod ChopSettled
+pub mod ChopTheorem
+pub mod ChopBack
+pub mod ChopCalls
+pub mod ChopBridge
 pub mod Law
 pub mod MainRoom
 pub mod TickRoom

@@ -9,6 +9,7 @@ pub mod Calls
 pub mod Nested
 pub mod Seen
 pub mod Steps
+pub mod Chopped
 pub mod Legal
 pub mod Saves
 -- what is shown of them
@@ -20,3 +21,14 @@ pub mod DriveTied
 pub mod World
 pub mod Rooms
 pub mod Logged
+pub mod ChopStalls
+pub mod ChopView
+pub mod ChopLog
+pub mod ChopLaws
+pub mod ChopPeriods
+pub mod ChopPlaced
+pub mod ChopFresh
+pub mod ChopPairs
+pub mod ChopCalm
+pub mod ChopNotes
+pub mod ChopBridge
