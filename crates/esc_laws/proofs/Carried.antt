@@ -110,6 +110,7 @@ time_logged loaded nest cost trace next c b stack log t later le small l = recor
   reached = l.reached;
   reached_by = l.reached_by;
   fits = l.fits;
+  drives = l.drives;
   past = l.past;
   made_past = l.made_past;
   awaits = l.awaits;
@@ -190,6 +191,7 @@ quiet_logged loaded nest cost trace c b stack log t idle quiet later small l =
       reached = l.reached;
       reached_by = l.reached_by;
       fits = l.fits;
+      drives = l.drives;
       past = (let p = l.past in omega arith);
       made_past = past_later (made log) b.time t later l.made_past;
       awaits = record {
@@ -258,6 +260,7 @@ module _ (loaded : Loaded) (nest : Nest) (cost : ℕ) (trace : List Event) (e : 
         reached_by = λ k o t b.
             rw (uses_before cost trace e (steps_since k log) (entered_at k log) (l.reached_by k o (tick_of e) before)) (l.reached_by k o t b);
         fits = fits_grow loaded nest cost trace e log before l.fits;
+        drives = l.drives;
         past = rw (after_grows cost trace e log) (past_more e (after cost trace log) next l.past);
         made_past = past_later (made log) next (past_stall next e) later l.made_past;
         awaits = awaits_grow;

@@ -38,6 +38,7 @@ pub mod Laws
 pub mod Stages
 pub mod Turns
 pub mod Entries
+pub mod ChopSteps
 pub mod OwnTurns
 pub mod Stepping
 pub mod Events

@@ -20,9 +20,10 @@ pub mod Tied
 pub mod DriveTied
 pub mod World
 pub mod Rooms
-pub mod Logged
 pub mod ChopStalls
 pub mod ChopView
+pub mod ChopSteps
+pub mod Logged
 pub mod ChopLog
 pub mod ChopLaws
 pub mod ChopPeriods
