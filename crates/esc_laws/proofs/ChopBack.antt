@@ -53,7 +53,7 @@ at_offs leg.A f w w' t = refl
 at_offs leg.B f w w' t = refl
 at_offs leg.C f w w' t = refl
 
-says_note : (v : View) (back : List Note) (n : Note) → Says v back → Says (noted v n) (n ∷ back)
+pub says_note : (v : View) (back : List Note) (n : Note) → Says v back → Says (noted v n) (n ∷ back)
 says_note v back (note.Gate t hi lo) s = record {
   hi = refl;
   lo = refl;
@@ -75,7 +75,7 @@ says_notes v before (n ∷ notes) s =
     subst (λ (l : List Note). Says (fold noted (noted v n) notes) (reverse l)) (append_assoc before (n ∷ []) notes)
     (says_notes (noted v n) (before ++ n ∷ []) notes (subst (λ (l : List Note). Says (noted v n) l) (sym (reverse-push before n)) (says_note v (reverse before) n s)))
 
-says_moved : (v : View) (by : By) (t : ℕ) (back : List Note) → Says v back → Says (moved v by t) back
+pub says_moved : (v : View) (by : By) (t : ℕ) (back : List Note) → Says v back → Says (moved v by t) back
 says_moved v CommEnters t back s = record { hi = s.hi; lo = s.lo; hi_free = s.hi_free; lo_free = s.lo_free; demand = s.demand; sector = s.sector }
 says_moved v (CommSteps l) t back s = record { hi = s.hi; lo = s.lo; hi_free = s.hi_free; lo_free = s.lo_free; demand = s.demand; sector = s.sector }
 says_moved v PwmEnters t back s = record { hi = s.hi; lo = s.lo; hi_free = s.hi_free; lo_free = s.lo_free; demand = s.demand; sector = s.sector }

@@ -22,6 +22,7 @@ pub mod ChopPushes
 pub mod ChopPlaced
 pub mod ChopFresh
 pub mod ChopHigh
+mod ChopLegal
 pub mod ChopLow
 pub mod ChopSettled
 pub mod ChopTheorem
