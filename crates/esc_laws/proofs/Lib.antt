@@ -22,13 +22,14 @@ pub mod ChopPushes
 pub mod ChopPlaced
 pub mod ChopFresh
 pub mod ChopHigh
-mod ChopLegal
 pub mod ChopLow
 pub mod ChopSettled
 pub mod ChopTheorem
 pub mod ChopBack
 pub mod ChopCalls
 pub mod ChopBridge
+pub mod ChopFront
+pub mod ChopLegal
 pub mod Law
 pub mod MainRoom
 pub mod TickRoom
