@@ -5,14 +5,15 @@ use Rattle.std.proofs.lemmas.Bool.Decides.{nat_tests}
 use Rattle.esc_base.specs.declared.gate.Leg.{Leg}
 use Rattle.esc_base.specs.declared.kind.Kind.{Kind}
 use Rattle.esc_base.specs.declared.kind.Kind.TheVariants as kind
+use Rattle.esc_base.specs.declared.note.Note.{Note}
 use Rattle.esc_base.specs.Flash.{Told}
 use Rattle.timer_regs.specs.Bank.{Bank}
 use Rattle.timer_regs.specs.Effects.{read_value}
 use Rattle.timer_regs.specs.declared.regs.Reg.TheVariants as reg
 use Rattle.interrupt_machine.specs.declared.firmware.Did.{Did}
 use Rattle.interrupt_machine.specs.declared.firmware.Did.TheVariants.{More, Return}
-use Rattle.interrupt_machine.specs.Did.{IsMore, IsReturn, NoAccess, Reads, Writes, accessed, MakesOneAccess}
-use Rattle.arming.specs.declared.decision.Ticked.{Ticked}
+use Rattle.interrupt_machine.specs.Did.{IsMore, IsReturn, Access, NoAccess, Reads, accessed, MakesOneAccess}
+use Rattle.arming.specs.Kept.{Kept}
 use Rattle.commutation.specs.Sectors.{high_of, low_of}
 use Rattle.gate_driver.specs.declared.all_off.AllOff.{AllOff}
 use Rattle.gate_driver.specs.declared.all_off.AllOff.TheVariants as off
@@ -44,7 +45,7 @@ use Rattle.esc_core.specs.Stepped.{Stepped, IsStepped, is_return, goes_on, goes_
 use Rattle.esc_core.specs.Cap.{after_edges, after_copy, opens, takes, next_edge, judge_step, cap_step}
 use Rattle.esc_core.specs.Tick.{ticked, asked, drive_after, number_in, marks_in, off_step, tick_step}
 use Rattle.esc_core.specs.Pwm.{chopped, pwm_step}
-use Rattle.esc_core.specs.Comm.{decided, turned, turn_step, resumed_step, after_arm, comm_step}
+use Rattle.esc_core.specs.Comm.{waits_for, decided, turned, turn_step, resumed_step, comm_step}
 use Rattle.esc_core.specs.Calls.{Call, Answer, took_first, CallDid, DeviceDid}
 use Rattle.esc_core.specs.Background.{saving_step, main_step}
 use Rattle.esc_core.specs.Firmware.{cap_left, tick_left, pwm_left, comm_left, main_left, left_of, need_of, tick_need, pwm_need, shut, kind_step, kind_asked, counted_down, is_stray, stray_step, core_step, core_asked}
@@ -173,103 +174,154 @@ cap_moves cap.Back c b l = record {
 
 -- ---- TICK
 
--- a start leaves the newest change of sector
-start_turn : (v : Bool) (t : ℕ) (d : Drive) → (drive_after v t d).turn ≡ d.turn
-start_turn true t d = refl
-start_turn false t d = refl
-
-after_asked : (v start : Bool) → (tick_left (if v then tick.Off off.High else tick.DutyOn start) < 8) × (0 < tick_left (if v then tick.Off off.High else tick.DutyOn start))
-after_asked true start = (lit< tt, lit< tt)
-after_asked false start = (lit< tt, lit< tt)
-
-asked_moves : (n marks : ℕ) (answer : Ticked) (c : Brain) (b : Bank) → Moves kind.Tick 8 c (asked n marks answer c b)
-asked_moves n marks answer c b = record {
-  less = (after_asked (answer.demand == 0) answer.start).0;
-  more = λ e. (after_asked (answer.demand == 0) answer.start).1;
+-- a step of TICK that goes on, by what it leaves: the newest change of sector stays
+tick_goes : (left : ℕ) (at : TickAt) (hold : ℕ) (kept : Kept) (d : Drive) (by : Access) (notes : List Note) (c : Brain) → d.turn ≡ c.drive.turn
+    → tick_left at < left → 0 < tick_left at
+    → Moves kind.Tick left c (record {
+      core = record c { tick_at = at; hold = hold; control = kept; drive = d };
+      access = by;
+      notes = notes;
+      over = false;
+    })
+tick_goes left at hold kept d by notes c turn less more = record {
+  less = less;
+  more = λ e. more;
   shut = λ e. cc;
   others = elim [
     | kind.Tick ↦ λ ne. absurd (ne refl)
-    | kind.Comm ↦ λ ne. (ap (λ (turn : Change). comm_left c.comm_at turn.at) (start_turn answer.start b.time c.drive), refl)
+    | kind.Comm ↦ λ ne. (ap (λ (n : Change). comm_left c.comm_at n.at) turn, refl)
     | j ↦ λ ne. (refl, refl)
   ];
 }
 
+start_turn : (v : Bool) (t : ℕ) (d : Drive) → (drive_after v t d).turn ≡ d.turn
+start_turn true t d = refl
+start_turn false t d = refl
+
+-- with demand 0 more steps are left than with one
+after_asked : (v start : Bool) → (tick_left (if v then tick.Off off.High else tick.DutyOn start) < 8)
+    × (0 < tick_left (if v then tick.Off off.High else tick.DutyOn start))
+after_asked true start = (lit< tt, lit< tt)
+after_asked false start = (lit< tt, lit< tt)
+
 number_moves : (v : Bool) (n marks : ℕ) (c : Brain) (b : Bank)
     → Moves kind.Tick 8 c (if v then asked n marks (ticked c n marks) c b else goes_on (record c { tick_at = tick.Lower }) (Reads reg.TickState))
-number_moves true n marks c b = asked_moves n marks (ticked c n marks) c b
-number_moves false n marks c b = record { less = lit< tt; more = λ e. lit< tt; shut = λ e. cc; others = elim [ kind.Tick ↦ λ ne. absurd (ne refl) | j ↦ λ ne. (refl, refl) ] }
+number_moves true n marks c b =
+    let answer = ticked c n marks in
+    let left = after_asked (answer.demand == 0) answer.start in
+    tick_goes 8 _ _ _ _ _ _ c (start_turn answer.start b.time c.drive) left.0 left.1
+number_moves false n marks c b = tick_goes 8 _ _ _ _ _ _ c refl (lit< tt) (lit< tt)
 
 off_moves : (at : AllOff) (c : Brain) (b : Bank) → Moves kind.Tick (all_off_left at + 5) c (off_step (all_off_step at c.drive.gates b) c)
-off_moves off.High c b = record { less = lit< tt; more = λ e. lit< tt; shut = λ e. cc; others = elim [ kind.Tick ↦ λ ne. absurd (ne refl) | j ↦ λ ne. (refl, refl) ] }
-off_moves off.Low c b = record { less = lit< tt; more = λ e. lit< tt; shut = λ e. cc; others = elim [ kind.Tick ↦ λ ne. absurd (ne refl) | j ↦ λ ne. (refl, refl) ] }
-off_moves off.Over c b = record { less = lit< tt; more = λ e. lit< tt; shut = λ e. cc; others = elim [ kind.Tick ↦ λ ne. absurd (ne refl) | j ↦ λ ne. (refl, refl) ] }
+off_moves off.High c b = tick_goes 7 _ _ _ _ _ _ c refl (lit< tt) (lit< tt)
+off_moves off.Low c b = tick_goes 6 _ _ _ _ _ _ c refl (lit< tt) (lit< tt)
+off_moves off.Over c b = tick_goes 5 _ _ _ _ _ _ c refl (lit< tt) (lit< tt)
 
 duty_moves : (start : Bool) (c : Brain) (b : Bank) → Moves kind.Tick 4 c (tick_step (tick.DutyOn start) c b)
-duty_moves true c b = record { less = lit< tt; more = λ e. lit< tt; shut = λ e. cc; others = elim [ kind.Tick ↦ λ ne. absurd (ne refl) | j ↦ λ ne. (refl, refl) ] }
-duty_moves false c b = record { less = lit< tt; more = λ e. lit< tt; shut = λ e. cc; others = elim [ kind.Tick ↦ λ ne. absurd (ne refl) | j ↦ λ ne. (refl, refl) ] }
+duty_moves true c b = tick_goes 4 _ _ _ _ _ _ c refl (lit< tt) (lit< tt)
+duty_moves false c b = tick_goes 4 _ _ _ _ _ _ c refl (lit< tt) (lit< tt)
 
 tick_moves : (at : TickAt) (c : Brain) (b : Bank) → 0 < tick_left at → Moves kind.Tick (tick_left at) c (tick_step at c b)
 tick_moves tick.Shut c b l = absurd (omega arith)
-tick_moves tick.Raise c b l = record { less = lit< tt; more = λ e. lit< tt; shut = λ e. cc; others = elim [ kind.Tick ↦ λ ne. absurd (ne refl) | j ↦ λ ne. (refl, refl) ] }
+tick_moves tick.Raise c b l = tick_goes 9 _ _ _ _ _ _ c refl (lit< tt) (lit< tt)
 tick_moves tick.Read c b l =
     let state = read_value b reg.TickState in
     number_moves (nat_lt c.control.number (number_in state)) (number_in state) (marks_in state) c b
 tick_moves (tick.Off at) c b l = off_moves at c b
-tick_moves tick.DutyOff c b l = record { less = lit< tt; more = λ e. lit< tt; shut = λ e. cc; others = elim [ kind.Tick ↦ λ ne. absurd (ne refl) | j ↦ λ ne. (refl, refl) ] }
-tick_moves tick.DriveOff c b l = record { less = lit< tt; more = λ e. lit< tt; shut = λ e. cc; others = elim [ kind.Tick ↦ λ ne. absurd (ne refl) | j ↦ λ ne. (refl, refl) ] }
+tick_moves tick.DutyOff c b l = tick_goes 4 _ _ _ _ _ _ c refl (lit< tt) (lit< tt)
+tick_moves tick.DriveOff c b l = tick_goes 3 _ _ _ _ _ _ c refl (lit< tt) (lit< tt)
 tick_moves (tick.DutyOn start) c b l = duty_moves start c b
-tick_moves tick.Start c b l = record { less = lit< tt; more = λ e. lit< tt; shut = λ e. cc; others = elim [ kind.Tick ↦ λ ne. absurd (ne refl) | j ↦ λ ne. (refl, refl) ] }
-tick_moves tick.Lower c b l = record { less = lit< tt; more = λ e. lit< tt; shut = λ e. cc; others = elim [ kind.Tick ↦ λ ne. absurd (ne refl) | j ↦ λ ne. (refl, refl) ] }
-tick_moves tick.Back c b l = record { less = lit< tt; more = λ e. cc; shut = λ e. refl; others = elim [ kind.Tick ↦ λ ne. absurd (ne refl) | j ↦ λ ne. (refl, refl) ] }
+tick_moves tick.Start c b l = tick_goes 3 _ _ _ _ _ _ c refl (lit< tt) (lit< tt)
+tick_moves tick.Lower c b l = tick_goes 2 _ _ _ _ _ _ c refl (lit< tt) (lit< tt)
+tick_moves tick.Back c b l = record {
+  less = lit< tt;
+  more = λ e. cc;
+  shut = λ e. refl;
+  others = elim [ kind.Tick ↦ λ ne. absurd (ne refl) | j ↦ λ ne. (refl, refl) ];
+}
 
 -- ---- PWM
 
-on_moves : (wait : Option ℕ) (leg : Option Leg) (x : Leg) (c : Brain) (b : Bank) → Moves kind.Pwm 4 c (chopped (chop.Write leg) (on_step wait x c.drive.gates b) c)
-on_moves None leg x c b = record { less = lit< tt; more = λ e. lit< tt; shut = λ e. cc; others = elim [ kind.Pwm ↦ λ ne. absurd (ne refl) | j ↦ λ ne. (refl, refl) ] }
-on_moves (Some t) leg x c b = record { less = lit< tt; more = λ e. lit< tt; shut = λ e. cc; others = elim [ kind.Pwm ↦ λ ne. absurd (ne refl) | j ↦ λ ne. (refl, refl) ] }
+pwm_goes : (left : ℕ) (at : PwmAt) (hold : ℕ) (g : Gated) (by : Access) (c : Brain) → pwm_left at < left → 0 < pwm_left at
+    → Moves kind.Pwm left c (record {
+      core = record c { drive = record c.drive { gates = g }; hold = hold; pwm_at = at };
+      access = by;
+      notes = [];
+      over = false;
+    })
+pwm_goes left at hold g by c less more = record {
+  less = less;
+  more = λ e. more;
+  shut = λ e. cc;
+  others = elim [ kind.Pwm ↦ λ ne. absurd (ne refl) | j ↦ λ ne. (refl, refl) ];
+}
+
+on_moves : (wait : Option ℕ) (leg : Option Leg) (x : Leg) (c : Brain) (b : Bank)
+    → Moves kind.Pwm 4 c (chopped (chop.Write leg) (on_step wait x c.drive.gates b) c)
+on_moves None leg x c b = pwm_goes 4 _ _ _ _ c (lit< tt) (lit< tt)
+on_moves (Some t) leg x c b = pwm_goes 4 _ _ _ _ c (lit< tt) (lit< tt)
 
 write_moves : (leg : Option Leg) (c : Brain) (b : Bank) → Moves kind.Pwm 4 c (pwm_step (pwm.Run (chop.Write leg)) c b)
 write_moves (Some x) c b = on_moves (high_wait c.drive.gates b x) (Some x) x c b
-write_moves None c b = record { less = lit< tt; more = λ e. lit< tt; shut = λ e. cc; others = elim [ kind.Pwm ↦ λ ne. absurd (ne refl) | j ↦ λ ne. (refl, refl) ] }
+write_moves None c b = pwm_goes 4 _ _ _ _ c (lit< tt) (lit< tt)
 
 chop_moves : (at : Chop) (c : Brain) (b : Bank) → Moves kind.Pwm (chop_left at + 2) c (pwm_step (pwm.Run at) c b)
-chop_moves chop.Raise c b = record { less = lit< tt; more = λ e. lit< tt; shut = λ e. cc; others = elim [ kind.Pwm ↦ λ ne. absurd (ne refl) | j ↦ λ ne. (refl, refl) ] }
-chop_moves chop.Position c b = record { less = lit< tt; more = λ e. lit< tt; shut = λ e. cc; others = elim [ kind.Pwm ↦ λ ne. absurd (ne refl) | j ↦ λ ne. (refl, refl) ] }
-chop_moves (chop.Duty position) c b = record { less = lit< tt; more = λ e. lit< tt; shut = λ e. cc; others = elim [ kind.Pwm ↦ λ ne. absurd (ne refl) | j ↦ λ ne. (refl, refl) ] }
-chop_moves (chop.Sector below) c b = record { less = lit< tt; more = λ e. lit< tt; shut = λ e. cc; others = elim [ kind.Pwm ↦ λ ne. absurd (ne refl) | j ↦ λ ne. (refl, refl) ] }
+chop_moves chop.Raise c b = pwm_goes 8 _ _ _ _ c (lit< tt) (lit< tt)
+chop_moves chop.Position c b = pwm_goes 7 _ _ _ _ c (lit< tt) (lit< tt)
+chop_moves (chop.Duty position) c b = pwm_goes 6 _ _ _ _ c (lit< tt) (lit< tt)
+chop_moves (chop.Sector below) c b = pwm_goes 5 _ _ _ _ c (lit< tt) (lit< tt)
 chop_moves (chop.Write leg) c b = write_moves leg c b
-chop_moves chop.Lower c b = record { less = lit< tt; more = λ e. lit< tt; shut = λ e. cc; others = elim [ kind.Pwm ↦ λ ne. absurd (ne refl) | j ↦ λ ne. (refl, refl) ] }
-chop_moves chop.Over c b = record { less = lit< tt; more = λ e. lit< tt; shut = λ e. cc; others = elim [ kind.Pwm ↦ λ ne. absurd (ne refl) | j ↦ λ ne. (refl, refl) ] }
+chop_moves chop.Lower c b = pwm_goes 3 _ _ _ _ c (lit< tt) (lit< tt)
+chop_moves chop.Over c b = pwm_goes 2 _ _ _ _ c (lit< tt) (lit< tt)
 
 pwm_moves : (at : PwmAt) (c : Brain) (b : Bank) → 0 < pwm_left at → Moves kind.Pwm (pwm_left at) c (pwm_step at c b)
 pwm_moves pwm.Shut c b l = absurd (omega arith)
 pwm_moves (pwm.Run at) c b l = chop_moves at c b
-pwm_moves pwm.Back c b l = record { less = lit< tt; more = λ e. cc; shut = λ e. refl; others = elim [ kind.Pwm ↦ λ ne. absurd (ne refl) | j ↦ λ ne. (refl, refl) ] }
+pwm_moves pwm.Back c b l = record {
+  less = lit< tt;
+  more = λ e. cc;
+  shut = λ e. refl;
+  others = elim [ kind.Pwm ↦ λ ne. absurd (ne refl) | j ↦ λ ne. (refl, refl) ];
+}
 
 -- ---- COMM
 
+comm_goes : (left : ℕ) (at : CommAt) (d : Drive) (by : Access) (notes : List Note) (c : Brain) (b : Bank) → comm_left at d.turn.at < left
+    → 0 < comm_left at d.turn.at → (accessed b by).masked ≡ b.masked
+    → PlainMoves kind.Comm left c b (record { core = record c { drive = d; comm_at = at }; access = by; notes = notes; over = false })
+comm_goes left at d by notes c b less more same = record {
+  moves = record {
+    less = less;
+    more = λ e. more;
+    shut = λ e. cc;
+    others = elim [ kind.Comm ↦ λ ne. absurd (ne refl) | j ↦ λ ne. (refl, refl) ];
+  };
+  masked = same;
+  hold = refl;
+}
+
 low_moves : (wait : Option ℕ) (c : Brain) (b : Bank) → PlainMoves kind.Comm 8 c b (turned change.Low (low_step wait c.drive.turn c.drive.gates b) c b)
-low_moves None c b = record { moves = record { less = lit< tt; more = λ e. lit< tt; shut = λ e. cc; others = elim [ kind.Comm ↦ λ ne. absurd (ne refl) | j ↦ λ ne. (refl, refl) ] }; masked = refl; hold = refl }
-low_moves (Some t) c b = record { moves = record { less = lit< tt; more = λ e. lit< tt; shut = λ e. cc; others = elim [ kind.Comm ↦ λ ne. absurd (ne refl) | j ↦ λ ne. (refl, refl) ] }; masked = refl; hold = refl }
+low_moves None c b = comm_goes 8 _ _ _ _ c b (lit< tt) (lit< tt) refl
+low_moves (Some t) c b = comm_goes 8 _ _ _ _ c b (lit< tt) (lit< tt) refl
 
 duty_read_moves : (v : Bool) (position : ℕ) (c : Brain) (b : Bank)
     → PlainMoves kind.Comm 6 c b (turned (change.Duty position) (duty_step v c.drive.turn c.drive.gates) c b)
-duty_read_moves true position c b = record { moves = record { less = lit< tt; more = λ e. lit< tt; shut = λ e. cc; others = elim [ kind.Comm ↦ λ ne. absurd (ne refl) | j ↦ λ ne. (refl, refl) ] }; masked = refl; hold = refl }
-duty_read_moves false position c b = record { moves = record { less = lit< tt; more = λ e. lit< tt; shut = λ e. cc; others = elim [ kind.Comm ↦ λ ne. absurd (ne refl) | j ↦ λ ne. (refl, refl) ] }; masked = refl; hold = refl }
+duty_read_moves true position c b = comm_goes 6 _ _ _ _ c b (lit< tt) (lit< tt) refl
+duty_read_moves false position c b = comm_goes 6 _ _ _ _ c b (lit< tt) (lit< tt) refl
 
 high_moves : (wait : Option ℕ) (c : Brain) (b : Bank) → PlainMoves kind.Comm 5 c b (turned change.High (high_step wait c.drive.turn c.drive.gates b) c b)
-high_moves None c b = record { moves = record { less = lit< tt; more = λ e. lit< tt; shut = λ e. cc; others = elim [ kind.Comm ↦ λ ne. absurd (ne refl) | j ↦ λ ne. (refl, refl) ] }; masked = refl; hold = refl }
-high_moves (Some t) c b = record { moves = record { less = lit< tt; more = λ e. lit< tt; shut = λ e. cc; others = elim [ kind.Comm ↦ λ ne. absurd (ne refl) | j ↦ λ ne. (refl, refl) ] }; masked = refl; hold = refl }
+high_moves None c b = comm_goes 5 _ _ _ _ c b (lit< tt) (lit< tt) refl
+high_moves (Some t) c b = comm_goes 5 _ _ _ _ c b (lit< tt) (lit< tt) refl
 
 turn_moves : (at : ChangeAt) (c : Brain) (b : Bank) → PlainMoves kind.Comm (change_left at + 4) c b (turn_step at c b)
-turn_moves change.ClearHigh c b = record { moves = record { less = lit< tt; more = λ e. lit< tt; shut = λ e. cc; others = elim [ kind.Comm ↦ λ ne. absurd (ne refl) | j ↦ λ ne. (refl, refl) ] }; masked = refl; hold = refl }
-turn_moves change.ClearLow c b = record { moves = record { less = lit< tt; more = λ e. lit< tt; shut = λ e. cc; others = elim [ kind.Comm ↦ λ ne. absurd (ne refl) | j ↦ λ ne. (refl, refl) ] }; masked = refl; hold = refl }
-turn_moves change.SetSector c b = record { moves = record { less = lit< tt; more = λ e. lit< tt; shut = λ e. cc; others = elim [ kind.Comm ↦ λ ne. absurd (ne refl) | j ↦ λ ne. (refl, refl) ] }; masked = refl; hold = refl }
+turn_moves change.ClearHigh c b = comm_goes 11 _ _ _ _ c b (lit< tt) (lit< tt) refl
+turn_moves change.ClearLow c b = comm_goes 10 _ _ _ _ c b (lit< tt) (lit< tt) refl
+turn_moves change.SetSector c b = comm_goes 9 _ _ _ _ c b (lit< tt) (lit< tt) refl
 turn_moves change.Low c b = low_moves (low_wait c.drive.gates b (low_of c.drive.turn.to)) c b
-turn_moves change.Position c b = record { moves = record { less = lit< tt; more = λ e. lit< tt; shut = λ e. cc; others = elim [ kind.Comm ↦ λ ne. absurd (ne refl) | j ↦ λ ne. (refl, refl) ] }; masked = refl; hold = refl }
+turn_moves change.Position c b = comm_goes 7 _ _ _ _ c b (lit< tt) (lit< tt) refl
 turn_moves (change.Duty position) c b = duty_read_moves (nat_lt position b.duty) position c b
 turn_moves change.High c b = high_moves (high_wait c.drive.gates b (high_of c.drive.turn.to)) c b
-turn_moves change.Over c b = record { moves = record { less = lit< tt; more = λ e. lit< tt; shut = λ e. cc; others = elim [ kind.Comm ↦ λ ne. absurd (ne refl) | j ↦ λ ne. (refl, refl) ] }; masked = refl; hold = refl }
+turn_moves change.Over c b = comm_goes 4 _ _ _ _ c b (lit< tt) (lit< tt) refl
 
 -- no step of a sector change touches the mask
 low_mask : (wait : Option ℕ) (n : Change) (g : Gated) (b : Bank) → (accessed b (low_step wait n g b).access).masked ≡ b.masked
@@ -291,30 +343,43 @@ place_mask change.High n g b = high_mask (high_wait g b (high_of n.to)) n g b
 place_mask at n g b = refl
 
 resumed_moves : (c : Brain) (b : Bank) → PlainMoves kind.Comm 4 c b (resumed_step c b)
-resumed_moves c b = record {
-  moves = record { less = lit< tt; more = λ e. lit< tt; shut = λ e. cc; others = elim [ kind.Comm ↦ λ ne. absurd (ne refl) | j ↦ λ ne. (refl, refl) ] };
-  masked = place_mask c.drive.turn.at c.drive.turn c.drive.gates b;
-  hold = refl;
-}
+resumed_moves c b = comm_goes 4 _ _ _ _ c b (lit< tt) (lit< tt) (place_mask c.drive.turn.at c.drive.turn c.drive.gates b)
 
-begun_moves : (due postponed : Bool) (c : Brain) (b : Bank) → c.drive.postponed ≡ postponed → PlainMoves kind.Comm 12 c b (decided due c b)
-begun_moves true postponed c b e = record { moves = record { less = lit< tt; more = λ e. lit< tt; shut = λ e. cc; others = elim [ kind.Comm ↦ λ ne. absurd (ne refl) | j ↦ λ ne. (refl, refl) ] }; masked = refl; hold = refl }
-begun_moves false true c b e = rw e (record { moves = record { less = lit< tt; more = λ e. lit< tt; shut = λ e. cc; others = elim [ kind.Comm ↦ λ ne. absurd (ne refl) | j ↦ λ ne. (refl, refl) ] }; masked = refl; hold = refl })
-begun_moves false false c b e = rw e (record { moves = record { less = lit< tt; more = λ e. lit< tt; shut = λ e. cc; others = elim [ kind.Comm ↦ λ ne. absurd (ne refl) | j ↦ λ ne. (refl, refl) ] }; masked = refl; hold = refl })
+waits_left : (postponed : Bool) (at : ChangeAt) → (comm_left (waits_for postponed) at < 12) × (0 < comm_left (waits_for postponed) at)
+waits_left true at = (lit< tt, lit< tt)
+waits_left false at = (lit< tt, lit< tt)
 
-arm_moves : (v : Bool) (c : Brain) (b : Bank) (at : ℕ) → nat_le 60 c.drive.forced ≡ v
-    → PlainMoves kind.Comm 3 c b (goes_on (record c { comm_at = after_arm c.drive.forced }) (Writes reg.CommAt at))
-arm_moves true c b at e = rw e (record { moves = record { less = lit< tt; more = λ e. lit< tt; shut = λ e. cc; others = elim [ kind.Comm ↦ λ ne. absurd (ne refl) | j ↦ λ ne. (refl, refl) ] }; masked = refl; hold = refl })
-arm_moves false c b at e = rw e (record { moves = record { less = lit< tt; more = λ e. lit< tt; shut = λ e. cc; others = elim [ kind.Comm ↦ λ ne. absurd (ne refl) | j ↦ λ ne. (refl, refl) ] }; masked = refl; hold = refl })
+begun_moves : (due : Bool) (c : Brain) (b : Bank) → PlainMoves kind.Comm 12 c b (decided due c b)
+begun_moves true c b = comm_goes 12 _ _ _ _ c b (lit< tt) (lit< tt) refl
+begun_moves false c b =
+    let left = waits_left c.drive.postponed c.drive.turn.at in
+    comm_goes 12 _ _ _ _ c b left.0 left.1 refl
 
-comm_moves : (at : CommAt) (c : Brain) (b : Bank) → 0 < comm_left at c.drive.turn.at → PlainMoves kind.Comm (comm_left at c.drive.turn.at) c b (comm_step at c b)
+armed_left : (v : Bool) (at : ChangeAt)
+    → (comm_left (if v then comm.Stick else comm.Back) at < 3) × (0 < comm_left (if v then comm.Stick else comm.Back) at)
+armed_left true at = (lit< tt, lit< tt)
+armed_left false at = (lit< tt, lit< tt)
+
+comm_moves : (at : CommAt) (c : Brain) (b : Bank) → 0 < comm_left at c.drive.turn.at
+    → PlainMoves kind.Comm (comm_left at c.drive.turn.at) c b (comm_step at c b)
 comm_moves comm.Shut c b l = absurd (omega arith)
-comm_moves comm.Decide c b l = begun_moves (nat_le c.drive.change b.time) c.drive.postponed c b refl
+comm_moves comm.Decide c b l = begun_moves (nat_le c.drive.change b.time) c b
 comm_moves comm.Turn c b l = turn_moves c.drive.turn.at c b
 comm_moves comm.Low c b l = resumed_moves c b
-comm_moves comm.Arm c b l = arm_moves (nat_le 60 c.drive.forced) c b _ refl
-comm_moves comm.Stick c b l = record { moves = record { less = lit< tt; more = λ e. lit< tt; shut = λ e. cc; others = elim [ kind.Comm ↦ λ ne. absurd (ne refl) | j ↦ λ ne. (refl, refl) ] }; masked = refl; hold = refl }
-comm_moves comm.Back c b l = record { moves = record { less = lit< tt; more = λ e. cc; shut = λ e. refl; others = elim [ kind.Comm ↦ λ ne. absurd (ne refl) | j ↦ λ ne. (refl, refl) ] }; masked = refl; hold = refl }
+comm_moves comm.Arm c b l =
+    let left = armed_left (nat_le 60 c.drive.forced) c.drive.turn.at in
+    comm_goes 3 _ _ _ _ c b left.0 left.1 refl
+comm_moves comm.Stick c b l = comm_goes 2 _ _ _ _ c b (lit< tt) (lit< tt) refl
+comm_moves comm.Back c b l = record {
+  moves = record {
+    less = lit< tt;
+    more = λ e. cc;
+    shut = λ e. refl;
+    others = elim [ kind.Comm ↦ λ ne. absurd (ne refl) | j ↦ λ ne. (refl, refl) ];
+  };
+  masked = refl;
+  hold = refl;
+}
 
 -- ---- MAIN
 
@@ -508,7 +573,10 @@ under_mask : (k : Kind) (need : ℕ) (c : Brain) (b : Bank) (s : Stepped) → s.
     → s.over ≡ false → need_of s.core k < need → need ≤ 8 → c.hold ≤ 8 → (b.masked && nat_lt c.hold need) ≡ false → Masks k need c.hold b s
 under_mask k need c b s hold same goes fewer most le e = record {
   most = rw hold (counted_most b.masked c.hold le);
-  enough = λ m. (rw hold (counted_some b.masked c.hold (need_of s.core k) (λ up. let stand = may_stand b.masked c.hold need e up in omega arith) (sym same ∙ m)), goes);
+  enough = λ m. (
+    rw hold (counted_some b.masked c.hold (need_of s.core k) (λ up. let stand = may_stand b.masked c.hold need e up in omega arith) (sym same ∙ m)),
+    goes,
+  );
   less = λ m m'. rw hold (counted_less b.masked c.hold m (let stand = may_stand b.masked c.hold need e m in omega arith));
   stands = λ f l. (same ∙ f most, goes);
 }

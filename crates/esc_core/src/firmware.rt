@@ -1,6 +1,6 @@
 //! The core as the machine's firmware.
 ghost use Rattle.std.specs.Prelude.{◌≡◌, ◌<◌, ◌≤◌, ◌^◌, ◌-◌, ℕ, true, false, All, if◌then◌else◌};
-ghost use Rattle.esc_base.specs.Flash.{Told, told};
+ghost use Rattle.esc_base.specs.Flash.{Told};
 ghost use Rattle.esc_base.specs.Range.{InRange};
 ghost use Rattle.interrupt_machine.specs.Did.{notes_of};
 ghost use Rattle.esc_core.specs.Calls.{IsMade};
@@ -65,7 +65,7 @@ impl Core {
 
     fn kind_step<D: FlashDev>(&mut self, kind: Kind, regs: &mut Regs, dev: &mut D) -> Did
         requires count { regs.old.accesses < 2 ^ 63 }
-        ensures made { IsMade (λ answers. kind_step kind answers self.old regs.old) (kind_asked kind self.old) regs.old (told D.bytes D.faults dev.old) result self.new regs.new (told D.bytes D.faults dev.new) }
+        ensures made { IsMade (λ answers. kind_step kind answers self.old regs.old) (kind_asked kind self.old) regs.old (D.told dev.old) result self.new regs.new (D.told dev.new) }
         ensures in_range { All InRange (notes_of result) }
     {
         match kind {
@@ -97,7 +97,7 @@ impl Core {
 
     fn core_step<D: FlashDev>(&mut self, kind: Kind, regs: &mut Regs, dev: &mut D) -> Did
         requires count { regs.old.accesses < 2 ^ 63 }
-        ensures made { IsMade (λ answers. core_step kind answers self.old regs.old) (core_asked kind self.old regs.old) regs.old (told D.bytes D.faults dev.old) result self.new regs.new (told D.bytes D.faults dev.new) }
+        ensures made { IsMade (λ answers. core_step kind answers self.old regs.old) (core_asked kind self.old regs.old) regs.old (D.told dev.old) result self.new regs.new (D.told dev.new) }
         ensures in_range { All InRange (notes_of result) }
     {
         if self.is_stray(kind, regs) {

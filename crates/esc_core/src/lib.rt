@@ -5,6 +5,8 @@ mod background;
 mod cap;
 mod comm;
 mod drive;
+#[cfg(test)]
+mod drive_tests;
 mod firmware;
 mod orders;
 mod own;

@@ -54,7 +54,7 @@ use Rattle.esc_laws.proofs.Pushes.{All-later}
 use Rattle.esc_laws.proofs.Facts.{cap_shut}
 use Rattle.esc_laws.proofs.Saves.{input_kept, servo_kept, acting_named, obeyed_tied, orders_other}
 use Rattle.esc_laws.proofs.CapTies.{start_tied, copy_goes, copy_tied, good_tied, opens_tied, pause_tied, back_tied, back_timer, timer_off, timer_grows, back_done, back_may}
-use Rattle.esc_laws.proofs.Lines.{plain_follows, edge_now, edge_bank, edge_follows, edge_sound, line_changes, line_same}
+use Rattle.esc_laws.proofs.Lines.{plain_follows, edge_now, edge_bank, edge_follows, rising_push, edge_sound, line_changes, line_same}
 use Rattle.esc_laws.proofs.Dues.{cap_called, cap_entered, signal_follows, time_follows}
 use Rattle.esc_laws.proofs.Rests.{set_now}
 use Rattle.esc_laws.proofs.Law.{HandlerLaw}
@@ -108,7 +108,7 @@ open_window x outer s g e may none done on = record {
   fits = λ told. (record { at = refl; owned = refl; window = (rw e may, g.control.ties.mode_is); nest = inside (so_far x).stack kind.Cap outer on; driven = tt; turns = tt; waits = tt }, tt);
   ground = ground_noted x (note.Window (as_tick x.bank.time) (mode_number x.core.control.mode)) refl refl tt refl g;
   tie = λ told. (
-    opens_tied x.trace x.core x.bank (so_far x) g.edges none done,
+    opens_tied x.trace x.core x.bank (so_far x) g.edges.0 none done,
     record { past = λ k d l. absurd (omega arith); order = λ a b le l. absurd (omega arith); few = omega arith },
     tt,
   );
@@ -126,7 +126,7 @@ pauses x outer f at opens_next g sound e k shut is on = record {
   tie = λ told. (
     pause_tied x.trace x.core x.bank (so_far x) f at opens_next e k shut,
     sound,
-    rw (e, is) (set_now (line x.trace).edges f x.bank.time (rests_from x.bank.changed) g.edges g.rested),
+    rw (e, is) (set_now (line x.trace).edges f x.bank.time (rests_from x.bank.changed) g.edges.0 g.rested),
   );
   others = elim [ kind.Cap ↦ λ ne t. absurd (ne refl) | j ↦ λ ne t. t ];
   stack_is = on;
@@ -362,12 +362,12 @@ edge : (v : Bool) (w : World) (level : Bool) → differ w.bank.level level ≡ v
 edge true w level d g t = (
   signal_follows (so_far w).signal w.core.cap_at (cap_seen w)
       (cap_view (w.trace ++ event.Edge (as_tick w.bank.time) level ∷ []) w.core (edge_bank w.bank level) (so_far w))
-      (edge_follows w.trace w.core w.bank (so_far w) level
+      (edge_follows w.trace w.core w.bank (so_far w) level (rising_push (line w.trace).edges (edge_now w.bank level) 0 g.edges.1 g.edges.0 (omega arith))
       (ap (λ (l : Line). l.edges) (line_changes w.trace w.bank level (subst (λ (l : Bool). differ l level ≡ true) g.level d)))) t.0,
   edge_sound w.bank.window (edge_now w.bank level) t.1,
   subst (λ (edges : List Edge). TimerTied (so_far w).signal w.core.cap_at edges w.made.cap_past (put_off w.bank.timer w.bank.time))
       (sym (ap (λ (l : Line). l.edges) (line_changes w.trace w.bank level (subst (λ (l : Bool). differ l level ≡ true) g.level d))))
-      (timer_grows (so_far w).signal w.core.cap_at (line w.trace).edges (edge_now w.bank level) w.made.cap_past w.bank.timer g.edges t.2),
+      (timer_grows (so_far w).signal w.core.cap_at (line w.trace).edges (edge_now w.bank level) w.made.cap_past w.bank.timer g.edges.0 t.2),
 )
 edge false w level d g t =
     plain w (event.Edge (as_tick w.bank.time) level) (line_same w.trace w.bank level (subst (λ (l : Bool). differ l level ≡ false) g.level d)) (omega arith) t

@@ -1,5 +1,5 @@
 -- Later events change nothing of what the notes and the steps before them said.
-use Rattle.std.proofs.Common.{◌≡◌, ◌≤◌, ◌<◌, ◌+◌, ℕ, Bool, true, false, not, ◌&&◌, ◌==◌, nat_le, nat_lt, max, if◌then◌else◌, List, [], ◌∷◌, ◌++◌, length, Some, None, refl, sym, ◌∙◌, ap, arith, All, ◌-◌, length-append, true≢false}
+use Rattle.std.proofs.Common.{◌≡◌, ◌≤◌, ◌<◌, ◌+◌, ℕ, Bool, true, false, not, ◌&&◌, ◌==◌, nat_le, nat_lt, max, if◌then◌else◌, List, [], ◌∷◌, ◌++◌, length, Some, None, refl, sym, ◌∙◌, ap, arith, All, ◌-◌, length-append, true≢false, inl, inr}
 use Rattle.std.proofs.lemmas.Bool.{not-true, and_parts, false_from_ne_true}
 use Rattle.std.proofs.lemmas.List.Elements.{All-head, All-tail}
 use Rattle.std.proofs.lemmas.List.{get_or_push}
@@ -19,7 +19,7 @@ use Rattle.esc_base.specs.Numbers.{mode_of}
 use Rattle.esc_base.specs.Times.{is_reached, least_pause, most_pause}
 use Rattle.edge_capture.specs.Edges.{last_at, blank}
 use Rattle.edge_capture.specs.Burst.{burst, close, close_of, hears, is_closed, wait}
-use Rattle.edge_capture.proofs.Stable.{burst-push, closed_later}
+use Rattle.edge_capture.proofs.Stable.{ListensOrNot, burst_more, closed_later}
 use Rattle.edge_capture.proofs.Grows.{burst_grows}
 use Rattle.settings_block.specs.declared.stored.Loaded.{Loaded}
 use Rattle.esc_laws.specs.Place.{Signal, Silent, Listens, Judged, Rests, place}
@@ -139,9 +139,14 @@ heard_before true m w heard x t h lt =
     open_before m heard x t lt ∙ sym (false_from_ne_true (is_closed m heard t) (λ c. true≢false (sym (closed_later m heard t x.t.0 (omega arith) c) ∙ shut)))
 heard_before false m w heard x t h lt = refl
 
+more_before : (m : Mode) (w : ℕ) (heard more : List Edge) (x : Edge) (t : ℕ) → t < x.t.0 → ListensOrNot m w heard more x
+    → is_closed m more t ≡ is_closed m heard t
+more_before m w heard more x t lt (inl same) = rw same refl
+more_before m w heard more x t lt (inr hears) = rw hears.1 (heard_before true m w heard x t hears.0 lt)
+
 edge_before : (v : Bool) (edges : List Edge) (x : Edge) (w t : ℕ) (m : Mode) → t < x.t.0
     → is_closed m (burst (if v then edges ++ x ∷ [] else edges) w m) t ≡ is_closed m (burst edges w m) t
-edge_before true edges x w t m lt = rw (burst-push edges x w m) (heard_before (hears m w (burst edges w m) x) m w (burst edges w m) x t refl lt)
+edge_before true edges x w t m lt = more_before m w (burst edges w m) (burst (edges ++ x ∷ []) w m) x t lt (burst_more edges x w m)
 edge_before false edges x w t m lt = refl
 
 -- before a later event the window is closed exactly where it was

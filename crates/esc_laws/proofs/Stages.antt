@@ -43,7 +43,7 @@ use Rattle.esc_laws.specs.Rooms.{Above, HoldsAlone, Past, Ground, Tie, Ties, own
 use Rattle.esc_laws.proofs.Pushes.{All-later, place-push}
 use Rattle.esc_laws.proofs.Notes.{Said, NoteFits, said_push}
 use Rattle.esc_laws.proofs.Facts.{access_time}
-use Rattle.esc_laws.proofs.Lines.{edge_now, edge_bank, line_changes, line_same}
+use Rattle.esc_laws.proofs.Lines.{edge_now, edge_bank, line_changes, line_same, rising_push}
 use Rattle.esc_laws.proofs.Rests.{rest_now}
 use Rattle.esc_laws.proofs.RoomSteps.{ground_noted}
 use Rattle.esc_laws.proofs.Returns.{returns_last}
@@ -341,7 +341,7 @@ later_ground w u from small g = record {
   control = g.control;
   orders = g.orders;
   level = g.level;
-  edges = All-later (λ e. e.t.0) (line w.trace).edges w.bank.time u from g.edges;
+  edges = (All-later (λ e. e.t.0) (line w.trace).edges w.bank.time u from g.edges.0, g.edges.1);
   rested = g.rested;
   small = small;
 }
@@ -370,8 +370,11 @@ edge_ground true w level d g =
       control = g.control;
       orders = g.orders;
       level = ap (λ (l : Line). l.level) (sym new);
-      edges = rw new (All-push (λ y. y.t.0 ≤ w.bank.time) (line w.trace).edges (edge_now w.bank level) g.edges (omega arith));
-      rested = rw new (rest_now (line w.trace).edges (edge_now w.bank level) g.edges);
+      edges = rw new (
+        All-push (λ y. y.t.0 ≤ w.bank.time) (line w.trace).edges (edge_now w.bank level) g.edges.0 (omega arith),
+        rising_push (line w.trace).edges (edge_now w.bank level) 0 g.edges.1 g.edges.0 (omega arith),
+      );
+      rested = rw new (rest_now (line w.trace).edges (edge_now w.bank level) g.edges.0);
       small = g.small;
     }
 edge_ground false w level d g =

@@ -133,7 +133,7 @@ start_ground loaded nest = record {
   control = opening_stands loaded;
   orders = record { settings_are = refl; spin_is = refl; save_is = refl };
   level = ap (λ (l : Line). l.level) (sym line-none);
-  edges = rw line-none (All-nil (λ e. e.t.0 ≤ 0));
+  edges = rw line-none (All-nil (λ e. e.t.0 ≤ 0), tt);
   rested = rw line-none (record { over = All-nil (λ e. e.t.0 + 200 ≤ 0); first = λ t a. omega arith });
   small = lit< tt;
 }

@@ -8,8 +8,10 @@ use Rattle.esc_base.specs.declared.kind.Kind.TheVariants as kind
 use Rattle.esc_base.specs.declared.event.Event.{Event}
 use Rattle.esc_base.specs.declared.note.Note.{Note}
 use Rattle.esc_base.specs.declared.note.Note.TheVariants as note
+use Rattle.esc_base.specs.declared.signal.Edge.{Edge}
 use Rattle.esc_base.specs.Journal.{time_of}
 use Rattle.esc_base.specs.Trace.{line}
+use Rattle.edge_capture.specs.Edges.{Rising}
 use Rattle.settings_block.specs.declared.stored.Loaded.{Loaded}
 use Rattle.arming.specs.Kept.{Kept}
 use Rattle.arming.specs.Stands.{Stands}
@@ -39,11 +41,15 @@ use Rattle.esc_laws.specs.World.{Made, World, so_far, noted, step_notes, after_s
 
 -- ---- what all handlers share
 
+-- the line's changes stand in the order of their ticks, up to this one
+abbrev pub StandUntil : ℕ → List Edge → Type 0
+StandUntil t edges = All (λ e. e.t.0 ≤ t) edges × Rising 0 edges
+
 pub record Grounded (loaded : Loaded) (trace : List Event) (kept : Kept) (o : Orders) (now_level : Bool) (rests : ℕ) (time : ℕ) (back : List Note) : Type 0 where
   pub control : Stands kept back
   pub orders : OrdersTied loaded o back
   pub level : now_level ≡ (line trace).level
-  pub edges : All (λ e. e.t.0 ≤ time) (line trace).edges
+  pub edges : StandUntil time (line trace).edges
   pub rested : IsRestFrom (line trace).edges rests
   pub small : time < 2147483648
 
