@@ -14,7 +14,7 @@ use Rattle.arming.specs.ControlAt.{demand_at}
 use Rattle.commutation.specs.Commutated.{sector_at}
 use Rattle.gate_driver.specs.DeadSafe.{low_at, low_free_at}
 use Rattle.esc_laws.specs.Steps.{stall_end}
-use Rattle.esc_laws.specs.Chopped.{up_to, by_tick, disturbs, Undisturbed, IsChopped, Chopped}
+use Rattle.esc_laws.specs.Chopped.{upto, by_tick, disturbs, Undisturbed, IsChopped, Chopped}
 use Rattle.esc_laws.specs.Refused.{first_two, ticks, switches}
 use Rattle.esc_laws.specs.RefusedChops.{drive, low_on, ChoppingRefuses, in_time, SomeAreChopped}
 use Rattle.esc_laws.proofs.UpTo.{up_to_all, up_to_none, up_to_before}
@@ -34,13 +34,13 @@ gates_late (note.Gate t high low ∷ rest) g =
 gates_late (n ∷ rest) g = absurd g
 
 -- gates leave the demand
-gates_demand : (t : ℕ) (rest back : List Note) → GatesLate rest → demand_at (reverse (up_to t rest) ++ back) ≡ demand_at back
+gates_demand : (t : ℕ) (rest back : List Note) → GatesLate rest → demand_at (reverse (upto t rest) ++ back) ≡ demand_at back
 gates_demand t [] back g = refl
 gates_demand t (note.Gate u high low ∷ rest) back g = elim (cases_lt t u.0) [
   | inl l ↦ rw (lt-leb u.0 t l) refl
   | inr le ↦ rw (le-leb u.0 t le)
-      (ap (λ (l : List Note). demand_at (l ++ back)) (reverse-append (note.Gate u high low ∷ []) (up_to t rest))
-      ∙ ap demand_at (append_assoc (reverse (up_to t rest)) (note.Gate u high low ∷ []) back)
+      (ap (λ (l : List Note). demand_at (l ++ back)) (reverse-append (note.Gate u high low ∷ []) (upto t rest))
+      ∙ ap demand_at (append_assoc (reverse (upto t rest)) (note.Gate u high low ∷ []) back)
       ∙ gates_demand t rest (note.Gate u high low ∷ back) g.1)
 ]
 gates_demand t (n ∷ rest) back g = absurd g
@@ -89,7 +89,7 @@ module _ (d : ℕ) (front rest after : List Note) (some : 0 < d) (early : All (�
   within : (t : ℕ) → 4000 ≤ t + 48 → t < 6000 → demand_at (by_tick t whole) ≡ d
   within t lo hi =
       ap demand_at (same_by t hi
-      ∙ ap (λ (l : List Note). reverse l) (up_to_all t front rest (earlier t front (omega arith) early)) ∙ reverse-append front (up_to t rest))
+      ∙ ap (λ (l : List Note). reverse l) (up_to_all t front rest (earlier t front (omega arith) early)) ∙ reverse-append front (upto t rest))
       ∙ gates_demand t rest (reverse front) late ∙ demand
 
   sector_is : sector_at (by_tick 3999 whole) ≡ 1
@@ -101,10 +101,10 @@ module _ (d : ℕ) (front rest after : List Note) (some : 0 < d) (early : All (�
     number = 2;
     starts = refl;
     demand = λ t lo hi. within t lo hi;
-    no_stall = All-nil (λ (e : Event). (stall_end e ≤ 3952) ⊎ (5999 < tick_of e));
-    later = omega arith;
-    turned = rw sector_is (omega arith);
-    quiet = early_calm front (rest ++ after) early (gates_calm rest after late behind);
+    stalls = All-nil (λ (e : Event). (stall_end e ≤ 3952) ⊎ (5999 < tick_of e));
+    before = omega arith;
+    sector = rw sector_is (omega arith);
+    none = early_calm front (rest ++ after) early (gates_calm rest after late behind);
     free = rw (sector_is, same_by 3999 (omega arith), at_start) free;
   }
 
@@ -219,8 +219,8 @@ at_4000 d is = record {
 
 at_period : (number d : ℕ) → Undisturbed 1 [] in_time (2000 * number) d
     → IsChopped 1 6000 in_time (2000 * number) d (sector_at (by_tick (2000 * number - 1) in_time))
-at_period zero d y = absurd (let l = y.later in omega arith)
-at_period (suc zero) d y = absurd (let l = y.turned in omega arith)
+at_period zero d y = absurd (let l = y.before in omega arith)
+at_period (suc zero) d y = absurd (let l = y.sector in omega arith)
 at_period (suc (suc zero)) d y = at_4000 d (y.demand 4000 (omega arith) (omega arith))
 at_period (suc (suc (suc n))) d y = record {
   high_on = λ t lt lo hi. absurd (omega arith);
