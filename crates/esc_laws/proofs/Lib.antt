@@ -20,6 +20,19 @@ pub mod DriveFacts
 pub mod CrossFacts
 pub mod CommFacts
 pub mod TickFacts
+pub mod ChopCalm
+pub mod ChopPushes
+pub mod ChopPlaced
+pub mod ChopFresh
+pub mod ChopHigh
+pub mod ChopLow
+pub mod ChopSettled
+pub mod ChopTheorem
+pub mod ChopBack
+pub mod ChopCalls
+pub mod ChopBridge
+pub mod ChopFront
+pub mod ChopLegal
 pub mod Law
 pub mod MainRoom
 pub mod TickRoom
@@ -33,6 +46,7 @@ pub mod Laws
 pub mod Stages
 pub mod Turns
 pub mod Entries
+pub mod ChopSteps
 pub mod OwnTurns
 pub mod Stepping
 pub mod Events
@@ -41,5 +55,9 @@ pub mod Carried
 pub mod FlashSteps
 pub mod Refused
 pub mod RefusedCrossings
+pub mod RefusedDrive
+pub mod UpTo
+pub mod RefusedChops
+pub mod DutyKept
 pub mod RefusedSteps
 pub mod Allowed

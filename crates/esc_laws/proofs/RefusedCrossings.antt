@@ -21,8 +21,8 @@ use Rattle.esc_laws.specs.Searched.{Searched, SearchRule}
 use Rattle.esc_laws.specs.Saves.{advance_of}
 use Rattle.esc_laws.specs.Calls.{HasTurned, HasCaughtUp, turns_in, turn_was_due}
 use Rattle.esc_laws.specs.Steps.{Turned, opening, journal, open_in, free, after, StepFits}
-use Rattle.esc_laws.specs.Refused.{enters, leaves, ticks, first_two, entry}
-use Rattle.esc_laws.specs.RefusedCrossings.{turns, crosses, forwards, first_turn, up_from, commutes, looks, first_sector, CrossingsRefuse, CrossedTurnsRefuse, SearchesRefuse, ActivationsRefuse}
+use Rattle.esc_laws.specs.Refused.{enters, leaves, ticks, turns, crosses, first_two, entry}
+use Rattle.esc_laws.specs.RefusedCrossings.{forwards, first_turn, up_from, commutes, looks, first_sector, CrossingsRefuse, CrossedTurnsRefuse, SearchesRefuse, ActivationsRefuse}
 use Rattle.arming.proofs.InOrder.{each_at}
 use Rattle.esc_laws.proofs.Refused.{nest_fits}
 
@@ -76,11 +76,11 @@ turn_fits front after n whole = each_at (λ before n. TurnRule 0 forwards (rever
 
 pub crossed_turns_refuse : CrossedTurnsRefuse
 crossed_turns_refuse = record {
-  before_the_wait = λ after h. (let b = (turn_fits (first_turn ++ crosses 9000 ∷ []) after (turns 20999 2) h).time in absurd (omega arith));
-  forced_a_tick_early = λ after h. (let b = (turn_fits first_turn after (turns 242499 2) h).time in absurd (omega arith));
   by_an_old_crossing = λ after h. (let b = (turn_fits (first_turn ++ (crosses 9000 ∷ turns 21000 2 ∷ [])) after (turns 50000 3) h).time in absurd (omega arith));
   wait_of_the_old_interval = λ after h. (let b = (turn_fits (first_turn ++ (crosses 9000 ∷ turns 21000 2 ∷ crosses 209000 ∷ [])) after
       (turns 221000 3) h).time in absurd (omega arith));
+  wait_of_the_drive_before = λ after h. (let b = (turn_fits (first_turn ++ (crosses 8600 ∷ turns 20600 2 ∷ crosses 28000 ∷ turns 39700 3 ∷ ticks 40800 17 0 0
+      ∷ ticks 43200 18 0 20 ∷ turns 43210 4 ∷ crosses 49300 ∷ [])) after (turns 61200 5) h).time in absurd (omega arith));
 }
 
 -- ---- the search
@@ -147,7 +147,6 @@ late loaded nest cost le f =
 
 pub activations_refuse : ActivationsRefuse
 activations_refuse = record {
-  crossing_in_comm = λ nest loaded after h. (let e = nest_fits nest loaded (enters 2400 6 ∷ []) after (crosses 2402) h in absurd (cc));
   no_sector_after_a_crossing = λ nest loaded after h. not_done (advance_of loaded.settings) _ refl
       (le-leb (8524 + wait_of (advance_of loaded.settings) 24000) 20600 (omega arith))
       (nest_fits nest loaded (commutes ++ (enters 8500 4 ∷ crosses 8524 ∷ leaves 8530 4 ∷ enters 20600 6 ∷ [])) after (leaves 20612 6) h).1;

@@ -253,6 +253,7 @@ logged_start loaded nest cost =
       reached = λ k o. cc;
       reached_by = λ k o. cc;
       fits = tt;
+      drives = tt;
       past = omega arith;
       made_past = rw made-none (record { cap = omega arith; comm = omega arith; cmp = omega arith });
       awaits = record { open_step = λ o. omega arith; idle = λ o t from below f k. absurd (omega arith) };

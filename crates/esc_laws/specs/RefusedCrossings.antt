@@ -13,14 +13,7 @@ use Rattle.commutation.specs.Commutated.{Commutated}
 use Rattle.esc_laws.specs.Crossed.{Crossed}
 use Rattle.esc_laws.specs.Searched.{Searched}
 use Rattle.esc_laws.specs.Steps.{Turned, StepFits}
-use Rattle.esc_laws.specs.Refused.{enters, leaves, ticks, first_two, Unnested, entry, own}
-
--- Q and Z
-abbrev pub turns : ℕ → ℕ → Note
-turns t sector = note.Step (as_tick t) sector
-
-abbrev pub crosses : ℕ → Note
-crosses t = note.Cross (as_tick t)
+use Rattle.esc_laws.specs.Refused.{enters, leaves, ticks, turns, crosses, first_two, Unnested, entry, own}
 
 -- a drive that goes forward throughout
 abbrev pub forwards : List Note → Bool
@@ -60,15 +53,13 @@ abbrev pub Uncommutated : List Note → Type 0
 Uncommutated notes = (after : List Note) → Commutated 0 forwards (first_two ++ (notes ++ after)) → ⊥
 
 pub record CrossedTurnsRefuse : Type 0 where
-  -- a crossed Q comes no earlier than the wait after its Z, which is half the interval, and a forced one 240000 ticks after the Q
-  -- before
-  pub before_the_wait : Uncommutated (first_turn ++ (crosses 9000 ∷ turns 20999 2 ∷ []))
-  pub forced_a_tick_early : Uncommutated (first_turn ++ (turns 242499 2 ∷ []))
   -- a Z of the sector before doesn't count
   pub by_an_old_crossing : Uncommutated (first_turn ++ (crosses 9000 ∷ turns 21000 2 ∷ turns 50000 3 ∷ []))
-  -- the wait is taken from the interval that the Z leaves, and the interval begins anew with a drive: a crossing after 200000
-  -- ticks lengthens the wait to 34000
+  -- the wait is taken from the interval that the Z leaves: a crossing 200000 ticks after the last one lengthens it to 34000
   pub wait_of_the_old_interval : Uncommutated (first_turn ++ (crosses 9000 ∷ turns 21000 2 ∷ crosses 209000 ∷ turns 221000 3 ∷ []))
+  -- and with a new drive the interval begins anew: its first crossing doesn't look back at the last drive's
+  pub wait_of_the_drive_before : Uncommutated (first_turn ++ (crosses 8600 ∷ turns 20600 2 ∷ crosses 28000 ∷ turns 39700 3 ∷ ticks 40800 17 0 0
+      ∷ ticks 43200 18 0 20 ∷ turns 43210 4 ∷ crosses 49300 ∷ turns 61200 5 ∷ []))
 
 -- COMM with its Q
 abbrev pub commutes : List Note
@@ -98,8 +89,6 @@ first_sector =
         (turns 2500 1 ∷ leaves 2500 6 ∷ []) ∷ []
 
 pub record ActivationsRefuse : Type 0 where
-  -- a Z stands in CMP
-  pub crossing_in_comm : (nest : Nest) → Unnested nest (enters 2400 6 ∷ crosses 2402 ∷ [])
   -- a COMM has a Q where the wait after a Z is over
   pub no_sector_after_a_crossing : (nest : Nest) → Unnested nest (commutes ++ (enters 8500 4 ∷ crosses 8524 ∷ leaves 8530 4 ∷ enters 20600 6 ∷ leaves 20612 6 ∷ []))
   -- CMP is entered when the blanking after a Q is over

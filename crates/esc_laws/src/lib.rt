@@ -2,11 +2,15 @@
 //! refuse, and that they don't refuse all.
 #![tactic(auto)]
 
+mod drive_laws;
 mod shown;
 mod signal_laws;
 
+pub use drive_laws::duty_is_kept;
 pub use shown::{
-    activations_refuse, control_refuses, crossed_turns_refuse, crossings_refuse, nesting_refuses, searches_refuse, some_are_legal, steps_refuse, windows_refuse,
+    activations_refuse, chopping_refuses, control_refuses, crossed_turns_refuse, crossings_refuse,
+    drive_refuses, gates_refuse, nesting_refuses, searches_refuse, some_are_chopped,
+    some_are_legal, steps_refuse, turns_refuse, windows_refuse,
 };
 pub use signal_laws::{
     cap_opens_window, first_rested_tick, rest_calls_cap, sent_frame_is_read, whole_signal_is_heard,

@@ -1,7 +1,8 @@
 //! What the laws refuse, and what they don't.
 ghost use Rattle.esc_laws.specs.Allowed.{SomeAreLegal};
+ghost use Rattle.esc_laws.specs.Refused.{ControlRefuses, DriveRefuses, GatesRefuse, NestingRefuses, StepsRefuse, TurnsRefuse, WindowsRefuse};
+ghost use Rattle.esc_laws.specs.RefusedChops.{ChoppingRefuses, SomeAreChopped};
 ghost use Rattle.esc_laws.specs.RefusedCrossings.{ActivationsRefuse, CrossedTurnsRefuse, CrossingsRefuse, SearchesRefuse};
-ghost use Rattle.esc_laws.specs.Refused.{ControlRefuses, NestingRefuses, StepsRefuse, WindowsRefuse};
 
 /// The rules of control refuse each of these small journals.
 pub fn control_refuses()
@@ -11,6 +12,21 @@ pub fn control_refuses()
 /// The rules of windows and their verdicts refuse each of these.
 pub fn windows_refuse()
     ensures { WindowsRefuse }
+{}
+
+/// The rules of the dead time refuse each of these.
+pub fn gates_refuse()
+    ensures { GatesRefuse }
+{}
+
+/// The rules of the drive refuse each of these.
+pub fn drive_refuses()
+    ensures { DriveRefuses }
+{}
+
+/// The rules of sectors refuse each of these.
+pub fn turns_refuse()
+    ensures { TurnsRefuse }
 {}
 
 /// The rules of which note stands in which activation refuse each of these.
@@ -41,6 +57,16 @@ pub fn searches_refuse()
 /// The rules of the activations around a crossing refuse each of these.
 pub fn activations_refuse()
     ensures { ActivationsRefuse }
+{}
+
+/// The law of undisturbed periods refuses each of these.
+pub fn chopping_refuses()
+    ensures { ChoppingRefuses }
+{}
+
+/// And it allows one with such a period, whose switch turns at the last ticks that the law allows.
+pub fn some_are_chopped()
+    ensures { SomeAreChopped }
 {}
 
 /// Some whole journals are legal.
