@@ -49,5 +49,6 @@ pub mod Carried
 pub mod FlashSteps
 pub mod Refused
 pub mod RefusedDrive
+pub mod RefusedChops
 pub mod RefusedSteps
 pub mod Allowed

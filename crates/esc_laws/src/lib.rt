@@ -6,7 +6,7 @@ mod shown;
 mod signal_laws;
 
 pub use shown::{
-    control_refuses, drive_refuses, gates_refuse, nesting_refuses, some_are_legal, steps_refuse,
+    chops_refuse, control_refuses, drive_refuses, gates_refuse, nesting_refuses, some_are_legal, steps_refuse,
     turns_refuse, windows_refuse,
 };
 pub use signal_laws::{

@@ -1,6 +1,6 @@
 //! What the laws refuse, and what they don't.
 ghost use Rattle.esc_laws.specs.Allowed.{SomeAreLegal};
-ghost use Rattle.esc_laws.specs.Refused.{ControlRefuses, DriveRefuses, GatesRefuse, NestingRefuses, StepsRefuse, TurnsRefuse, WindowsRefuse};
+ghost use Rattle.esc_laws.specs.Refused.{ChopsRefuse, ControlRefuses, DriveRefuses, GatesRefuse, NestingRefuses, StepsRefuse, TurnsRefuse, WindowsRefuse};
 
 /// The rules of control refuse each of these small journals.
 pub fn control_refuses()
@@ -20,6 +20,11 @@ pub fn gates_refuse()
 /// The rules of the drive refuse each of these.
 pub fn drive_refuses()
     ensures { DriveRefuses }
+{}
+
+/// The rule of the pulses refuses each of these.
+pub fn chops_refuse()
+    ensures { ChopsRefuse }
 {}
 
 /// The rules of sectors refuse each of these.
