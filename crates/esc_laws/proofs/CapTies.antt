@@ -23,12 +23,10 @@ use Rattle.dshot_commands.specs.declared.act.Act.{Act}
 use Rattle.arming.specs.Kept.{after_frame}
 use Rattle.esc_core.specs.declared.state.CapAt.{CapAt}
 use Rattle.esc_core.specs.declared.state.CapAt.TheVariants as cap
-use Rattle.input_detect.specs.declared.window.Judgement.{Judgement}
-use Rattle.input_detect.specs.declared.window.Judgement.TheVariants.{Good, Bad, Found, Nothing}
 use Rattle.esc_core.specs.Brain.{Brain}
 use Rattle.esc_core.specs.Orders.{obeyed_if}
 use Rattle.esc_core.specs.Stepped.{Stepped, goes_on}
-use Rattle.esc_core.specs.Cap.{act_in, after_edges, after_copy, command_note, edge_of, judge_step, next_edge, opens, takes}
+use Rattle.esc_core.specs.Cap.{after_edges, after_copy, command_note, edge_of, next_edge, opens, takes}
 use Rattle.esc_laws.specs.Place.{Signal, Silent, Listens, Judged, Rests, Place, next, rested}
 use Rattle.esc_laws.specs.Windowed.{MayReturn}
 use Rattle.esc_laws.specs.Tied.{CapView, cap_view, Hears, IsClosing, IsCopying, IsListening, IsJudged, IsPaused, SignalTied, TimerTied, WindowSound}
@@ -232,7 +230,6 @@ good_tied None frame trace c b p w m i =
     (record { verdict = ap (λ (n : ℕ). n + 1) i.no_verdict; taken = i.taken; running = i.hears.running; no_timer = i.hears.no_timer }, refl)
 good_tied (Some act) frame trace c b p w m i =
     (record { verdict = ap (λ (n : ℕ). n + 1) i.no_verdict; taken = i.taken; running = i.hears.running; no_timer = i.hears.no_timer }, refl)
-
 
 -- it opens a window
 opened_hears : (trace : List Event) (c : Brain) (b : Bank) (p : Place) (m : Mode) → All (λ e. e.t.0 ≤ b.time) (line trace).edges → b.timer ≡ None

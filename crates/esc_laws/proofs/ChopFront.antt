@@ -1,5 +1,5 @@
 -- `Chopped` of what stands where a write failed, and of a journal without a drive.
-use Rattle.std.proofs.Common.{◌≡◌, ◌≤◌, ◌<◌, ◌+◌, ◌-◌, ◌*◌, ℕ, Bool, true, false, if◌then◌else◌, nat_le, List, [], ◌∷◌, ◌++◌, reverse, refl, sym, ◌∙◌, ap, subst, arith, inl, inr, append_assoc, append-nil, All}
+use Rattle.std.proofs.Common.{◌≡◌, ◌≤◌, ◌<◌, ◌+◌, ◌-◌, ◌*◌, ℕ, Bool, true, false, if◌then◌else◌, nat_le, List, [], ◌∷◌, ◌++◌, reverse, refl, sym, ◌∙◌, ap, arith, inl, inr, append_assoc, append-nil, All}
 use Rattle.std.proofs.lemmas.List.{reverse-append}
 use Rattle.std.proofs.lemmas.List.Elements.{All-head, All-tail, All-nil, All-cons, All-append, All-weaker}
 use Rattle.std.proofs.lemmas.Bool.{cases_lt}
@@ -13,11 +13,8 @@ use Rattle.settings_block.specs.declared.stored.Loaded.{Loaded}
 use Rattle.interrupt_machine.specs.declared.nest.Nest.{Nest}
 use Rattle.arming.specs.ControlAt.{demand_at}
 use Rattle.commutation.specs.Commutated.{sector_at}
-use Rattle.commutation.specs.Sectors.{high_of, low_of}
-use Rattle.esc_base.specs.Legs.{is_on}
-use Rattle.gate_driver.specs.DeadSafe.{high_at, low_at, low_free_at}
 use Rattle.esc_laws.specs.Steps.{Turned, opening, load_number, notes_in, journal, Below, EachStep, StepFits}
-use Rattle.esc_laws.specs.Chopped.{upto, by_tick, disturbs, Undisturbed, IsChopped, Chopped}
+use Rattle.esc_laws.specs.Chopped.{upto, by_tick, disturbs, Undisturbed, Chopped}
 use Rattle.esc_laws.proofs.Notes.{all_front}
 
 le_is : (m n : ℕ) → m ≤ n → nat_le m n ≡ true

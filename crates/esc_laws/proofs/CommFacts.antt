@@ -1,6 +1,5 @@
 -- What the drive's tie becomes at a step of COMM.
-use Rattle.std.proofs.Common.{◌≡◌, ◌≢◌, ◌≤◌, ◌<◌, ◌+◌, ◌⊎◌, inl, inr, ℕ, Bool, true, false, not, ◌&&◌, ◌||◌, ◌==◌, nat_lt, nat_le, if◌then◌else◌, List, ◌∷◌, Option, Some, None, refl, sym, ◌∙◌, ap, subst, arith}
-use Rattle.std.proofs.lemmas.Bool.{cases_lt}
+use Rattle.std.proofs.Common.{◌≡◌, ◌≢◌, ◌≤◌, ◌<◌, ◌+◌, ◌⊎◌, inl, inr, ℕ, Bool, true, false, ◌||◌, nat_lt, if◌then◌else◌, List, ◌∷◌, Option, Some, None, refl, ◌∙◌, ap, subst, arith}
 use Rattle.std.proofs.lemmas.Bool.Decides.{nat_tests}
 use Rattle.esc_base.specs.declared.gate.Leg.{Leg}
 use Rattle.esc_base.specs.declared.kind.Kind.{Kind}
@@ -9,11 +8,10 @@ use Rattle.esc_base.specs.Legs.{is_on}
 use Rattle.interrupt_machine.specs.Did.{accessed}
 use Rattle.interrupt_machine.specs.Open.{innermost}
 use Rattle.arming.specs.ControlAt.{demand_at}
-use Rattle.commutation.specs.Sectors.{high_of, low_of}
-use Rattle.commutation.specs.Commutated.{sector_at}
+use Rattle.commutation.specs.Sectors.{high_of}
 use Rattle.gate_driver.specs.declared.to_sector.ChangeAt.{ChangeAt}
 use Rattle.gate_driver.specs.declared.to_sector.ChangeAt.TheVariants as change
-use Rattle.gate_driver.specs.Gated.{Legs, Gated, at_leg, offs, wait_of, gates_after}
+use Rattle.gate_driver.specs.Gated.{Legs, at_leg, offs, wait_of, gates_after}
 use Rattle.gate_driver.specs.Acted.{KeepsDeadTime}
 use Rattle.gate_driver.proofs.Bits.{off_is}
 use Rattle.gate_driver.proofs.OffTimes.{offs_same, off_stays}

@@ -1,13 +1,13 @@
 -- COMM's room.
-use Rattle.std.proofs.Common.{◌≡◌, ◌≢◌, ◌≤◌, ◌<◌, ◌+◌, ◌-◌, ◌⊎◌, inl, inr, ℕ, zero, suc, min, Bool, true, false, not, ◌&&◌, ◌||◌, ◌==◌, nat_lt, nat_le, bit_and, bit_or, if◌then◌else◌, List, ◌∷◌, Option, Some, None, refl, sym, ◌∙◌, ap, subst, arith}
-use Rattle.std.proofs.lemmas.Bool.{cases_lt, cases_Bool, and_parts, lt-ltb, ltb-true, le-ltb, leb-true, le-leb, or_left, or_right, not-true}
+use Rattle.std.proofs.Common.{◌≡◌, ◌≤◌, ◌<◌, ◌+◌, ◌-◌, ◌⊎◌, inl, inr, ℕ, zero, suc, min, Bool, true, false, not, ◌&&◌, ◌||◌, ◌==◌, nat_lt, nat_le, bit_and, bit_or, if◌then◌else◌, List, Option, Some, None, refl, sym, ◌∙◌, ap, subst, arith}
+use Rattle.std.proofs.lemmas.Bool.{cases_lt, and_parts, ltb-true, leb-true, le-leb, or_left, or_right, not-true}
 use Rattle.std.proofs.lemmas.Bool.Decides.{nat_tests}
 use Rattle.esc_base.specs.declared.gate.Leg.{Leg}
 use Rattle.esc_base.specs.declared.kind.Kind.{Kind}
 use Rattle.esc_base.specs.declared.kind.Kind.TheVariants as kind
 use Rattle.esc_base.specs.declared.note.Note.{Note}
 use Rattle.esc_base.specs.declared.note.Note.TheVariants as note
-use Rattle.esc_base.specs.Legs.{mask_of, is_on, IsOnly}
+use Rattle.esc_base.specs.Legs.{mask_of, is_on}
 use Rattle.esc_base.specs.Numbers.{as_tick}
 use Rattle.esc_base.specs.Times.{is_reached}
 use Rattle.timer_regs.specs.Bank.{Bank}
@@ -22,13 +22,11 @@ use Rattle.commutation.proofs.Order.{next_within, next_keeps}
 use Rattle.gate_driver.specs.declared.chop.Chop.TheVariants as chop
 use Rattle.gate_driver.specs.declared.to_sector.ChangeAt.{ChangeAt}
 use Rattle.gate_driver.specs.declared.to_sector.ChangeAt.TheVariants as change
-use Rattle.gate_driver.specs.DeadSafe.{high_at, low_at, high_free_at}
-use Rattle.gate_driver.specs.Gated.{Legs, Gated, at_leg, offs, gates_after, low_wait, high_wait}
-use Rattle.gate_driver.specs.Change.{Change, change_to, low_step, high_step, duty_step, place_step, change_step, IsSector}
+use Rattle.gate_driver.specs.DeadSafe.{low_at, high_free_at}
+use Rattle.gate_driver.specs.Gated.{Gated, at_leg, offs, gates_after, low_wait, high_wait}
+use Rattle.gate_driver.specs.Change.{change_to, low_step, high_step, duty_step, place_step}
 use Rattle.gate_driver.proofs.Bits.{on_and, or_on, or_is, only_kept, off_is}
-use Rattle.gate_driver.proofs.OffTimes.{gates_same}
-use Rattle.gate_driver.proofs.DeadTime.{MayTurnOn, may_turn_on, same_keeps, high_off_keeps, low_off_keeps, high_on_keeps, low_on_keeps}
-use Rattle.esc_core.specs.declared.orders.Orders.{Orders}
+use Rattle.gate_driver.proofs.DeadTime.{may_turn_on, high_off_keeps, low_off_keeps, high_on_keeps, low_on_keeps}
 use Rattle.esc_core.specs.declared.drive.Drive.{Drive}
 use Rattle.esc_core.specs.declared.state.CommAt.{CommAt}
 use Rattle.esc_core.specs.declared.state.CommAt.TheVariants as comm
@@ -38,7 +36,7 @@ use Rattle.esc_core.specs.declared.state.PwmAt.{PwmAt}
 use Rattle.esc_core.specs.declared.state.PwmAt.TheVariants as pwm
 use Rattle.esc_core.specs.Orders.{is_forward}
 use Rattle.esc_core.specs.Drive.{is_stuck, low_free, due_at, after_turn}
-use Rattle.esc_core.specs.Comm.{begins, waits_for, decided, turned, turn_step, resumed, resumed_step, acted, comm_step}
+use Rattle.esc_core.specs.Comm.{begins, waits_for, decided, turned, turn_step, resumed, resumed_step, comm_step}
 use Rattle.esc_core.specs.Stepped.{Stepped, goes_on}
 use Rattle.esc_core.specs.Firmware.{comm_left, pwm_need, tick_need}
 use Rattle.settings_block.specs.declared.settings.Settings.{Settings}
@@ -46,12 +44,12 @@ use Rattle.esc_laws.specs.Driven.{InPair}
 use Rattle.esc_laws.specs.Saves.{settings_at, forward_at}
 use Rattle.esc_laws.specs.Calls.{calls_turn, calls_low, turn_is_due, turned_at, turns_in, turn_was_due, postponed_at, low_is_on, HasTurned, HasCaughtUp}
 use Rattle.esc_laws.specs.Tied.{WordTold}
-use Rattle.esc_laws.specs.DriveTied.{DriveView, DriveTied, CommTied, LowTied, TimerKept, ChangeTied, Turns, IsUp, Decides, Resumes, Resumed, HasActed, HasArmed, OnOrHeld, OnOrLate, PwmTied, low_on, comm_since, is_turning, is_marking, TurnTied}
+use Rattle.esc_laws.specs.DriveTied.{DriveView, DriveTied, CommTied, LowTied, TimerKept, ChangeTied, Turns, IsUp, Decides, Resumes, Resumed, HasActed, OnOrHeld, PwmTied, low_on, TurnTied}
 use Rattle.esc_laws.specs.World.{World, so_far, after_enter}
-use Rattle.esc_laws.specs.Rooms.{Ground, Ties, Tie, Unheld, HoldsAlone, GatesKeep, StepTold, StepKeeps, drive_seen}
+use Rattle.esc_laws.specs.Rooms.{Ground, Ties, Tie, Unheld, StepTold, StepKeeps, drive_seen}
 use Rattle.esc_laws.proofs.RoomSteps.{ground_noted, quiet_gates, inside, popped}
-use Rattle.esc_laws.proofs.DriveFacts.{apart_legs, pair_apart, low_leg_off, comm_shut, rest_still, timer_kept, low_kept}
-use Rattle.esc_laws.proofs.CommFacts.{Words, same_words, high_words, low_words, Moves, moved_view, comm_moves, IsComm, place_tie, before_step, same_to, same_marked, comm_gates, waits_free}
+use Rattle.esc_laws.proofs.DriveFacts.{pair_apart, low_leg_off, comm_shut, rest_still, timer_kept, low_kept}
+use Rattle.esc_laws.proofs.CommFacts.{Words, same_words, high_words, low_words, moved_view, comm_moves, IsComm, place_tie, before_step, same_to, same_marked, comm_gates, waits_free}
 use Rattle.esc_laws.proofs.Law.{HandlerLaw}
 
 -- while COMM is open there is a demand, so TICK's tie holds
@@ -415,8 +413,7 @@ low_waits w outer place at until i some to e =
     let t = i.ties kind.Comm in
     let off : is_on w.bank.hi (low_of w.core.drive.turn.to) ≡ false = rw to (low_leg_off w.bank.sector w.bank.hi w.bank.lo t.sectors t.pair) in
     let later : w.bank.time < low_free w.core.drive =
-    waits_free w.bank.hi (low_free w.core.drive) (low_of w.core.drive.turn.to) w.bank.time until off e in
-    (
+    waits_free w.bank.hi (low_free w.core.drive) (low_of w.core.drive.turn.to) w.bank.time until off e in (
       later,
       off_is (low_on (drive_seen w)) (λ on. (
           let free : at_leg w.core.drive.gates.hi_free (low_of w.bank.sector) ≤ w.bank.time = t.held (low_of w.bank.sector) on in
@@ -1091,7 +1088,7 @@ entry_drives w t unheld due = elim (cases_lt 0 (demand_at w.back)) [
   | inl l ↦ l
   | inr z ↦ absurd (
       let still = rest_still w.core.tick_at w.bank.hi w.bank.lo w.bank.flag w.bank.comm w.core.drive.postponed w.bank.stuck (unheld kind.Tick)
-          ((t kind.Tick).4 (omega arith)).rest in
+      ((t kind.Tick).4 (omega arith)).rest in
       let r : is_reached None w.bank.time ≡ true = subst (λ (x : Option ℕ). is_reached x w.bank.time ≡ true) still.disarmed due in
       cc)
 ]

@@ -1,5 +1,5 @@
 -- A whole signal that begins on a line at rest is heard from its first edge.
-use Rattle.std.proofs.Common.{◌≡◌, ◌≤◌, ◌<◌, ◌+◌, ℕ, Bool, true, false, not, ◌&&◌, ◌==◌, nat_le, nat_lt, if◌then◌else◌, List, [], ◌∷◌, ◌++◌, length, Some, None, refl, sym, ◌∙◌, ap, subst, arith, All, append-nil, append_assoc, length-append}
+use Rattle.std.proofs.Common.{◌≡◌, ◌≤◌, ◌<◌, ◌+◌, ℕ, Bool, true, false, not, ◌&&◌, ◌==◌, nat_le, nat_lt, if◌then◌else◌, List, [], ◌∷◌, ◌++◌, length, refl, sym, ◌∙◌, ap, subst, arith, All, append-nil, append_assoc, length-append}
 use Rattle.std.proofs.lemmas.Bool.Decides.{nat_tests}
 use Rattle.std.proofs.lemmas.List.Elements.{All-head, All-tail}
 use Rattle.esc_base.specs.declared.event.Event.{Event}
@@ -19,7 +19,7 @@ use Rattle.arming.proofs.InOrder.{each_at}
 use Rattle.input_detect.specs.Judge.{judged}
 use Rattle.settings_block.specs.Settings.{servo_of}
 use Rattle.esc_laws.specs.Place.{Signal, Listens, place}
-use Rattle.esc_laws.specs.Windowed.{verdict_note, Answers, AnswersAt, WindowRule, Windowed}
+use Rattle.esc_laws.specs.Windowed.{verdict_note, Answers, AnswersAt, WindowRule}
 use Rattle.esc_laws.specs.HeardWhole.{KeepsOn, StandsAlone, IsVerdict, WholeSignalIsHeard}
 use Rattle.esc_laws.proofs.Growth.{last_at-push}
 

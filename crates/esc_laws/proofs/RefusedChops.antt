@@ -1,9 +1,8 @@
 -- The wrong pulses break their rule: in a period that nothing disturbs.
-use Rattle.std.proofs.Common.{◌≡◌, ◌≤◌, ◌<◌, ◌+◌, ◌-◌, ◌*◌, ◌⊎◌, ℕ, Bool, true, false, if◌then◌else◌, nat_le, List, [], ◌∷◌, ◌++◌, reverse, refl, sym, ◌∙◌, ap, arith, inl, inr, append_assoc, append-nil, All}
+use Rattle.std.proofs.Common.{◌≡◌, ◌≤◌, ◌<◌, ◌⊎◌, ℕ, Bool, true, false, if◌then◌else◌, nat_le, List, [], ◌∷◌, ◌++◌, reverse, refl, ◌∙◌, ap, arith, append_assoc, All}
 use Rattle.std.proofs.lemmas.List.{reverse-append}
 use Rattle.std.proofs.lemmas.List.Elements.{All-head, All-tail, All-nil, All-cons}
 use Rattle.std.proofs.lemmas.Bool.Decides.{nat_tests}
-use Rattle.esc_base.specs.declared.event.Event.{Event}
 use Rattle.esc_base.specs.declared.note.Note.{Note}
 use Rattle.esc_base.specs.declared.note.Note.TheVariants as note
 use Rattle.esc_base.specs.Journal.{time_of}
@@ -13,7 +12,7 @@ use Rattle.commutation.specs.Sectors.{high_of}
 use Rattle.commutation.specs.Commutated.{sector_at}
 use Rattle.gate_driver.specs.DeadSafe.{low_free_at}
 use Rattle.esc_laws.specs.Steps.{stall_end}
-use Rattle.esc_laws.specs.Chopped.{upto, by_tick, disturbs, Undisturbed, IsChopped, Chopped}
+use Rattle.esc_laws.specs.Chopped.{upto, by_tick, disturbs, Undisturbed}
 use Rattle.esc_laws.specs.Refused.{ticks, switches, turns, chopping, ChopsRefuse}
 
 abbrev is_gate : Note → Bool

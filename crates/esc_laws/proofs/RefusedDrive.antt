@@ -1,10 +1,7 @@
 -- The wrong journals of the drive break their laws: each at one of its notes.
-use Rattle.std.proofs.Common.{◌≡◌, ◌<◌, ◌≤◌, ◌⊎◌, inl, inr, ℕ, Bool, true, false, List, [], ◌∷◌, ◌++◌, reverse, refl, sym, ◌∙◌, ap, arith}
-use Rattle.std.proofs.lemmas.Bool.{cases_Bool}
+use Rattle.std.proofs.Common.{◌≡◌, ◌<◌, ◌≤◌, ℕ, Bool, true, false, List, [], ◌∷◌, ◌++◌, reverse, refl, arith}
 use Rattle.esc_base.specs.declared.gate.Leg.TheVariants as leg
 use Rattle.esc_base.specs.declared.note.Note.{Note}
-use Rattle.esc_base.specs.Numbers.{as_tick}
-use Rattle.settings_block.specs.declared.stored.Loaded.{Loaded}
 use Rattle.arming.proofs.InOrder.{each_at}
 use Rattle.commutation.specs.Sectors.{next_sector}
 use Rattle.commutation.specs.Commutated.{Commutated, TurnRule}

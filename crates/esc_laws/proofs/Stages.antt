@@ -19,7 +19,7 @@ use Rattle.timer_regs.specs.Bank.{Bank}
 use Rattle.timer_regs.specs.Effects.{after_entry, after_line}
 use Rattle.interrupt_machine.specs.declared.nest.Nest.{Nest}
 use Rattle.interrupt_machine.specs.Did.{accessed}
-use Rattle.interrupt_machine.specs.Open.{due_now, kind_of}
+use Rattle.interrupt_machine.specs.Open.{due_now}
 use Rattle.interrupt_machine.specs.Turn.{gate_note}
 use Rattle.interrupt_machine.proofs.OpenKinds.{kind_of-number, same_kind}
 use Rattle.arming.proofs.InOrder.{reverse-push}
@@ -221,8 +221,7 @@ gate_said k w s keep told other =
     let said = said_after w.core.drive.gates s.core.drive.gates w.bank after w.back at keep.off_times told (keep.fits told other.moves).dead_time in
     let tied : IsTied s.core.drive.gates after.hi after.lo (note.Gate (as_tick after.time) after.hi after.lo ∷ w.back) =
     subst (λ (v : Bool). IsTied s.core.drive.gates after.hi after.lo (if v then w.back else note.Gate (as_tick after.time) after.hi after.lo ∷ w.back)) test
-    said.tied in
-    (
+    said.tied in (
       subst (λ (t : ℕ). IsSafe w.back (note.Gate (as_tick t) after.hi after.lo)) at (said.safe test),
       subst (λ (t : ℕ). IsTied s.core.drive.gates after.hi after.lo (note.Gate (as_tick t) after.hi after.lo ∷ w.back)) at tied,
     )

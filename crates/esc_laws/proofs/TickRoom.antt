@@ -1,7 +1,7 @@
 -- TICK's room.
-use Rattle.std.proofs.Common.{◌≡◌, ◌≢◌, ◌≤◌, ◌<◌, ◌+◌, ◌-◌, ◌/◌, ◌⊎◌, inl, inr, ℕ, Bool, true, false, not, ◌&&◌, ◌||◌, ◌==◌, nat_lt, nat_le, bit_and, if◌then◌else◌, List, [], ◌∷◌, Option, Some, None, refl, sym, ◌∙◌, ap, subst, arith}
+use Rattle.std.proofs.Common.{◌≡◌, ◌≤◌, ◌<◌, ◌+◌, ◌-◌, ◌/◌, inl, inr, ℕ, Bool, true, false, not, ◌&&◌, ◌||◌, ◌==◌, nat_lt, bit_and, if◌then◌else◌, List, [], ◌∷◌, Option, Some, None, refl, sym, ◌∙◌, ap, subst, arith}
 use Rattle.std.specs.Int.Bits.{and_zero_r}
-use Rattle.std.proofs.lemmas.Bool.{cases_lt, lt-ltb, ltb-true, le-ltb, or_left, or_right}
+use Rattle.std.proofs.lemmas.Bool.{cases_lt, lt-ltb, ltb-true, le-ltb}
 use Rattle.std.proofs.lemmas.Bool.Decides.{nat_tests}
 use Rattle.esc_base.specs.declared.gate.Leg.{Leg}
 use Rattle.esc_base.specs.declared.kind.Kind.{Kind}
@@ -18,18 +18,16 @@ use Rattle.timer_regs.specs.declared.regs.Reg.TheVariants as reg
 use Rattle.interrupt_machine.specs.Did.{Reads, Writes, accessed}
 use Rattle.interrupt_machine.specs.Open.{innermost}
 use Rattle.arming.specs.ControlAt.{demand_at, number_at, marks_at}
-use Rattle.arming.specs.Decide.{decide, answer_of}
+use Rattle.arming.specs.Decide.{decide}
 use Rattle.arming.specs.Kept.{Kept, after_tick, view_of}
 use Rattle.arming.specs.Stands.{Stands, with_outcome}
 use Rattle.arming.proofs.TickTies.{tick_stands, start_is}
-use Rattle.commutation.specs.Commutated.{sector_at, stuck_at}
+use Rattle.commutation.specs.Commutated.{stuck_at}
 use Rattle.commutation.specs.Drive.{rests_at}
-use Rattle.gate_driver.specs.declared.all_off.AllOff.{AllOff}
 use Rattle.gate_driver.specs.declared.all_off.AllOff.TheVariants as off
-use Rattle.gate_driver.specs.Gated.{Gated, gates_after}
+use Rattle.gate_driver.specs.Gated.{gates_after}
 use Rattle.gate_driver.specs.Acted.{KeepsDeadTime}
-use Rattle.gate_driver.specs.AllOff.{all_off_step}
-use Rattle.gate_driver.proofs.Bits.{all_off, on_and}
+use Rattle.gate_driver.proofs.Bits.{on_and}
 use Rattle.gate_driver.proofs.DeadTime.{high_off_keeps, low_off_keeps}
 use Rattle.esc_core.specs.declared.state.PwmAt.{PwmAt}
 use Rattle.esc_core.specs.declared.state.PwmAt.TheVariants as pwm
@@ -37,15 +35,15 @@ use Rattle.esc_core.specs.declared.state.CommAt.TheVariants as comm
 use Rattle.esc_core.specs.declared.state.TickAt.{TickAt}
 use Rattle.esc_core.specs.declared.state.TickAt.TheVariants as tick
 use Rattle.esc_core.specs.Drive.{is_stuck}
-use Rattle.esc_core.specs.Tick.{number_in, marks_in, number_step, after_number, drive_after, outcome_note, ticked, off_step, tick_step}
+use Rattle.esc_core.specs.Tick.{number_in, marks_in, number_step, drive_after, outcome_note, ticked, tick_step}
 use Rattle.esc_core.specs.Stepped.{Stepped, goes_on}
-use Rattle.esc_core.specs.Firmware.{tick_left, tick_need}
-use Rattle.esc_laws.specs.Driven.{InPair, TurnsNoneOn}
+use Rattle.esc_core.specs.Firmware.{tick_left}
+use Rattle.esc_laws.specs.Driven.{InPair}
 use Rattle.esc_laws.specs.Calls.{pwm_asked_at, pwm_entered_at}
-use Rattle.esc_laws.specs.Tied.{TickTied, WordTold}
-use Rattle.esc_laws.specs.DriveTied.{DriveView, DriveTied, LowTied, TimerKept, FlagTied, PwmTied, DutyTied, RestAt, Still, Rests, writes_duty}
+use Rattle.esc_laws.specs.Tied.{TickTied}
+use Rattle.esc_laws.specs.DriveTied.{DriveTied, LowTied, FlagTied, PwmTied, DutyTied, RestAt, Still, Rests}
 use Rattle.esc_laws.specs.World.{World, so_far}
-use Rattle.esc_laws.specs.Rooms.{Ground, Ties, Tie, TickTie, DriveKeeps, GateFits, GatesKeep, StepKeeps, drive_seen}
+use Rattle.esc_laws.specs.Rooms.{Ground, Ties, GatesKeep, StepKeeps, drive_seen}
 use Rattle.esc_laws.proofs.Facts.{due_tick, tick_due}
 use Rattle.esc_laws.proofs.Saves.{orders_other}
 use Rattle.esc_laws.proofs.RoomSteps.{quiet_gates, ground_noted, inside, popped, if_true}
