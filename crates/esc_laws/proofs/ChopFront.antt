@@ -100,7 +100,8 @@ steps_below loaded nest cost trace until before (e ∷ log) b f =
 
 -- nothing is claimed below tick 1
 none_claimed : (cost : ℕ) (trace : List Event) (notes : List Note) → Chopped cost trace 0 notes
-none_claimed cost trace notes p d y = record { high_on = λ t lt. absurd (omega arith); high_off = λ t lt. absurd (omega arith); low_on = λ t lt. absurd (omega arith) }
+none_claimed cost trace notes p d y = record { high_on = λ t lt. absurd (omega arith); high_off = λ t lt. absurd (omega arith); low_on =
+    λ t lt. absurd (omega arith) }
 
 pub chopped_front : (loaded : Loaded) (nest : Nest) (cost : ℕ) (trace : List Event) (until : ℕ) (log : List Turned) (front : List Note)
     → Below until log → EachStep (StepFits loaded nest cost trace) [] log → All (λ n. time_of n ≡ until) front → Chopped cost trace until (journal loaded log)

@@ -147,7 +147,8 @@ pub same_to : (w : World) (outer : List Kind) (place : CommAt) (at : ChangeAt) �
     → w.core.drive.turn.to ≡ w.bank.sector
 same_to w outer place at i e = (i.ties kind.Comm).to_is (rw (i.place_is, i.change_is) e)
 
-pub same_marked : (w : World) (outer : List Kind) (place : CommAt) (at : ChangeAt) → IsComm w outer place at → is_marking place at ≡ false → 0 < demand_at w.back
+pub same_marked : (w : World) (outer : List Kind) (place : CommAt) (at : ChangeAt) → IsComm w outer place at → is_marking place at ≡ false
+    → 0 < demand_at w.back
     → is_stuck w.core.drive ≡ true → w.bank.stuck ≡ true
 same_marked w outer place at i e l = (i.ties kind.Comm).marked l (rw (i.place_is, i.change_is) e)
 

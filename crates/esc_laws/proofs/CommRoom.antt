@@ -304,7 +304,8 @@ stuck_next (Turned q) turned told stuck forced f change time c e g s m =
 stuck_next (Crossed q x) turned told stuck forced f change time c e g s m = absurd c
 
 -- PWM has been interrupted where it has read nothing that it will use
-resumes_pwm : (at : PwmAt) (own sampled demand sector sector' : ℕ) → 8 < pwm_need at → PwmTied at own sampled demand sector → PwmTied at own sampled demand sector'
+resumes_pwm : (at : PwmAt) (own sampled demand sector sector' : ℕ) → 8 < pwm_need at → PwmTied at own sampled demand sector
+    → PwmTied at own sampled demand sector'
 resumes_pwm pwm.Shut own sampled demand sector sector' l t = tt
 resumes_pwm (pwm.Run chop.Raise) own sampled demand sector sector' l t = t
 resumes_pwm (pwm.Run chop.Over) own sampled demand sector sector' l t = t
@@ -316,7 +317,8 @@ resumes_pwm (pwm.Run (chop.Write leg)) own sampled demand sector sector' l t = a
 resumes_pwm (pwm.Run chop.Lower) own sampled demand sector sector' l t = absurd (omega arith)
 
 -- at a Q the high switch of the new pair's low leg has been off for 8 ticks
-long_off : (w : World) (outer : List Kind) → IsComm w outer comm.Turn change.SetSector → at_leg w.core.drive.gates.hi_free (low_of w.core.drive.turn.to) ≤ w.bank.time + 40
+long_off : (w : World) (outer : List Kind) → IsComm w outer comm.Turn change.SetSector
+    → at_leg w.core.drive.gates.hi_free (low_of w.core.drive.turn.to) ≤ w.bank.time + 40
 long_off w outer i = by_sector w.bank.sector refl
   where
     by_sector : (s : ℕ) → w.bank.sector ≡ s → at_leg w.core.drive.gates.hi_free (low_of w.core.drive.turn.to) ≤ w.bank.time + 40
@@ -463,7 +465,8 @@ low_places None w outer e i =
     let after : Bank = written w.bank reg.GlSet (mask_of x) in
     let tied = turn_tie w outer change.Low i in
     let to : w.core.drive.turn.to ≡ w.bank.sector = same_to w outer comm.Turn change.Low i refl tied.1 in
-    let d : Drive = record w.core.drive { gates = gates_after g w.bank after; turn = record { to = w.core.drive.turn.to; at = change.Position }; postponed = false } in
+    let d : Drive = record w.core.drive { gates = gates_after g w.bank after; turn = record { to = w.core.drive.turn.to; at = change.Position }; postponed =
+        false } in
     record {
       gates = comm_gates w outer comm.Turn change.Low _ i refl
           (low_on_keeps g (gates_after g w.bank after) w.bank after x refl refl refl e (pair_apart w.bank.sector w.bank.hi w.bank.lo t.sectors t.pair))
@@ -540,7 +543,8 @@ resumed_places None w outer e i =
     let after : Bank = written w.bank reg.GlSet (mask_of x) in
     let tied : Resumes (drive_seen w) = place_tie w outer comm.Low change.Low i in
     let to : w.core.drive.turn.to ≡ w.bank.sector = same_to w outer comm.Low change.Low i refl tied.some in
-    let d : Drive = record w.core.drive { gates = gates_after g w.bank after; turn = record { to = w.core.drive.turn.to; at = change.Position }; postponed = false } in
+    let d : Drive = record w.core.drive { gates = gates_after g w.bank after; turn = record { to = w.core.drive.turn.to; at = change.Position }; postponed =
+        false } in
     record {
       gates = comm_gates w outer comm.Low change.Low _ i refl
           (low_on_keeps g (gates_after g w.bank after) w.bank after x refl refl refl e (pair_apart w.bank.sector w.bank.hi w.bank.lo t.sectors t.pair))
@@ -780,7 +784,8 @@ arms true at w outer e i =
       gates = quiet_gates kind.Comm w _ (λ f. cc) refl refl refl;
       fits = λ told. tt;
       ground = i.ground;
-      tie = λ told. comm_moves (drive_seen w) 2 w.core.drive comm.Stick (Some (due_at w.core.drive)) w.bank.stuck (postponed_at w.back) w.bank.hi w.bank.lo t (record {
+      tie = λ told. comm_moves (drive_seen w) 2 w.core.drive comm.Stick (Some (due_at w.core.drive)) w.bank.stuck (postponed_at w.back) w.bank.hi w.bank.lo t
+          (record {
         words = same_words (drive_seen w) w.core.drive refl t;
         change_is = refl;
         turned_is = refl;
@@ -815,7 +820,8 @@ arms false at w outer e i =
       gates = quiet_gates kind.Comm w _ (λ f. cc) refl refl refl;
       fits = λ told. tt;
       ground = i.ground;
-      tie = λ told. comm_moves (drive_seen w) 2 w.core.drive comm.Back (Some (due_at w.core.drive)) w.bank.stuck (postponed_at w.back) w.bank.hi w.bank.lo t (record {
+      tie = λ told. comm_moves (drive_seen w) 2 w.core.drive comm.Back (Some (due_at w.core.drive)) w.bank.stuck (postponed_at w.back) w.bank.hi w.bank.lo t
+          (record {
         words = same_words (drive_seen w) w.core.drive refl t;
         change_is = refl;
         turned_is = refl;
@@ -884,7 +890,8 @@ sticks at w outer i =
     done_kept (inr r) = inr (record { none = r.none; not_due = r.not_due; postponed = r.postponed; low = r.low; prompt = r.prompt })
 
 -- what the notes say of the low switch
-low_told : (w : World) (s : Stepped) → s.core.drive.gates ≡ w.core.drive.gates → (accessed w.bank s.access).lo ≡ w.bank.lo → StepTold w s → w.bank.sector ≡ sector_at w.back
+low_told : (w : World) (s : Stepped) → s.core.drive.gates ≡ w.core.drive.gates → (accessed w.bank s.access).lo ≡ w.bank.lo → StepTold w s
+    → w.bank.sector ≡ sector_at w.back
     → low_is_on w.back ≡ low_on (drive_seen w)
 low_told w s e lo told sector = rw (told.lo_is, lo, ← sector) refl
 

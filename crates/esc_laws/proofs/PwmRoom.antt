@@ -144,7 +144,8 @@ record Writes (leg : Option Leg) (w : World) (outer : List Kind) : Type 0 where
   drives : 0 < demand_at w.back
   shut : w.core.comm_at ≡ comm.Shut
 
-chops_so : (leg : Option Leg) (w : World) (outer : List Kind) (after : Bank) → Writes leg w outer → HasChopped leg w.core.drive.gates w.bank after → Chops w after
+chops_so : (leg : Option Leg) (w : World) (outer : List Kind) (after : Bank) → Writes leg w outer → HasChopped leg w.core.drive.gates w.bank after
+    → Chops w after
 chops_so leg w outer after i h =
     let by = chops_of leg (nat_lt (w.made.sampled % 2000) (demand_at w.back)) w.bank.sector w.core.drive.gates w.bank after i.leg_is h in
     record {
@@ -153,8 +154,10 @@ chops_so leg w outer after i h =
     }
 
 -- a write that changes the word of high switches
-write_word : (leg : Option Leg) (w : World) (outer : List Kind) (s : Stepped) (after : Bank) → Writes leg w outer → s.core.drive.gates ≡ gates_after w.core.drive.gates w.bank after
-    → after ≡ accessed w.bank s.access → s.over ≡ false → s.notes ≡ [] → after.lo ≡ w.bank.lo → InPair w.bank.sector after.hi w.bank.lo → KeepsDeadTime w.bank s.core.drive.gates after
+write_word : (leg : Option Leg) (w : World) (outer : List Kind) (s : Stepped) (after : Bank) → Writes leg w outer
+    → s.core.drive.gates ≡ gates_after w.core.drive.gates w.bank after
+    → after ≡ accessed w.bank s.access → s.over ≡ false → s.notes ≡ [] → after.lo ≡ w.bank.lo → InPair w.bank.sector after.hi w.bank.lo
+    → KeepsDeadTime w.bank s.core.drive.gates after
     → HasChopped leg w.core.drive.gates w.bank after → GatesKeep kind.Pwm w s
 write_word leg w outer s after i off_times same over silent lo pair dead h = record {
   off_times = subst (λ (b : Bank). s.core.drive.gates ≡ gates_after w.core.drive.gates w.bank b) same off_times;
@@ -270,7 +273,8 @@ open_drives w place t e ne = elim (cases_lt 0 (demand_at w.back)) [
   | inr z ↦ absurd (ne (sym e ∙ ((t kind.Tick).4 (omega arith)).pwm_shut))
 ]
 
-steps : (place : PwmAt) (w : World) (outer : List Kind) → Ground w → Ties w → w.core.pwm_at ≡ place → w.core.comm_at ≡ comm.Shut → w.bank.duty ≡ demand_at w.back
+steps : (place : PwmAt) (w : World) (outer : List Kind) → Ground w → Ties w → w.core.pwm_at ≡ place → w.core.comm_at ≡ comm.Shut
+    → w.bank.duty ≡ demand_at w.back
     → PwmTied place w.made.pwm_own w.made.sampled (demand_at w.back) w.bank.sector → (so_far w).stack ≡ kind.Pwm ∷ outer → 0 < pwm_left place
     → StepKeeps kind.Pwm outer w (pwm_step place w.core w.bank)
 steps pwm.Shut w outer g t e shut duty i on left = absurd (omega arith)

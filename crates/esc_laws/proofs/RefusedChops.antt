@@ -99,10 +99,14 @@ one_more hi lo = undisturbed (switches 2422 0 2 ∷ switches 4096 1 2 ∷ switch
 
 pub chops_refuse : ChopsRefuse
 chops_refuse = record {
-  high_on_a_tick_late = λ c. (let z : false ≡ true = (c 4000 1000 (period 2422 4097 5096 0 1 0 2 2 2 refl (omega arith))).high_on 4096 (omega arith) (omega arith) (omega arith) in absurd (cc));
-  high_off_a_tick_early = λ c. (let z : false ≡ true = (c 4000 1000 (period 2422 4096 5000 0 1 0 2 2 2 refl (omega arith))).high_on 5000 (omega arith) (omega arith) (omega arith) in absurd (cc));
-  high_off_a_tick_late = λ c. (let z : true ≡ false = (c 4000 1000 (period 2422 4096 5097 0 1 0 2 2 2 refl (omega arith))).high_off 5096 (omega arith) (omega arith) (omega arith) in absurd (cc));
+  high_on_a_tick_late = λ c. (let z : false ≡ true = (c 4000 1000 (period 2422 4097 5096 0 1 0 2 2 2 refl (omega arith))).high_on 4096 (omega arith)
+      (omega arith) (omega arith) in absurd (cc));
+  high_off_a_tick_early = λ c. (let z : false ≡ true = (c 4000 1000 (period 2422 4096 5000 0 1 0 2 2 2 refl (omega arith))).high_on 5000 (omega arith)
+      (omega arith) (omega arith) in absurd (cc));
+  high_off_a_tick_late = λ c. (let z : true ≡ false = (c 4000 1000 (period 2422 4096 5097 0 1 0 2 2 2 refl (omega arith))).high_off 5096 (omega arith)
+      (omega arith) (omega arith) in absurd (cc));
   high_on_again = λ c. (let z : true ≡ false = (c 4000 1000 (one_more 1 2)).high_off 5999 (omega arith) (omega arith) (omega arith) in absurd (cc));
-  low_on_a_tick_late = λ c. (let z : false ≡ true = (c 4000 1000 (period 4096 4097 5096 1 1 0 0 2 2 refl (omega arith))).low_on 4096 (omega arith) (omega arith) (omega arith) in absurd (cc));
+  low_on_a_tick_late = λ c. (let z : false ≡ true = (c 4000 1000 (period 4096 4097 5096 1 1 0 0 2 2 refl (omega arith))).low_on 4096 (omega arith)
+      (omega arith) (omega arith) in absurd (cc));
   low_off_in_the_period = λ c. (let z : false ≡ true = (c 4000 1000 (one_more 0 0)).low_on 5999 (omega arith) (omega arith) (omega arith) in absurd (cc));
 }

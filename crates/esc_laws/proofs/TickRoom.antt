@@ -167,11 +167,13 @@ asks lost armed_now start w outer marks demand kept i begins none st number = by
       comm_shut = i.comm_is;
     }
 
-    flag_now : FlagTied (if demand == 0 then tick.Off off.High else tick.DutyOn start) w.bank.flag (not (demand == 0)) demand (pwm_entered_at w.back) w.bank.time
+    flag_now : FlagTied (if demand == 0 then tick.Off off.High else tick.DutyOn start) w.bank.flag (not (demand == 0)) demand
+        (pwm_entered_at w.back) w.bank.time
     flag_now = asked_flag (demand == 0) start w.bank.flag demand (pwm_entered_at w.back) w.bank.time refl (i.ties kind.Pwm).1.past
 
     drive_now : DriveTied (asked_view (drive_seen w) (demand == 0) (rests_at w.back) (nat_lt 0 demand) start demand)
-    drive_now = asked_drive (demand == 0) (rests_at w.back) (nat_lt 0 demand) start (drive_seen w) demand refl (rests_is w.back) refl begins (asked_in w outer i)
+    drive_now = asked_drive (demand == 0) (rests_at w.back) (nat_lt 0 demand) start (drive_seen w) demand refl (rests_is w.back) refl begins
+        (asked_in w outer i)
         (i.ties kind.Comm)
 
     ticks_now : (so_far w).ticks + 1 ≡ 1
@@ -551,7 +553,8 @@ starts w outer i =
 
 -- ---- all its steps
 
-steps : (place : TickAt) (w : World) (outer : List Kind) → IsTick w outer place → 0 < tick_left place → StepKeeps kind.Tick outer w (tick_step place w.core w.bank)
+steps : (place : TickAt) (w : World) (outer : List Kind) → IsTick w outer place → 0 < tick_left place
+    → StepKeeps kind.Tick outer w (tick_step place w.core w.bank)
 steps tick.Shut w outer i left = absurd (omega arith)
 steps tick.Raise w outer i left = record {
   gates = quiet_gates kind.Tick w _ (λ e. cc) refl refl refl;
