@@ -109,8 +109,16 @@ start_tied trace c b p w m e few i =
     (begin_copied (cap_view trace (record c { burst = []; cap_at = cap.Copy (length b.window.edges) }) (accessed b (Reads reg.CapState)) p) w m
     (length b.window.edges)
     (record {
-      hears = record { armed = i.hears.armed; mode = i.hears.mode; opened = i.hears.opened; edges = i.hears.edges; core_mode = i.hears.core_mode; running =
-          i.hears.running; no_timer = i.hears.no_timer };
+      hears = record {
+        armed = i.hears.armed;
+        mode = i.hears.mode;
+        opened = i.hears.opened;
+        edges = i.hears.edges;
+        core_mode = i.hears.core_mode;
+        running =
+            i.hears.running;
+        no_timer = i.hears.no_timer;
+      };
       closed_at = i.closed_at;
       closes = i.closes;
       waits = i.waits;
@@ -206,8 +214,16 @@ copy_tied trace c b p w m rest e sound small i =
     (cap_view trace (record c { burst = c.burst ++ next_edge c b ∷ []; cap_at = after_copy rest })
     (accessed b (Reads (reg.CapEdge (length c.burst)))) p) w m refl
     (record {
-      hears = record { armed = k.hears.armed; mode = k.hears.mode; opened = k.hears.opened; edges = k.hears.edges; core_mode = k.hears.core_mode; running =
-          k.hears.running; no_timer = k.hears.no_timer };
+      hears = record {
+        armed = k.hears.armed;
+        mode = k.hears.mode;
+        opened = k.hears.opened;
+        edges = k.hears.edges;
+        core_mode = k.hears.core_mode;
+        running =
+            k.hears.running;
+        no_timer = k.hears.no_timer;
+      };
       closed_at = k.closed_at;
       closes = k.closes;
       waits = k.waits;
@@ -275,8 +291,19 @@ pub back_tied : (trace : List Event) (c : Brain) (b : Bank) (p : Place) (s : Sig
 back_tied trace c b p Silent t e i = absurd i
 back_tied trace c b p (Listens w m) t e i =
     let k : IsListening (cap_view trace c b p) w m = i.0 in
-    rw e (record { hears = record { armed = k.hears.armed; mode = k.hears.mode; opened = k.hears.opened; edges = k.hears.edges; core_mode =
-        k.hears.core_mode; running = k.hears.running; no_timer = k.hears.no_timer }; untaken = k.untaken })
+    rw e (record {
+      hears = record {
+        armed = k.hears.armed;
+        mode = k.hears.mode;
+        opened = k.hears.opened;
+        edges = k.hears.edges;
+        core_mode =
+            k.hears.core_mode;
+        running = k.hears.running;
+        no_timer = k.hears.no_timer;
+      };
+      untaken = k.untaken;
+    })
 back_tied trace c b p (Judged f opens_next) t e i =
     let k : IsPaused (cap_view trace c b p) = i.0 in
     rw e (record { taken = k.taken; paused = k.paused })

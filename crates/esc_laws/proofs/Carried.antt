@@ -173,8 +173,13 @@ none_seen loaded nest trace c b log t u k keeps g ties told none quiet from belo
         let d =
         sees_due loaded nest trace c (advanced b u) [] log (keeps_later c b [] u keeps)
         (later_ground (world loaded nest trace c b log) u from (omega arith) g)
-        (λ j. (law j).later (world loaded nest trace c b log) u from (omega arith) g ties) (record { hi_is = told.hi_is; lo_is = told.lo_is; hi_free =
-            told.hi_free; lo_free = told.lo_free })
+        (λ j. (law j).later (world loaded nest trace c b log) u from (omega arith) g ties) (record {
+          hi_is = told.hi_is;
+          lo_is = told.lo_is;
+          hi_free =
+              told.hi_free;
+          lo_free = told.lo_free;
+        })
         (unheld_idle c b keeps) k (rw e refl) in
         absurd (let z : true ≡ false = sym d ∙ shut_now in cc)
     by_seen false e = e

@@ -74,7 +74,7 @@ says_notes v before [] s = subst (λ (l : List Note). Says v (reverse l)) (sym (
 says_notes v before (n ∷ notes) s =
     subst (λ (l : List Note). Says (fold noted (noted v n) notes) (reverse l)) (append_assoc before (n ∷ []) notes)
     (says_notes (noted v n) (before ++ n ∷ []) notes (subst (λ (l : List Note). Says (noted v n) l) (sym (reverse-push before n))
-        (says_note v (reverse before) n s)))
+    (says_note v (reverse before) n s)))
 
 pub says_moved : (v : View) (by : By) (t : ℕ) (back : List Note) → Says v back → Says (moved v by t) back
 says_moved v CommEnters t back s = record { hi = s.hi; lo = s.lo; hi_free = s.hi_free; lo_free = s.lo_free; demand = s.demand; sector = s.sector }
@@ -93,10 +93,10 @@ says_step : (loaded : Loaded) (before : List Turned) (e : Turned) → Says (view
     → Says (view (before ++ e ∷ [])) (reverse (journal loaded (before ++ e ∷ [])))
 says_step loaded before e s =
     let r = says_notes (moved (view before) (by_of e) e.tick) (journal loaded before) e.notes
-        (says_moved (view before) (by_of e) e.tick (reverse (journal loaded before)) s) in
+    (says_moved (view before) (by_of e) e.tick (reverse (journal loaded before)) s) in
     subst (λ (l : List Note). Says (view (before ++ e ∷ [])) (reverse l)) (sym (journal-push loaded before e))
     (subst (λ (w : View). Says w (reverse (journal loaded before ++ e.notes))) (sym (view-push before e))
-        (record { hi = r.hi; lo = r.lo; hi_free = r.hi_free; lo_free = r.lo_free; demand = r.demand; sector = r.sector }))
+    (record { hi = r.hi; lo = r.lo; hi_free = r.hi_free; lo_free = r.lo_free; demand = r.demand; sector = r.sector }))
 
 says_from : (loaded : Loaded) (before rest : List Turned) → Says (view before) (reverse (journal loaded before))
     → Says (view (before ++ rest)) (reverse (journal loaded (before ++ rest)))
@@ -138,7 +138,7 @@ none_above cost trace t before (e ∷ rest) l f g =
     let later : after cost trace before ≤ e.tick = f.0.later in
     let more = free_later trace (e.tick + cost) in
     upto_out t e.tick e.notes (notes_in rest) (omega arith) g.0.at_tick (none_above cost trace t (before
-        ++ e ∷ []) rest (rw (after-push cost trace before e) (omega arith)) f.1 g.1)
+    ++ e ∷ []) rest (rw (after-push cost trace before e) (omega arith)) f.1 g.1)
 
 made_upto : (cost : ℕ) (trace : List Event) (t : ℕ) (before rest : List Turned) → EachStep (StepFits cost trace) before rest → EachStep NotesFit before rest
     → upto t (notes_in rest) ≡ notes_in (made t rest)
@@ -147,7 +147,7 @@ made_upto cost trace t before (e ∷ rest) f g = elim (cases_lt t e.tick) [
   | inl l ↦ rw (le_isnt e.tick t l) (
       let more = free_later trace (e.tick + cost) in
       upto_out t e.tick e.notes (notes_in rest) l g.0.at_tick (none_above cost trace t (before
-          ++ e ∷ []) rest (rw (after-push cost trace before e) (omega arith)) f.1 g.1))
+      ++ e ∷ []) rest (rw (after-push cost trace before e) (omega arith)) f.1 g.1))
   | inr le ↦ rw (le_is e.tick t le) (upto_in t e.tick e.notes (notes_in rest) le g.0.at_tick
       ∙ ap (λ (l : List Note). e.notes ++ l) (made_upto cost trace t (before ++ e ∷ []) rest f.1 g.1))
 ]
@@ -160,13 +160,19 @@ NoneWithin p (n ∷ notes) = (p ≤ time_of n → time_of n < p + 2000 → distu
 
 none_of : (p : ℕ) (notes : List Note) → All (λ n. p ≤ time_of n → time_of n < p + 2000 → disturbs n ≡ false) notes → NoneWithin p notes
 none_of p [] a = tt
-none_of p (n ∷ notes) a = (All-head (λ x. p ≤ time_of x → time_of x < p + 2000 → disturbs x ≡ false) n notes a, none_of p notes
-    (All-tail (λ x. p ≤ time_of x → time_of x < p + 2000 → disturbs x ≡ false) n notes a))
+none_of p (n ∷ notes) a = (
+  All-head (λ x. p ≤ time_of x → time_of x < p + 2000 → disturbs x ≡ false) n notes a,
+  none_of p notes
+      (All-tail (λ x. p ≤ time_of x → time_of x < p + 2000 → disturbs x ≡ false) n notes a),
+)
 
 no_stall : (a b : ℕ) (trace : List Event) → NoStallIn a b trace → NoStall a b trace
 no_stall a b [] n = tt
-no_stall a b (e ∷ trace) n = (All-head (λ x. (stall_end x ≤ a) ⊎ (b < tick_of x)) e trace n, no_stall a b trace
-    (All-tail (λ x. (stall_end x ≤ a) ⊎ (b < tick_of x)) e trace n))
+no_stall a b (e ∷ trace) n = (
+  All-head (λ x. (stall_end x ≤ a) ⊎ (b < tick_of x)) e trace n,
+  no_stall a b trace
+      (All-tail (λ x. (stall_end x ≤ a) ⊎ (b < tick_of x)) e trace n),
+)
 
 none_split : (p : ℕ) (xs ys : List Note) → NoneWithin p (xs ++ ys) → NoneWithin p xs × NoneWithin p ys
 none_split p [] ys n = (tt, n)
@@ -180,8 +186,11 @@ no_q p t (n ∷ notes) a w lo hi = no_q p t notes (All-tail (λ x. time_of x ≡
 
 q_times : (t : ℕ) (notes : List Note) → All (λ n. time_of n ≡ t) notes → AllAt t notes
 q_times t [] a = tt
-q_times t (note.Step u s ∷ notes) a = (All-head (λ x. time_of x ≡ t) (note.Step u s) notes a, q_times t notes
-    (All-tail (λ x. time_of x ≡ t) (note.Step u s) notes a))
+q_times t (note.Step u s ∷ notes) a = (
+  All-head (λ x. time_of x ≡ t) (note.Step u s) notes a,
+  q_times t notes
+      (All-tail (λ x. time_of x ≡ t) (note.Step u s) notes a),
+)
 q_times t (n ∷ notes) a = q_times t notes (All-tail (λ x. time_of x ≡ t) n notes a)
 
 pub times_fit : (before rest : List Turned) → EachStep NotesFit before rest → EachStep TimesFit before rest
@@ -190,8 +199,11 @@ times_fit before (e ∷ rest) g = (q_times e.tick e.notes g.0.at_tick, times_fit
 
 no_steps : (p : ℕ) (before rest : List Turned) → EachStep NotesFit before rest → NoneWithin p (notes_in rest) → EachStep (NoStep p) before rest
 no_steps p before [] g n = tt
-no_steps p before (e ∷ rest) g n = let s = none_split p e.notes (notes_in rest) n in (λ lo hi. no_q p e.tick e.notes g.0.at_tick s.0 lo hi, no_steps p
-    (before ++ e ∷ []) rest g.1 s.1)
+no_steps p before (e ∷ rest) g n = let s = none_split p e.notes (notes_in rest) n in (
+  λ lo hi. no_q p e.tick e.notes g.0.at_tick s.0 lo hi,
+  no_steps p
+      (before ++ e ∷ []) rest g.1 s.1,
+)
 
 comm_enters : (k : Kind) (b l : Bool) → by_kind k b l ≡ CommEnters → (k ≡ kind.Comm) × (b ≡ true)
 comm_enters kind.Comm true l e = (refl, refl)
@@ -211,7 +223,7 @@ no_comm p before (e ∷ rest) g n =
       λ lo hi q.
           let c = comm_enters e.kind e.enters (leaves e.notes) q in
           let is : e.notes ≡ note.Enter (record { 0 = e.tick }) 6 ∷ [] = g.0.entry c.1
-              ∙ ap (λ (k : Kind). note.Enter (record { 0 = e.tick }) (kind_number k) ∷ []) c.0 in
+          ∙ ap (λ (k : Kind). note.Enter (record { 0 = e.tick }) (kind_number k) ∷ []) c.0 in
           let w = subst (λ (ns : List Note). NoneWithin p ns) is s.0 in
           (let z = w.0 lo hi in cc),
       no_comm p (before ++ e ∷ []) rest g.1 s.1,
@@ -254,7 +266,7 @@ module _ (loaded : Loaded) (cost : ℕ) (trace : List Event) (log : List Turned)
   small t d e =
       let a : demand_at (reverse (upto t (journal loaded log)) ++ []) ≤ 1900 = small_demand t (journal loaded log) [] range (omega arith) in
       let b : demand_at (by_tick t (journal loaded log)) ≤ 1900 = subst (λ (l : List Note). demand_at l ≤ 1900)
-          (append-nil (reverse (upto t (journal loaded log)))) a in
+      (append-nil (reverse (upto t (journal loaded log)))) a in
       omega arith
 
   quiet_of : (p d m : ℕ) → p ≡ 2000 * m → Undisturbed cost trace (journal loaded log) (2000 * m) d
@@ -285,4 +297,4 @@ module _ (loaded : Loaded) (cost : ℕ) (trace : List Event) (log : List Turned)
   pub is_chopped : Chopped cost trace until (journal loaded log)
   is_chopped p d y =
       subst (λ (q : ℕ). Undisturbed cost trace (journal loaded log) q d
-          → IsChopped cost until (journal loaded log) q d (sector_at (by_tick (q - 1) (journal loaded log)))) (sym y.starts) (at_multiple y.number d) y
+      → IsChopped cost until (journal loaded log) q d (sector_at (by_tick (q - 1) (journal loaded log)))) (sym y.starts) (at_multiple y.number d) y

@@ -76,9 +76,19 @@ same_of kind.Comm = refl
 enter_stack : (p : Place) (t k : ℕ) → (next p (note.Enter (record { 0 = t }) k)).stack ≡ kind_of k ∷ p.stack
 enter_stack p t k = by_tests (k == 3) (k == 2) (k == 0)
   where
-    by_tests : (a b c : Bool) → (if a then record p { stack = kind_of k ∷ p.stack; cap_entered = t; windows = 0; verdicts = 0; last =
-        t } else if b then record p { stack = kind_of k ∷ p.stack; ticks = 0; last = t } else if c then record p { stack = kind_of k ∷ p.stack; saves =
-            0; last = t } else record p { stack = kind_of k ∷ p.stack; last = t }).stack ≡ kind_of k ∷ p.stack
+    by_tests : (a b c : Bool) → (if a then record p {
+      stack = kind_of k ∷ p.stack;
+      cap_entered = t;
+      windows = 0;
+      verdicts = 0;
+      last =
+          t;
+    } else if b then record p { stack = kind_of k ∷ p.stack; ticks = 0; last = t } else if c then record p {
+      stack = kind_of k ∷ p.stack;
+      saves =
+          0;
+      last = t;
+    } else record p { stack = kind_of k ∷ p.stack; last = t }).stack ≡ kind_of k ∷ p.stack
     by_tests true b c = refl
     by_tests false true c = refl
     by_tests false false true = refl
@@ -119,7 +129,7 @@ leaves_back (n ∷ front) b t k e = let parts = leaves_parts n front e in cons n
 
 own_stack : (before front : List Note) (b : Bool) (t k : ℕ) → All (λ n. is_entry n ≡ false) front → leaves front ≡ false
     → (place (before ++ (front ++ (if b then note.Leave (record { 0 = t }) k ∷ [] else [])))).stack ≡
-        (if b then outer_ones (place before).stack else (place before).stack)
+    (if b then outer_ones (place before).stack else (place before).stack)
 own_stack before front false t k e l = ap (λ (x : List Note). (place (before ++ x)).stack) (append-nil front) ∙ quiet_stack before front e l
 own_stack before front true t k e l =
     ap (λ (x : List Note). (place x).stack) (sym (append_assoc before front (note.Leave (record { 0 = t }) k ∷ [])))
@@ -154,7 +164,7 @@ open_out loaded cost trace before e f b = record {
   own = λ q.
       ap (λ (x : List Note). (place x).stack) (journal-push loaded before e ∙ ap (λ (x : List Note). journal loaded before ++ x) b.notes_are)
       ∙ own_stack (journal loaded before) b.front b.back e.tick (kind_number e.kind) (front_entries b.front _ (subst (λ (x : List Note). All
-          (λ n. is_entry n ≡ false) x) b.notes_are (f.no_entry q))) b.none;
+      (λ n. is_entry n ≡ false) x) b.notes_are (f.no_entry q))) b.none;
 }
 
 back_is : (e : Turned) (b : OneBack e) → leaves e.notes ≡ b.back
@@ -203,7 +213,7 @@ turn_is loaded cost trace before kind.Comm false t ns i = record {
   is_open = i.link.comm ∙ ap (λ (x : List Kind). is_open x kind.Comm) (top_is (open_in loaded before) kind.Comm (i.fits.own refl));
   few = let a : own_steps kind.Comm (before ++ record { tick = t; kind = kind.Comm; enters = false; notes = ns } ∷ []) ≤ 24 = i.fits.few refl in
       let b : own_steps kind.Comm (before ++ record { tick = t; kind = kind.Comm; enters = false; notes = ns } ∷ []) ≡ own_steps kind.Comm before + 1 =
-          own-push kind.Comm before (record { tick = t; kind = kind.Comm; enters = false; notes = ns }) in
+      own-push kind.Comm before (record { tick = t; kind = kind.Comm; enters = false; notes = ns }) in
       let c = i.link.comm_own in omega arith;
 }
 turn_is loaded cost trace before kind.Pwm true t ns i = record {
@@ -214,7 +224,7 @@ turn_is loaded cost trace before kind.Pwm false t ns i =
     let top = top_is (open_in loaded before) kind.Pwm (i.fits.own refl) in
     let a : own_steps kind.Pwm (before ++ record { tick = t; kind = kind.Pwm; enters = false; notes = ns } ∷ []) ≤ 12 = i.fits.few refl in
     let b : own_steps kind.Pwm (before ++ record { tick = t; kind = kind.Pwm; enters = false; notes = ns } ∷ []) ≡ own_steps kind.Pwm before + 1 =
-        own-push kind.Pwm before (record { tick = t; kind = kind.Pwm; enters = false; notes = ns }) in
+    own-push kind.Pwm before (record { tick = t; kind = kind.Pwm; enters = false; notes = ns }) in
     let c = i.link.pwm_own in
     record {
       comm = i.link.comm ∙ ap (λ (x : List Kind). is_open x kind.Comm) top
@@ -280,7 +290,7 @@ self_own : (loaded : Loaded) (cost : ℕ) (trace : List Event) (before : List Tu
 self_own loaded cost trace before k t ns i =
     let o = open_out loaded cost trace before (step_of k false t ns) i.fits i.bridge.one_back in
     open_self (open_in loaded before) _ k i.bridge.one_back.back i.link.sorted (i.fits.own refl) (o.own refl)
-        ∙ ap not (sym (back_is (step_of k false t ns) i.bridge.one_back))
+    ∙ ap not (sym (back_is (step_of k false t ns) i.bridge.one_back))
 
 record OpenNext (loaded : Loaded) (log : List Turned) : Type 0 where
   comm : (view log).comm ≡ is_open (open_in loaded log) kind.Comm
@@ -379,16 +389,16 @@ link_next loaded cost trace before e d i =
       pwm_own = o.pwm_own;
       pwm_waits = rw (pwm_waits_after before e, called-push loaded Full trace before e kind.Pwm)
           (wait_mono (pwm_called (view before) e.tick) (pwm_called (view (before
-              ++ e ∷ [])) e.tick) (not (is_comm (by_of e))) (is_called loaded trace before e.tick kind.Pwm) (is_called loaded trace (before
-                  ++ e ∷ []) e.tick kind.Pwm) (counts Full kind.Pwm (Some e.kind)) (view before).pwm_waits (called loaded Full trace before kind.Pwm)
+          ++ e ∷ [])) e.tick) (not (is_comm (by_of e))) (is_called loaded trace before e.tick kind.Pwm) (is_called loaded trace (before
+          ++ e ∷ []) e.tick kind.Pwm) (counts Full kind.Pwm (Some e.kind)) (view before).pwm_waits (called loaded Full trace before kind.Pwm)
           (pwm_is_called loaded trace before e.tick c i.link.pwm) (pwm_is_called loaded trace (before
-              ++ e ∷ []) e.tick c' o.pwm) (pwm_counts e.kind e.enters (leaves e.notes)) i.link.pwm_waits);
+          ++ e ∷ []) e.tick c' o.pwm) (pwm_counts e.kind e.enters (leaves e.notes)) i.link.pwm_waits);
       comm_waits = rw (comm_waits_after before e, called-push loaded Full trace before e kind.Comm)
           (wait_mono (comm_called (view before) e.tick) (comm_called (view (before
-              ++ e ∷ [])) e.tick) true (is_called loaded trace before e.tick kind.Comm) (is_called loaded trace (before
-                  ++ e ∷ []) e.tick kind.Comm) (counts Full kind.Comm (Some e.kind)) (view before).comm_waits (called loaded Full trace before kind.Comm)
+          ++ e ∷ [])) e.tick) true (is_called loaded trace before e.tick kind.Comm) (is_called loaded trace (before
+          ++ e ∷ []) e.tick kind.Comm) (counts Full kind.Comm (Some e.kind)) (view before).comm_waits (called loaded Full trace before kind.Comm)
           (comm_is_called loaded trace before e.tick c i.link.comm) (comm_is_called loaded trace (before
-              ++ e ∷ []) e.tick c' o.comm) (comm_counts e.kind) i.link.comm_waits);
+          ++ e ∷ []) e.tick c' o.comm) (comm_counts e.kind) i.link.comm_waits);
       asks = a;
     }
 

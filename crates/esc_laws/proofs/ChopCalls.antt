@@ -45,7 +45,7 @@ asks_notes v before (n ∷ notes) e a =
     subst (λ (l : List Note). Asks (fold noted (noted v n) notes) (reverse l)) (append_assoc before (n ∷ []) notes)
     (asks_notes (noted v n) (before ++ n ∷ []) notes (All-tail (λ x. is_entry x ≡ false) n notes e)
     (subst (λ (l : List Note). Asks (noted v n) l) (sym (reverse-append before (n ∷ [])))
-        (asks_note v (reverse before) n (All-head (λ x. is_entry x ≡ false) n notes e) a)))
+    (asks_note v (reverse before) n (All-head (λ x. is_entry x ≡ false) n notes e) a)))
 
 -- what a step that is no entry moves
 asks_own : (k : Kind) (l : Bool) (v : View) (t : ℕ) (back : List Note) → Asks v back → Asks (moved v (by_kind k false l) t) back
@@ -65,12 +65,13 @@ asks_step : (loaded : Loaded) (cost : ℕ) (trace : List Event) (before : List T
     → Asks (fold noted (moved (view before) (by_kind k en (leaves ns)) t) ns) (reverse (journal loaded before ++ ns))
 asks_step loaded cost trace before k true t ns f a =
     subst (λ (l : List Note). Asks (fold noted (moved (view before) (by_kind k true (leaves ns)) t) l) (reverse (journal loaded before ++ l)))
-        (sym (f.entry refl))
+    (sym (f.entry refl))
     (subst (λ (l : List Note). Asks (moved (view before) (by_kind k true (leaves ns)) t) l)
-        (sym (reverse-append (journal loaded before) (note.Enter (record { 0 = t }) (kind_number k) ∷ [])))
+    (sym (reverse-append (journal loaded before) (note.Enter (record { 0 = t }) (kind_number k) ∷ [])))
     (asks_entry k (leaves ns) (view before) t (reverse (journal loaded before)) a))
 asks_step loaded cost trace before k false t ns f a =
-    asks_notes (moved (view before) (by_kind k false (leaves ns)) t) (journal loaded before) ns (f.no_entry refl) (asks_own k (leaves ns) (view before) t (reverse (journal loaded before)) a)
+    asks_notes (moved (view before) (by_kind k false (leaves ns)) t) (journal loaded before) ns (f.no_entry refl)
+    (asks_own k (leaves ns) (view before) t (reverse (journal loaded before)) a)
 
 pub asks_next : (loaded : Loaded) (cost : ℕ) (trace : List Event) (before : List Turned) (e : Turned) → StepFits loaded Full cost trace before e
     → Asks (view before) (reverse (journal loaded before)) → Asks (view (before ++ e ∷ [])) (reverse (journal loaded (before ++ e ∷ [])))
@@ -85,7 +86,7 @@ asks_start loaded = subst (λ (v : View). Asks v (reverse (journal loaded []))) 
 same_pwm : (v : View) (back : List Note) (t : ℕ) → Says v back → Asks v back → pwm_called v t ≡ true → calls_pwm back t ≡ true
 same_pwm v back t s a q =
     let p : (nat_lt 0 v.demand && (v.asked || nat_lt (edges v.demand v.entered) (edges v.demand t))) ≡ true =
-        (and_parts (nat_lt 0 v.demand && (v.asked || nat_lt (edges v.demand v.entered) (edges v.demand t))) (not v.pwm) q).0 in
+    (and_parts (nat_lt 0 v.demand && (v.asked || nat_lt (edges v.demand v.entered) (edges v.demand t))) (not v.pwm) q).0 in
     subst (λ (x : ℕ). (nat_lt 0 x && (pwm_asked_at back || nat_lt (edges x (pwm_entered_at back)) (edges x t))) ≡ true) s.demand
     (subst (λ (x : Bool). (nat_lt 0 v.demand && (x || nat_lt (edges v.demand (pwm_entered_at back)) (edges v.demand t))) ≡ true) a.asked
     (subst (λ (x : ℕ). (nat_lt 0 v.demand && (v.asked || nat_lt (edges v.demand x) (edges v.demand t))) ≡ true) a.entered p))
@@ -93,9 +94,9 @@ same_pwm v back t s a q =
 same_low : (v : View) (back : List Note) (t : ℕ) → Says v back → comm_called v t ≡ true → calls_low back t ≡ true
 same_low v back t s q =
     let p : (nat_lt 0 v.demand && (not (is_on v.lo (low_of v.sector)) && nat_le (at_leg v.hi_free (low_of v.sector)) t)) ≡ true =
-        (and_parts (nat_lt 0 v.demand && (not (is_on v.lo (low_of v.sector)) && nat_le (at_leg v.hi_free (low_of v.sector)) t)) (not v.comm) q).0 in
+    (and_parts (nat_lt 0 v.demand && (not (is_on v.lo (low_of v.sector)) && nat_le (at_leg v.hi_free (low_of v.sector)) t)) (not v.comm) q).0 in
     subst (λ (x : ℕ). (nat_lt 0 x && (not (is_on (low_at back) (low_of (sector_at back))) && nat_le
-        (high_free_at (low_of (sector_at back)) back) t)) ≡ true) s.demand
+    (high_free_at (low_of (sector_at back)) back) t)) ≡ true) s.demand
     (subst (λ (x : ℕ). (nat_lt 0 v.demand && (not (is_on x (low_of (sector_at back))) && nat_le (high_free_at (low_of (sector_at back)) back) t)) ≡ true) s.lo
     (subst (λ (x : ℕ). (nat_lt 0 v.demand && (not (is_on v.lo (low_of x)) && nat_le (high_free_at (low_of x) back) t)) ≡ true) s.sector
     (subst (λ (x : ℕ). (nat_lt 0 v.demand && (not (is_on v.lo (low_of v.sector)) && nat_le x t)) ≡ true) (s.hi_free (low_of v.sector)) p)))

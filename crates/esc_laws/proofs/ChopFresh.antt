@@ -138,7 +138,7 @@ fresh_on cost x x' m d s t edge tick v w (PwmSteps l) is one p i f = by_own (own
 
     by_own : OwnFirst v.pwm_own tick v.sampled v.wrote (moved v (PwmSteps l) tick).sampled (moved v (PwmSteps l) tick).wrote
         ⊎ (OwnWrites v.pwm_own tick v.sampled v.wrote (moved v (PwmSteps l) tick).sampled (moved v (PwmSteps l) tick).wrote
-            ⊎ OwnOther v.pwm_own tick v.sampled v.wrote (moved v (PwmSteps l) tick).sampled (moved v (PwmSteps l) tick).wrote) → Fresh edge m d s t w
+        ⊎ OwnOther v.pwm_own tick v.sampled v.wrote (moved v (PwmSteps l) tick).sampled (moved v (PwmSteps l) tick).wrote) → Fresh edge m d s t w
     by_own (inl h) = quiet (let a = h.is in grind (arith, nat_tests)) (i.same.wrote ∙ h.wrote)
     by_own (inr (inr h)) = quiet (let a = h.fourth in grind (arith, nat_tests)) (i.same.wrote ∙ h.wrote)
     by_own (inr (inl h)) =
@@ -268,7 +268,7 @@ pwm_on cost x x' m d s t edge tick v w l at p i st some wr early good old back =
 own_on : (cost x x' m d s t edge tick : ℕ) (v w : View) (l : Bool) → IsEdge m d edge → 1 ≤ cost → edge ≤ tick → (tick ≤ x) ⊎ (tick ≤ edge) → Placed cost x v
     → Within cost x x' m d s t v (PwmSteps l) tick w → (st : Stale cost edge x v)
     → OwnFirst v.pwm_own tick v.sampled v.wrote w.sampled w.wrote ⊎ (OwnWrites v.pwm_own tick v.sampled v.wrote w.sampled w.wrote
-        ⊎ OwnOther v.pwm_own tick v.sampled v.wrote w.sampled w.wrote)
+    ⊎ OwnOther v.pwm_own tick v.sampled v.wrote w.sampled w.wrote)
     → Next cost edge x' m d s t w
 own_on cost x x' m d s t edge tick v w l is one ge at p i st (inl h) =
     let n = h.is in let o : w.pwm_own ≡ v.pwm_own + 1 = i.same.pwm_own in let sa = h.sampled in

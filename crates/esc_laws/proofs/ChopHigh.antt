@@ -47,7 +47,7 @@ same_after before e = subst (λ (w : View). Same (moved (view before) (by_of e) 
 
 pub waits_after : (before : List Turned) (e : Turned)
     → (view (before ++ e ∷ [])).pwm_waits ≡ wait_next (pwm_called (view before) e.tick) (pwm_called (view (before
-        ++ e ∷ [])) e.tick) (not (is_comm (by_of e))) (view before).pwm_waits
+    ++ e ∷ [])) e.tick) (not (is_comm (by_of e))) (view before).pwm_waits
 waits_after before e = subst (λ (w : View). w.pwm_waits ≡ wait_next (pwm_called (view before) e.tick) (pwm_called w e.tick) (not (is_comm (by_of e)))
     (view before).pwm_waits) (sym (view-push before e)) refl
 
@@ -100,8 +100,12 @@ module _ (cost : ℕ) (trace : List Event) (log : List Turned) (m d s until t ed
 
   early_is : (before : List Turned) → Placed cost (after cost trace before) (view before) → Early cost edge (after cost trace before) (view before)
       → IsStale before
-  early_is before p e = record { x = after cost trace before; clock = record { le = omega arith; same = λ l. refl }; stale =
-      early_stale cost edge (after cost trace before) (view before) one p e }
+  early_is before p e = record {
+    x = after cost trace before;
+    clock = record { le = omega arith; same = λ l. refl };
+    stale =
+        early_stale cost edge (after cost trace before) (view before) one p e;
+  }
 
   -- while it isn't written no tick is passed over
   not_passed : (before : List Turned) (z y : ℕ) → NonePassed cost trace before z → (view before).demand ≡ d → (i : IsStale before) → i.x ≤ y → edge ≤ y
@@ -156,7 +160,7 @@ module _ (cost : ℕ) (trace : List Event) (log : List Turned) (m d s until t ed
       let dem : (view before).demand ≡ d = demand_at w before (e ∷ rest) h all above (omega arith) (omega arith) in
       let one_more = split_on log before rest e h in
       let later' : e.tick < after cost trace (before ++ e ∷ []) = (let a =
-          free_later trace (e.tick + cost) in rw (after-push cost trace before e) (omega arith)) in
+      free_later trace (e.tick + cost) in rw (after-push cost trace before e) (omega arith)) in
       let some : 0 < (view before).demand = (let a = u.drives in omega arith) in
       record {
         next = refl;
@@ -209,7 +213,7 @@ module _ (cost : ℕ) (trace : List Event) (log : List Turned) (m d s until t ed
   stale_step : (before rest : List Turned) (e : Turned) → log ≡ before ++ (e ∷ rest) → EachStep (StepFits cost trace) before (e ∷ rest) → DriveFits before e
       → NoComm (2000 * m) before e → Past cost trace before
       → Placed cost (after cost trace before) (view before) → edge ≤ e.tick → e.tick ≤ t → IsStale before → IsStale (before ++ e ∷ [])
-          ⊎ Written (before ++ e ∷ [])
+      ⊎ Written (before ++ e ∷ [])
   stale_step before rest e h f g none past p ge le i =
       let q = edge_in is in
       let a : 2000 * m ≤ edge = q.0 in
@@ -219,9 +223,9 @@ module _ (cost : ℕ) (trace : List Event) (log : List Turned) (m d s until t ed
       let same : after cost trace before ≡ i.x = i.clock.same (omega arith) in
       let st : Stale cost edge (after cost trace before) (view before) = subst (λ (x : ℕ). Stale cost edge x (view before)) (sym same) i.stale in
       let at : (e.tick ≤ after cost trace before) ⊎ (e.tick ≤ edge) = subst (λ (x : ℕ). (e.tick ≤ x) ⊎ (e.tick ≤ edge)) (sym same)
-          (at_next before e.tick f.0.none_passed w.demand i le) in
+      (at_next before e.tick f.0.none_passed w.demand i le) in
       elim (stale_on cost (after cost trace before) (e.tick + cost) m d s t edge e.tick (view before) (view (before
-          ++ e ∷ [])) (by_of e) u.drives u.duty is one ge at p w st) [
+      ++ e ∷ [])) (by_of e) u.drives u.duty is one ge at p w st) [
         | inl b ↦ inl (record { x = e.tick + cost; clock = clock_on before e ge; stale = b })
         | inr b ↦ inr (record { fresh = b })
       ]
@@ -243,7 +247,8 @@ module _ (cost : ℕ) (trace : List Event) (log : List Turned) (m d s until t ed
       ends (inr (a, inr y)) = y.fresh
   run before (e ∷ rest) h f g none made past p all st = elim (cases_lt t e.tick) [
     | inl lt ↦ subst (λ (v : View). Fresh edge m d s t v) (sym (at_split t log before (e ∷ rest) h all lt)) (ends lt st)
-    | inr le ↦ run (before ++ e ∷ []) rest (split_on log before rest e h) f.1 g.1 none.1 made (past_on cost trace before e one f.0.later past) (placed_on cost trace before e f.0 p) (by-push t before e all le) (goes le st)
+    | inr le ↦ run (before ++ e ∷ []) rest (split_on log before rest e h) f.1 g.1 none.1 made (past_on cost trace before e one f.0.later past)
+        (placed_on cost trace before e f.0 p) (by-push t before e all le) (goes le st)
   ]
     where
       dem : t < e.tick → (view before).demand ≡ d
@@ -270,5 +275,10 @@ module _ (cost : ℕ) (trace : List Event) (log : List Turned) (m d s until t ed
           let l : after cost trace before ≤ e.tick = f.0.later in
           let ge : edge ≤ e.tick = omega arith in
           let w = within before rest e h f g.0 none.0 past ge le in
-          inr (above ge, inr (record { fresh = fresh_on cost (after cost trace before) (e.tick + cost) m d s t edge e.tick (view before)
-              (view (before ++ e ∷ [])) (by_of e) is one p w y.fresh }))
+          inr (
+            above ge,
+            inr (record {
+              fresh = fresh_on cost (after cost trace before) (e.tick + cost) m d s t edge e.tick (view before)
+                  (view (before ++ e ∷ [])) (by_of e) is one p w y.fresh;
+            }),
+          )

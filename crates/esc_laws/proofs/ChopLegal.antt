@@ -251,8 +251,12 @@ pairs_from loaded before (e ∷ rest) d w r p =
     )
 
 start_pair : InPair (view [])
-start_pair = rw view-none (record { high = λ x on. absurd (let z : false ≡ true = sym (none_on x) ∙ on in cc); low =
-    λ x on. absurd (let z : false ≡ true = sym (none_on x) ∙ on in cc); sector = omega arith })
+start_pair = rw view-none (record {
+  high = λ x on. absurd (let z : false ≡ true = sym (none_on x) ∙ on in cc);
+  low =
+      λ x on. absurd (let z : false ≡ true = sym (none_on x) ∙ on in cc);
+  sector = omega arith;
+})
 
 -- ---- the whole log
 

@@ -184,12 +184,12 @@ module _ (cost : ℕ) (trace : List Event) (log : List Turned) (m d s until t : 
       let w : ℕ = e.tick - 1 in
       let up : w + 1 ≡ e.tick = (let a = u.later in omega arith) in
       let later' : e.tick < after cost trace (before ++ e ∷ []) = (let a =
-          free_later trace (e.tick + cost) in rw (after-push cost trace before e) (omega arith)) in
+      free_later trace (e.tick + cost) in rw (after-push cost trace before e) (omega arith)) in
       record {
         inside = inside w before (e ∷ rest) h (past w (omega arith)) (omega arith) (omega arith) (omega arith);
         inside_after = inside e.tick (before ++ e ∷ []) rest (split_on log before rest e h)
             (by-push e.tick before e (past e.tick (omega arith)) (omega arith)) (first_above cost trace (before
-                ++ e ∷ []) rest e.tick later' f.1) (omega arith) (omega arith);
+            ++ e ∷ []) rest e.tick later' f.1) (omega arith) (omega arith);
         none_enters = none ge (omega arith);
       }
 
@@ -205,7 +205,7 @@ module _ (cost : ℕ) (trace : List Event) (log : List Turned) (m d s until t : 
   early_step before rest e h f none past lt le b = elim (cases_lt e.tick (2000 * m)) [
     | inl l ↦ (
         let x : after cost trace (before ++ e ∷ []) < 2000 * m + cost =
-            rw (after-push cost trace before e) (elim (cases_lt (e.tick + cost) (2000 * m - 48 * cost)) [
+        rw (after-push cost trace before e) (elim (cases_lt (e.tick + cost) (2000 * m - 48 * cost)) [
           | inl q ↦ (let a : free trace (e.tick + cost) ≤ 2000 * m - 48 * cost =
               free_low trace (2000 * m - 48 * cost) (2000 * m + 1999) (e.tick + cost) u.stalls (omega arith) (omega arith) in omega arith)
           | inr g ↦ (let a : free trace (e.tick + cost) ≡ e.tick + cost =
@@ -279,7 +279,7 @@ module _ (cost : ℕ) (trace : List Event) (log : List Turned) (m d s until t : 
           let c1 = low_calls d s (2000 * m + 39) e.tick (view before) u.drives n.demand n.sector i.off n.low_free (omega arith) i.shut in
           let c2 = low_calls d s (2000 * m + 39) e.tick (view (before ++ e ∷ [])) u.drives n'.demand n'.sector off n'.low_free (omega arith) (cl.shut i.shut) in
           let more : (view (before ++ e ∷ [])).comm_waits ≡ (view before).comm_waits + 1 = waits_after before e
-              ∙ both_called (comm_called (view before) e.tick) (comm_called (view (before ++ e ∷ [])) e.tick) (view before).comm_waits c1 c2 in
+          ∙ both_called (comm_called (view before) e.tick) (comm_called (view (before ++ e ∷ [])) e.tick) (view before).comm_waits c1 c2 in
           let pat = p.comm_patient in
           let co = i.counts in
           let at = at_next before e.tick (e.tick - 1) f.0.none_passed n i le in
@@ -322,7 +322,8 @@ module _ (cost : ℕ) (trace : List Event) (log : List Turned) (m d s until t : 
       ends (inr (a, y)) = by y
   low_run before (e ∷ rest) h f g none made past p all st = elim (cases_lt t e.tick) [
     | inl lt ↦ subst (λ (v : View). is_on v.lo (low_of s) ≡ true) (sym (at_split t log before (e ∷ rest) h all lt)) (ends lt st)
-    | inr le ↦ low_run (before ++ e ∷ []) rest (split_on log before rest e h) f.1 g.1 none.1 made (past_on cost trace before e one f.0.later past) (placed_on cost trace before e f.0 p) (by-push t before e all le) (goes le st)
+    | inr le ↦ low_run (before ++ e ∷ []) rest (split_on log before rest e h) f.1 g.1 none.1 made (past_on cost trace before e one f.0.later past)
+        (placed_on cost trace before e f.0 p) (by-push t before e all le) (goes le st)
   ]
     where
       by : t < e.tick → Waiting before ⊎ Done before → is_on (view before).lo (low_of s) ≡ true
@@ -340,7 +341,11 @@ module _ (cost : ℕ) (trace : List Event) (log : List Turned) (m d s until t : 
       goes : e.tick ≤ t → State before → State (before ++ e ∷ [])
       goes le (inl b) = elim (cases_lt e.tick (2000 * m + 39 * cost)) [
         | inl l ↦ inl (early_step before rest e h f none.0 past l le b)
-        | inr ge ↦ inr (above ge, late_step before rest e h f g.0 none.0 past ge le p (settled before b (shut_by before e.tick f.0.none_passed ge b (view before).comm refl) (is_on (view before).lo (low_of s)) refl))
+        | inr ge ↦ inr (
+          above ge,
+          late_step before rest e h f g.0 none.0 past ge le p
+              (settled before b (shut_by before e.tick f.0.none_passed ge b (view before).comm refl) (is_on (view before).lo (low_of s)) refl),
+        )
       ]
       goes le (inr (a, y)) =
           let l : after cost trace before ≤ e.tick = f.0.later in

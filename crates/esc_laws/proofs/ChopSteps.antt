@@ -32,7 +32,7 @@ entry_told : (loaded : Loaded) (log : List Turned) (t : ℕ) (k : Kind)
     → told loaded (log ++ record { tick = t; kind = k; enters = true; notes = enters k t ∷ [] } ∷ []) ≡ enters k t ∷ told loaded log
 entry_told loaded log t k =
     ap reverse (journal-push loaded log (record { tick = t; kind = k; enters = true; notes = enters k t ∷ [] }))
-        ∙ reverse-push (journal loaded log) (enters k t)
+    ∙ reverse-push (journal loaded log) (enters k t)
 
 pub entry_chops : (loaded : Loaded) (log : List Turned) (t : ℕ) (k : Kind) → All (λ j. kind_number j < kind_number k) (open_in loaded log)
     → ChopFits loaded log (record { tick = t; kind = k; enters = true; notes = enters k t ∷ [] })

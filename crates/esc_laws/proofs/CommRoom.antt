@@ -146,7 +146,8 @@ resumes true w outer e early i =
       });
       others = elim [
         | kind.Comm ↦ λ ne u. absurd (ne refl)
-        | kind.Tick ↦ λ ne u. beside_tick w outer comm.Decide comm.Low w.core.drive.turn.at w.core.drive w.bank.hi w.bank.lo w.bank.sector w.bank.comm w.bank.stuck i u
+        | kind.Tick ↦ λ ne u. beside_tick w outer comm.Decide comm.Low w.core.drive.turn.at w.core.drive w.bank.hi w.bank.lo w.bank.sector w.bank.comm
+            w.bank.stuck i u
         | j ↦ λ ne u. u
       ];
       stack_is = i.on;
@@ -465,8 +466,12 @@ low_places None w outer e i =
     let after : Bank = written w.bank reg.GlSet (mask_of x) in
     let tied = turn_tie w outer change.Low i in
     let to : w.core.drive.turn.to ≡ w.bank.sector = same_to w outer comm.Turn change.Low i refl tied.1 in
-    let d : Drive = record w.core.drive { gates = gates_after g w.bank after; turn = record { to = w.core.drive.turn.to; at = change.Position }; postponed =
-        false } in
+    let d : Drive = record w.core.drive {
+      gates = gates_after g w.bank after;
+      turn = record { to = w.core.drive.turn.to; at = change.Position };
+      postponed =
+          false;
+    } in
     record {
       gates = comm_gates w outer comm.Turn change.Low _ i refl
           (low_on_keeps g (gates_after g w.bank after) w.bank after x refl refl refl e (pair_apart w.bank.sector w.bank.hi w.bank.lo t.sectors t.pair))
@@ -543,8 +548,12 @@ resumed_places None w outer e i =
     let after : Bank = written w.bank reg.GlSet (mask_of x) in
     let tied : Resumes (drive_seen w) = place_tie w outer comm.Low change.Low i in
     let to : w.core.drive.turn.to ≡ w.bank.sector = same_to w outer comm.Low change.Low i refl tied.some in
-    let d : Drive = record w.core.drive { gates = gates_after g w.bank after; turn = record { to = w.core.drive.turn.to; at = change.Position }; postponed =
-        false } in
+    let d : Drive = record w.core.drive {
+      gates = gates_after g w.bank after;
+      turn = record { to = w.core.drive.turn.to; at = change.Position };
+      postponed =
+          false;
+    } in
     record {
       gates = comm_gates w outer comm.Low change.Low _ i refl
           (low_on_keeps g (gates_after g w.bank after) w.bank after x refl refl refl e (pair_apart w.bank.sector w.bank.hi w.bank.lo t.sectors t.pair))
@@ -786,30 +795,32 @@ arms true at w outer e i =
       ground = i.ground;
       tie = λ told. comm_moves (drive_seen w) 2 w.core.drive comm.Stick (Some (due_at w.core.drive)) w.bank.stuck (postponed_at w.back) w.bank.hi w.bank.lo t
           (record {
-        words = same_words (drive_seen w) w.core.drive refl t;
-        change_is = refl;
-        turned_is = refl;
-        forced_is = refl;
-        before = before_step w outer comm.Arm at i;
-        since_is = omega arith;
-        to_is = λ f s. same_to w outer comm.Arm at i refl s;
-        at_low = t.at_low;
-        stuck_is = t.stuck;
-        marked = λ l f. cc;
-        place_is = ((record { some = tied.some; done = done_kept tied.done }, refl), e);
-        low = λ f. cc;
-        waits = λ f. cc;
-      });
+            words = same_words (drive_seen w) w.core.drive refl t;
+            change_is = refl;
+            turned_is = refl;
+            forced_is = refl;
+            before = before_step w outer comm.Arm at i;
+            since_is = omega arith;
+            to_is = λ f s. same_to w outer comm.Arm at i refl s;
+            at_low = t.at_low;
+            stuck_is = t.stuck;
+            marked = λ l f. cc;
+            place_is = ((record { some = tied.some; done = done_kept tied.done }, refl), e);
+            low = λ f. cc;
+            waits = λ f. cc;
+          });
       others = elim [
         | kind.Comm ↦ λ ne u. absurd (ne refl)
-        | kind.Tick ↦ λ ne u. beside_tick w outer comm.Arm comm.Stick at w.core.drive w.bank.hi w.bank.lo w.bank.sector (Some (due_at w.core.drive)) w.bank.stuck i u
+        | kind.Tick ↦ λ ne u. beside_tick w outer comm.Arm comm.Stick at w.core.drive w.bank.hi w.bank.lo w.bank.sector (Some (due_at w.core.drive))
+            w.bank.stuck i u
         | j ↦ λ ne u. u
       ];
       stack_is = i.on;
     }
   where
     done_kept : ((turns_in w.back ≡ 1) × OnOrHeld (drive_seen w)) ⊎ Resumed (drive_seen w)
-        → ((turns_in w.back ≡ 1) × OnOrHeld (moved_view (drive_seen w) w.core.drive comm.Stick (Some (due_at w.core.drive)) w.bank.stuck (postponed_at w.back) w.bank.hi w.bank.lo))
+        → ((turns_in w.back ≡ 1) × OnOrHeld (moved_view (drive_seen w) w.core.drive comm.Stick (Some (due_at w.core.drive)) w.bank.stuck (postponed_at w.back)
+        w.bank.hi w.bank.lo))
         ⊎ Resumed (moved_view (drive_seen w) w.core.drive comm.Stick (Some (due_at w.core.drive)) w.bank.stuck (postponed_at w.back) w.bank.hi w.bank.lo)
     done_kept (inl d) = inl d
     done_kept (inr r) = inr (record { none = r.none; not_due = r.not_due; postponed = r.postponed; low = r.low; prompt = r.prompt })
@@ -822,30 +833,32 @@ arms false at w outer e i =
       ground = i.ground;
       tie = λ told. comm_moves (drive_seen w) 2 w.core.drive comm.Back (Some (due_at w.core.drive)) w.bank.stuck (postponed_at w.back) w.bank.hi w.bank.lo t
           (record {
-        words = same_words (drive_seen w) w.core.drive refl t;
-        change_is = refl;
-        turned_is = refl;
-        forced_is = refl;
-        before = before_step w outer comm.Arm at i;
-        since_is = omega arith;
-        to_is = λ f s. same_to w outer comm.Arm at i refl s;
-        at_low = t.at_low;
-        stuck_is = t.stuck;
-        marked = λ l f g. (let z : false ≡ true = sym e ∙ g in cc);
-        place_is = (record { some = tied.some; done = done_kept tied.done }, refl);
-        low = λ f. cc;
-        waits = λ f. cc;
-      });
+            words = same_words (drive_seen w) w.core.drive refl t;
+            change_is = refl;
+            turned_is = refl;
+            forced_is = refl;
+            before = before_step w outer comm.Arm at i;
+            since_is = omega arith;
+            to_is = λ f s. same_to w outer comm.Arm at i refl s;
+            at_low = t.at_low;
+            stuck_is = t.stuck;
+            marked = λ l f g. (let z : false ≡ true = sym e ∙ g in cc);
+            place_is = (record { some = tied.some; done = done_kept tied.done }, refl);
+            low = λ f. cc;
+            waits = λ f. cc;
+          });
       others = elim [
         | kind.Comm ↦ λ ne u. absurd (ne refl)
-        | kind.Tick ↦ λ ne u. beside_tick w outer comm.Arm comm.Back at w.core.drive w.bank.hi w.bank.lo w.bank.sector (Some (due_at w.core.drive)) w.bank.stuck i u
+        | kind.Tick ↦ λ ne u. beside_tick w outer comm.Arm comm.Back at w.core.drive w.bank.hi w.bank.lo w.bank.sector (Some (due_at w.core.drive))
+            w.bank.stuck i u
         | j ↦ λ ne u. u
       ];
       stack_is = i.on;
     }
   where
     done_kept : ((turns_in w.back ≡ 1) × OnOrHeld (drive_seen w)) ⊎ Resumed (drive_seen w)
-        → ((turns_in w.back ≡ 1) × OnOrHeld (moved_view (drive_seen w) w.core.drive comm.Back (Some (due_at w.core.drive)) w.bank.stuck (postponed_at w.back) w.bank.hi w.bank.lo))
+        → ((turns_in w.back ≡ 1) × OnOrHeld (moved_view (drive_seen w) w.core.drive comm.Back (Some (due_at w.core.drive)) w.bank.stuck (postponed_at w.back)
+        w.bank.hi w.bank.lo))
         ⊎ Resumed (moved_view (drive_seen w) w.core.drive comm.Back (Some (due_at w.core.drive)) w.bank.stuck (postponed_at w.back) w.bank.hi w.bank.lo)
     done_kept (inl d) = inl d
     done_kept (inr r) = inr (record { none = r.none; not_due = r.not_due; postponed = r.postponed; low = r.low; prompt = r.prompt })
@@ -884,7 +897,8 @@ sticks at w outer i =
     }
   where
     done_kept : ((turns_in w.back ≡ 1) × OnOrHeld (drive_seen w)) ⊎ Resumed (drive_seen w)
-        → ((turns_in w.back ≡ 1) × OnOrHeld (moved_view (drive_seen w) w.core.drive comm.Back w.bank.comm (w.bank.stuck || true) (postponed_at w.back) w.bank.hi w.bank.lo))
+        → ((turns_in w.back ≡ 1) × OnOrHeld (moved_view (drive_seen w) w.core.drive comm.Back w.bank.comm (w.bank.stuck || true) (postponed_at w.back)
+        w.bank.hi w.bank.lo))
         ⊎ Resumed (moved_view (drive_seen w) w.core.drive comm.Back w.bank.comm (w.bank.stuck || true) (postponed_at w.back) w.bank.hi w.bank.lo)
     done_kept (inl d) = inl d
     done_kept (inr r) = inr (record { none = r.none; not_due = r.not_due; postponed = r.postponed; low = r.low; prompt = r.prompt })
@@ -917,7 +931,8 @@ returns at w outer i =
       );
       ground = ground_noted w (note.Leave (as_tick w.bank.time) 6) refl refl tt refl i.ground;
       tie = λ told.
-          comm_moves (drive_seen w) 3 w.core.drive comm.Shut w.bank.comm w.bank.stuck (nat_lt 0 (turns_in w.back) && not (low_is_on w.back)) w.bank.hi w.bank.lo t
+          comm_moves (drive_seen w) 3 w.core.drive comm.Shut w.bank.comm w.bank.stuck (nat_lt 0 (turns_in w.back) && not (low_is_on w.back)) w.bank.hi
+          w.bank.lo t
           (record {
             words = same_words (drive_seen w) w.core.drive refl t;
             change_is = refl;
@@ -966,7 +981,8 @@ returns at w outer i =
     keeps_timer : (at : TickAt) → 8 < tick_need at
         → ((w.bank.comm ≡ Some (due_at w.core.drive)) × (((low_on (drive_seen w) ≡ true) × (w.core.drive.postponed ≡ false)) ⊎ (w.core.drive.postponed ≡ true)))
         ⊎ ((n : ℕ) × (w.bank.comm ≡ Some n) × (n ≤ w.bank.time) × (w.core.drive.change ≤ w.bank.time))
-        → LowTied at (moved_view (drive_seen w) w.core.drive comm.Shut w.bank.comm w.bank.stuck (nat_lt 0 (turns_in w.back) && not (low_is_on w.back)) w.bank.hi w.bank.lo)
+        → LowTied at (moved_view (drive_seen w) w.core.drive comm.Shut w.bank.comm w.bank.stuck (nat_lt 0 (turns_in w.back) && not (low_is_on w.back))
+        w.bank.hi w.bank.lo)
     keeps_timer tick.Shut l k = k
     keeps_timer tick.Raise l k = k
     keeps_timer tick.Read l k = k

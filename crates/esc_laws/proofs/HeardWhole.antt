@@ -93,7 +93,7 @@ burst_is edges w m = refl
 pub alone_heard : (edges : List Edge) (w : ℕ) (m : Mode) (first : Edge) (rest : List Edge) → StandsAlone edges w m first rest → burst edges w m ≡ first ∷ rest
 alone_heard edges w m first rest a =
     let begins : until_deaf m w [] (first ∷ rest ++ a.later) ≡ until_deaf m w (first ∷ []) (rest ++ a.later) =
-        rw (hears_first m w first a.begins a.rises) refl in
+    rw (hears_first m w first a.begins a.rises) refl in
     burst_is edges w m
     ∙ ap (λ (es : List Edge). until_deaf m w [] es) a.edges_are
     ∙ passed m w a.earlier (first ∷ rest ++ a.later) a.at_rest

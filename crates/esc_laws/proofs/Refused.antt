@@ -78,7 +78,7 @@ control_refuses = record {
       λ after h. (let e = (last_fits (ticks 2404 1 0 20 ∷ rows 61 (ticks 4804 2 1 0 ∷ [])) after (ticks 7204 3 1 0) h).tick.marks_are in absurd (omega arith));
   row_that_a_crossing_ended =
       λ after h. (let e = (last_fits (ticks 2404 1 0 20 ∷ rows 40 (crosses 3000 ∷ rows 40 [])) after (ticks 4804 2 1 0) h).tick.marks_are in absurd
-          (omega arith));
+      (omega arith));
 }
 
 -- ---- windows
@@ -163,7 +163,7 @@ nest_fits : (nest : Nest) (loaded : Loaded) (notes after : List Note) (n : Note)
     → NestRuleAt nest (placed (reverse (opening loaded ++ notes))) (reverse (opening loaded ++ notes)) n
 nest_fits nest loaded notes after n whole =
     subst (λ (p : Place). NestRuleAt nest p (reverse (opening loaded ++ notes)) n) (sym (placed-is (opening loaded ++ notes)))
-        (each_at (NestRule nest) (opening loaded) notes n after whole)
+    (each_at (NestRule nest) (opening loaded) notes n after whole)
 
 -- no kind enters above itself or a higher one
 not_above : (nest : Nest) (j : Kind) (k : ℕ) → 0 < kind_number j → k ≤ kind_number j → IsAboveAll nest (j ∷ []) k → ⊥

@@ -29,7 +29,7 @@ gates_refuse = record {
       (omega arith));
   off_time_of_another_leg =
       λ after h. (let e = (safe_at (switches 100 3 0 ∷ switches 150 1 0 ∷ switches 200 0 0 ∷ []) after
-          (switches 210 0 1) h).low_waits leg.A refl refl in absurd (omega arith));
+      (switches 210 0 1) h).low_waits leg.A refl refl in absurd (omega arith));
 }
 
 -- ---- the drive

@@ -91,8 +91,12 @@ entered_other f r p t k ne h = by_tests (k == 3) (k == 2) (k == 0) (kind_of k �
   where
     by_tests : (x a b : Bool) (stack : List Kind) → x ≡ false
         → NothingYet f r
-        (if x then record p { stack = stack; cap_entered = t; windows = 0; verdicts = 0; last = t } else if a then record p { stack = stack; ticks = 0; last =
-            t } else if b then record p { stack = stack; saves = 0; last = t } else record p { stack = stack; last = t })
+        (if x then record p { stack = stack; cap_entered = t; windows = 0; verdicts = 0; last = t } else if a then record p {
+          stack = stack;
+          ticks = 0;
+          last =
+              t;
+        } else if b then record p { stack = stack; saves = 0; last = t } else record p { stack = stack; last = t })
     by_tests true a b stack e = absurd (let z = e in cc)
     by_tests false true b stack e = record { signal = h.signal; windows = h.windows; verdicts = h.verdicts }
     by_tests false false true stack e = record { signal = h.signal; windows = h.windows; verdicts = h.verdicts }

@@ -139,7 +139,8 @@ judged_frame mode.D300Inv edges allowed servo f = refl
 judged_frame mode.D600Inv edges allowed servo f = refl
 
 pub sent_frame_is_read : SentFrameIsRead
-sent_frame_is_read loaded trace before after said w m s word frame first rest earlier later windowed listens is frames good moved edges_are at_rest begins ends =
+sent_frame_is_read loaded trace before after said w m s word frame first rest earlier later windowed listens is frames good moved edges_are at_rest
+    begins ends =
     let len : length (first ∷ rest) ≡ 32 = length-sent m _ s word (first ∷ rest) moved in
     let full : most m ≤ length (first ∷ rest) = rw (most_frame m frames, len) (omega arith) in
     let none : wait m (first ∷ rest) ≡ 0 = rw (le-leb (most m) (length (first ∷ rest)) full) refl in

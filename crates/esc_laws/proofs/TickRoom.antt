@@ -158,7 +158,8 @@ asks lost armed_now start w outer marks demand kept i begins none st number = by
     gates_same true = refl
     gates_same false = refl
 
-    rest_now : demand ≡ 0 → Rests (if demand == 0 then tick.Off off.High else tick.DutyOn start) w.core.pwm_at w.core.comm_at w.bank.hi w.bank.lo w.bank.flag w.bank.comm
+    rest_now : demand ≡ 0 → Rests (if demand == 0 then tick.Off off.High else tick.DutyOn start) w.core.pwm_at w.core.comm_at w.bank.hi w.bank.lo w.bank.flag
+        w.bank.comm
         (drive_after start w.bank.time w.core.drive).postponed w.bank.stuck
     rest_now z = record {
       rest = asked_rest (demand == 0) start demand w.bank.hi w.bank.lo w.bank.flag w.bank.comm (drive_after start w.bank.time w.core.drive).postponed
@@ -300,7 +301,8 @@ reads_as n marks w outer i is marks_are below none = subst (λ (m : ℕ). StepKe
     ∙ ap (λ (d : ℕ). nat_lt 0 answer.demand && (d == 0)) i.ground.control.ties.demand_is
     ∙ ap (λ (b : Bool). nat_lt 0 answer.demand && b) (rests_is w.back) in
     if_true (nat_lt w.core.control.number m) kind.Tick outer w _ _ (lt-ltb w.core.control.number m less)
-    (asks answer.lost answer.armed_now answer.start w outer marks answer.demand (after_tick w.core.control m (decide (view_of w.core.control) m marks)) i begins none
+    (asks answer.lost answer.armed_now answer.start w outer marks answer.demand (after_tick w.core.control m (decide (view_of w.core.control) m marks)) i
+    begins none
     st (st.ties.number_is ∙ outcome_number answer.lost answer.armed_now w.bank.time m marks answer.demand w.back)))
 
 reads : (stuck : Bool) (w : World) (outer : List Kind) → w.bank.stuck ≡ stuck → IsTick w outer tick.Read
@@ -309,7 +311,8 @@ reads : (stuck : Bool) (w : World) (outer : List Kind) → w.bank.stuck ≡ stuc
     (marks_in (if stuck then w.bank.time / 2400 + 1073741824 else w.bank.time / 2400)) w.core w.bank)
 reads true w outer e i =
     let tied = ticks_tie w outer tick.Read i in
-    reads_as (number_in (w.bank.time / 2400 + 1073741824)) (marks_in (w.bank.time / 2400 + 1073741824)) w outer i (rw (le-ltb (w.bank.time / 2400 + 1073741824) 1073741824 (omega arith)) (back (w.bank.time / 2400)))
+    reads_as (number_in (w.bank.time / 2400 + 1073741824)) (marks_in (w.bank.time / 2400 + 1073741824)) w outer i
+    (rw (le-ltb (w.bank.time / 2400 + 1073741824) 1073741824 (omega arith)) (back (w.bank.time / 2400)))
     (rw (le-ltb (w.bank.time / 2400 + 1073741824) 1073741824 (omega arith), mark_is w outer i ∙ e) refl) tied.0 tied.1
   where
     back : (t : ℕ) → (t + 1073741824) - 1073741824 ≡ t
@@ -358,7 +361,8 @@ high_off w outer i =
     let pair : InPair w.bank.sector hi w.bank.lo = record { high = λ x on. t.pair.high x (on_and w.bank.hi 0 x on); low = t.pair.low } in
     record {
       gates = off_gates w outer (tick.Off off.High) _ i zero refl
-          (high_off_keeps (gates_after w.core.drive.gates w.bank after) w.bank after 0 refl refl (pair_apart w.bank.sector w.bank.hi w.bank.lo t.sectors t.pair))
+          (high_off_keeps (gates_after w.core.drive.gates w.bank after) w.bank after 0 refl refl
+          (pair_apart w.bank.sector w.bank.hi w.bank.lo t.sectors t.pair))
           (λ x on. on_and w.bank.hi 0 x on) (λ x on. on);
       fits = λ told. tt;
       ground = i.ground;
@@ -371,7 +375,11 @@ high_off w outer i =
       );
       others = elim [
         | kind.Tick ↦ λ ne u. absurd (ne refl)
-        | kind.Pwm ↦ λ ne u. (u.0, none_flag (tick.Off off.Low) w.bank.flag (pwm_asked_at w.back) (demand_at w.back) (pwm_entered_at w.back) w.bank.time refl zero u.1.past)
+        | kind.Pwm ↦ λ ne u. (
+          u.0,
+          none_flag (tick.Off off.Low) w.bank.flag (pwm_asked_at w.back) (demand_at w.back) (pwm_entered_at w.back) w.bank.time refl
+              zero u.1.past,
+        )
         | kind.Comm ↦ λ ne u. retimed (high_view (drive_seen w) hi) (tick.Off off.Low) (λ e l. tt) (with_high (drive_seen w) hi i.comm_is pair u)
         | j ↦ λ ne u. u
       ];
@@ -399,7 +407,11 @@ low_off w outer i =
       );
       others = elim [
         | kind.Tick ↦ λ ne u. absurd (ne refl)
-        | kind.Pwm ↦ λ ne u. (u.0, none_flag tick.DutyOff w.bank.flag (pwm_asked_at w.back) (demand_at w.back) (pwm_entered_at w.back) w.bank.time refl zero u.1.past)
+        | kind.Pwm ↦ λ ne u. (
+          u.0,
+          none_flag tick.DutyOff w.bank.flag (pwm_asked_at w.back) (demand_at w.back) (pwm_entered_at w.back) w.bank.time refl zero
+              u.1.past,
+        )
         | kind.Comm ↦ λ ne u. with_low (drive_seen w) lo tick.DutyOff i.comm_is zero (λ x on. on_and w.bank.lo 0 x on) u
         | j ↦ λ ne u. u
       ];
@@ -423,7 +435,11 @@ duty_off w outer i =
       );
       others = elim [
         | kind.Tick ↦ λ ne u. absurd (ne refl)
-        | kind.Pwm ↦ λ ne u. (u.0, none_flag tick.DriveOff false (pwm_asked_at w.back) (demand_at w.back) (pwm_entered_at w.back) w.bank.time refl zero u.1.past)
+        | kind.Pwm ↦ λ ne u. (
+          u.0,
+          none_flag tick.DriveOff false (pwm_asked_at w.back) (demand_at w.back) (pwm_entered_at w.back) w.bank.time refl zero
+              u.1.past,
+        )
         | kind.Comm ↦ λ ne u. retimed (drive_seen w) tick.DriveOff (λ e l. tt) u
         | j ↦ λ ne u. u
       ];

@@ -65,7 +65,7 @@ WholeSignalIsHeard =
 abbrev pub SentFrameIsRead : Type 0
 SentFrameIsRead =
     (loaded : Loaded) (trace : List Event) (before after : List Note) (said : Note) (w : ℕ) (m : Mode) (s word : ℕ) (frame : Frame) (first : Edge)
-        (rest earlier later : List Edge)
+    (rest earlier later : List Edge)
     → Windowed loaded trace (before ++ said ∷ after)
     → (place before).signal ≡ Listens w (mode_number m)
     → IsVerdict said
