@@ -292,6 +292,7 @@ module _ (loaded : Loaded) (cost : ℕ) (trace : List Event) (log : List Turned)
         high_on = λ t b lo hi. rw (sym (says_at t).hi) (c.high_on t b lo hi);
         high_off = λ t b lo hi. rw (sym (says_at t).hi) (c.high_off t b lo hi);
         low_on = λ t b lo hi. rw (sym (says_at t).lo) (c.low_on t b lo hi);
+        other_low_off = λ t b lo hi. rw (sym (says_at t).lo) (c.other_low_off t lo hi);
       }
 
   pub is_chopped : Chopped cost trace until (journal loaded log)

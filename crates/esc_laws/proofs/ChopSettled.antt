@@ -50,7 +50,7 @@ not_on false f = refl
 high_off : (v : View) → InPair v → is_on v.hi (low_of v.sector) ≡ false
 high_off v p = not_on (is_on v.hi (low_of v.sector)) (λ e. let h = p.high (low_of v.sector) e in apart v.sector h.1 p.sector h.0)
 
-low_off : (v : View) → InPair v → is_on v.lo (high_of v.sector) ≡ false
+pub low_off : (v : View) → InPair v → is_on v.lo (high_of v.sector) ≡ false
 low_off v p = not_on (is_on v.lo (high_of v.sector)) (λ e. let h = p.low (high_of v.sector) e in apart v.sector h.1 p.sector (sym h.0))
 
 -- ---- up to p - 1

@@ -16,7 +16,7 @@ use Rattle.esc_laws.proofs.Pushes.{after-none}
 use Rattle.esc_laws.proofs.ChopPlaced.{start_placed}
 use Rattle.esc_laws.proofs.ChopHigh.{run}
 use Rattle.esc_laws.proofs.ChopLow.{low_run}
-use Rattle.esc_laws.proofs.ChopSettled.{Held, Static, carried, start_static, may_turn}
+use Rattle.esc_laws.proofs.ChopSettled.{Held, Static, carried, start_static, may_turn, low_off}
 
 module _ (cost : ℕ) (trace : List Event) (log : List Turned) (m d s until : ℕ) (one : 1 ≤ cost) (few : cost ≤ 16) (legal : Legal cost trace until log)
     (y : Undisturbed cost trace log m d s) where
@@ -73,5 +73,10 @@ module _ (cost : ℕ) (trace : List Event) (log : List Turned) (m d s until : �
       low_run cost trace log m d s until t one few u inp below late [] log refl legal.fits legal.drives u.none_enters legal.all_made (λ w h. tt) first_placed tt
       (inl (record { c = 24; left = λ o. (omega arith, omega arith, omega arith); soon = omega arith }))
 
+  other_low_off : (t : ℕ) → 2000 * m + 48 * cost ≤ t → t < 2000 * m + 2000 → is_on (at_tick t log).lo (high_of s) ≡ false
+  other_low_off t late inp =
+      let h = held t (omega arith) inp in
+      subst (λ (z : ℕ). is_on (at_tick t log).lo (high_of z) ≡ false) h.sector (low_off (at_tick t log) h.pair)
+
   pub chopped : ChoppedLog cost until log m d s
-  chopped = record { high_on = high_on; high_off = high_off; low_on = low_on }
+  chopped = record { high_on = high_on; high_off = high_off; low_on = low_on; other_low_off = other_low_off }

@@ -49,6 +49,8 @@ pub mod Carried
 pub mod FlashSteps
 pub mod Refused
 pub mod RefusedDrive
+pub mod UpTo
 pub mod RefusedChops
+pub mod DutyKept
 pub mod RefusedSteps
 pub mod Allowed

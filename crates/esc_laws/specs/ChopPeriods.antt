@@ -45,3 +45,4 @@ pub record ChoppedLog (cost until : ℕ) (log : List Turned) (m d s : ℕ) : Typ
   pub high_on : (t : ℕ) → t < until → 2000 * m + 48 * cost ≤ t → t ≤ 2000 * m + d → is_on (at_tick t log).hi (high_of s) ≡ true
   pub high_off : (t : ℕ) → t < until → 2000 * m + d + 48 * cost ≤ t → t < 2000 * m + 2000 → is_on (at_tick t log).hi (high_of s) ≡ false
   pub low_on : (t : ℕ) → t < until → 2000 * m + 48 * cost ≤ t → t < 2000 * m + 2000 → is_on (at_tick t log).lo (low_of s) ≡ true
+  pub other_low_off : (t : ℕ) → 2000 * m + 48 * cost ≤ t → t < 2000 * m + 2000 → is_on (at_tick t log).lo (high_of s) ≡ false

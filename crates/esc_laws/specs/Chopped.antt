@@ -1,5 +1,6 @@
 -- A law, or what a law is said with: what `Legal` means rests on this.
--- In a period that nothing disturbs the high switch is on in its first part, and off in its last; the low one is on.
+-- In a period that nothing disturbs the high switch is on in its first part, and off in its last; the low one is on, and the low
+-- one of the high leg is off.
 use Rattle.std.specs.Prelude.{◌≡◌, ◌<◌, ◌≤◌, ◌+◌, ◌-◌, ◌*◌, ◌⊎◌, ℕ, Bool, true, false, ◌==◌, if◌then◌else◌, nat_le, List, [], ◌∷◌, reverse, All}
 use Rattle.esc_base.specs.declared.event.Event.{Event}
 use Rattle.esc_base.specs.declared.note.Note.{Note}
@@ -47,11 +48,13 @@ pub record Undisturbed (cost : ℕ) (trace : List Event) (notes : List Note) (p 
   -- the low switch of the pair's high leg has never been on, or last went off at or before p - 48
   pub free : low_free_at (high_of (sector_at (by_tick (p - 1) notes))) (by_tick (p - 1) notes) ≤ p
 
--- at each tick below T
+-- What is asked of it with this sector, at each tick below T: the high switch is on, and then off; the low switch is on, and that
+-- of the high leg is off. A range without a tick asks nothing.
 pub record IsChopped (cost until : ℕ) (notes : List Note) (p d sector : ℕ) : Type 0 where
   pub high_on : (t : ℕ) → t < until → p + 48 * cost ≤ t → t ≤ p + d → is_on (high_at (by_tick t notes)) (high_of sector) ≡ true
   pub high_off : (t : ℕ) → t < until → p + d + 48 * cost ≤ t → t < p + 2000 → is_on (high_at (by_tick t notes)) (high_of sector) ≡ false
   pub low_on : (t : ℕ) → t < until → p + 48 * cost ≤ t → t < p + 2000 → is_on (low_at (by_tick t notes)) (low_of sector) ≡ true
+  pub other_low_off : (t : ℕ) → t < until → p + 48 * cost ≤ t → t < p + 2000 → is_on (low_at (by_tick t notes)) (high_of sector) ≡ false
 
 abbrev pub Chopped : ℕ → List Event → ℕ → List Note → Type 0
 Chopped cost trace until notes = (p d : ℕ) → Undisturbed cost trace notes p d → IsChopped cost until notes p d (sector_at (by_tick (p - 1) notes))

@@ -14,7 +14,9 @@ pub mod Legal
 pub mod Saves
 -- what is shown of them
 pub mod Refused
+pub mod RefusedChops
 pub mod Allowed
+pub mod DutyKept
 -- the machinery that proves a run legal
 pub mod Tied
 pub mod DriveTied

@@ -17,7 +17,6 @@ use Rattle.commutation.specs.Commutated.{Commutated}
 use Rattle.gate_driver.specs.DeadSafe.{DeadSafe}
 use Rattle.esc_laws.specs.Windowed.{Windowed}
 use Rattle.esc_laws.specs.Driven.{Driven}
-use Rattle.esc_laws.specs.Chopped.{Chopped}
 use Rattle.esc_laws.specs.Saves.{forward_at}
 use Rattle.esc_laws.specs.Nested.{NestedAfter}
 use Rattle.esc_laws.specs.Steps.{Turned, opening, open_in, own_steps, EachStep, StepFits, OpenFew}
@@ -220,23 +219,6 @@ pub record DriveRefuses : Type 0 where
   pub turn_with_the_old_high_on : Undriven (driving (switches 2422 1 0 ∷ turns 242420 2 ∷ []))
   pub turn_with_the_old_low_on : Undriven (driving (switches 2422 0 2 ∷ turns 242420 3 ∷ []))
   pub chop_of_the_sector_before : Undriven (driving (turns 242420 2 ∷ switches 242430 1 0 ∷ []))
-
--- the pulses of the period from 4000 on break their rule in a run to tick 6000 at cost 2, with demand 1000 in sector 1
-abbrev pub chopping : List Note → List Note
-chopping rest = ticks 2404 1 0 1000 ∷ turns 2420 1 ∷ rest
-
-abbrev pub Unchopped : List Note → Type 0
-Unchopped notes = Chopped 2 [] 6000 notes → ⊥
-
-pub record ChopsRefuse : Type 0 where
-  -- the high switch is on from 4096 to 5000, and off from 5096 on
-  pub high_on_a_tick_late : Unchopped (chopping (switches 2422 0 2 ∷ switches 4097 1 2 ∷ switches 5096 0 2 ∷ []))
-  pub high_off_a_tick_early : Unchopped (chopping (switches 2422 0 2 ∷ switches 4096 1 2 ∷ switches 5000 0 2 ∷ []))
-  pub high_off_a_tick_late : Unchopped (chopping (switches 2422 0 2 ∷ switches 4096 1 2 ∷ switches 5097 0 2 ∷ []))
-  pub high_on_again : Unchopped (chopping (switches 2422 0 2 ∷ switches 4096 1 2 ∷ switches 5096 0 2 ∷ switches 5999 1 2 ∷ []))
-  -- the low one is on from 4096 on
-  pub low_on_a_tick_late : Unchopped (chopping (switches 4096 1 0 ∷ switches 4097 1 2 ∷ switches 5096 0 2 ∷ []))
-  pub low_off_in_the_period : Unchopped (chopping (switches 2422 0 2 ∷ switches 4096 1 2 ∷ switches 5096 0 2 ∷ switches 5999 0 0 ∷ []))
 
 -- these notes break the rules of sectors for settings with advance 0, whatever stands behind them
 abbrev pub Unturned : (List Note → Bool) → List Note → Type 0
