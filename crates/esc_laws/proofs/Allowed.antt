@@ -307,7 +307,14 @@ sees_nothing input.Servo servo t = refl
 
 answers : (loaded : Loaded) → Answers loaded two_edges 0 0 4200 4202 (nothing 4202)
 unfolding line burst
-answers loaded = record { closed_at = 4200; closes = refl; waits = omega arith; entered_before = omega arith; verdict_is = sees_nothing loaded.settings.input (servo_of loaded.settings) 4202 }
+answers loaded = record {
+  closed_at = 4200;
+  closes = refl;
+  waits = omega arith;
+  entered_before = omega arith;
+  verdict_is =
+      sees_nothing loaded.settings.input (servo_of loaded.settings) 4202;
+}
 
 rules_1 : (loaded : Loaded) (nest : Nest)
     → WindowRule loaded two_edges (opening loaded ++ ([])) (enters 2400 2) × NestRule (advance_of loaded.settings) nest (opening loaded ++ ([])) (enters 2400 2)

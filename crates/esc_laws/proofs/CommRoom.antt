@@ -7,7 +7,7 @@ use Rattle.esc_base.specs.declared.kind.Kind.{Kind}
 use Rattle.esc_base.specs.declared.kind.Kind.TheVariants as kind
 use Rattle.esc_base.specs.declared.note.Note.{Note}
 use Rattle.esc_base.specs.declared.note.Note.TheVariants as note
-use Rattle.esc_base.specs.Legs.{mask_of, is_on, IsOnly}
+use Rattle.esc_base.specs.Legs.{mask_of, is_on}
 use Rattle.esc_base.specs.Numbers.{as_tick}
 use Rattle.esc_base.specs.Times.{is_reached}
 use Rattle.timer_regs.specs.Bank.{Bank}
@@ -22,13 +22,11 @@ use Rattle.commutation.proofs.Order.{next_within, next_keeps}
 use Rattle.gate_driver.specs.declared.chop.Chop.TheVariants as chop
 use Rattle.gate_driver.specs.declared.to_sector.ChangeAt.{ChangeAt}
 use Rattle.gate_driver.specs.declared.to_sector.ChangeAt.TheVariants as change
-use Rattle.gate_driver.specs.DeadSafe.{high_at, low_at, high_free_at}
-use Rattle.gate_driver.specs.Gated.{Legs, Gated, at_leg, offs, gates_after, low_wait, high_wait}
-use Rattle.gate_driver.specs.Change.{Change, change_to, low_step, high_step, duty_step, place_step, change_step, IsSector}
+use Rattle.gate_driver.specs.DeadSafe.{low_at, high_free_at}
+use Rattle.gate_driver.specs.Gated.{Gated, at_leg, offs, gates_after, low_wait, high_wait}
+use Rattle.gate_driver.specs.Change.{change_to, low_step, high_step, duty_step, place_step}
 use Rattle.gate_driver.proofs.Bits.{on_and, or_on, or_is, only_kept, off_is}
-use Rattle.gate_driver.proofs.OffTimes.{gates_same}
-use Rattle.gate_driver.proofs.DeadTime.{MayTurnOn, may_turn_on, same_keeps, high_off_keeps, low_off_keeps, high_on_keeps, low_on_keeps}
-use Rattle.esc_core.specs.declared.orders.Orders.{Orders}
+use Rattle.gate_driver.proofs.DeadTime.{may_turn_on, high_off_keeps, low_off_keeps, high_on_keeps, low_on_keeps}
 use Rattle.esc_core.specs.declared.drive.Drive.{Drive}
 use Rattle.esc_core.specs.declared.state.CommAt.{CommAt}
 use Rattle.esc_core.specs.declared.state.CommAt.TheVariants as comm
@@ -38,7 +36,7 @@ use Rattle.esc_core.specs.declared.state.PwmAt.{PwmAt}
 use Rattle.esc_core.specs.declared.state.PwmAt.TheVariants as pwm
 use Rattle.esc_core.specs.Orders.{is_forward}
 use Rattle.esc_core.specs.Drive.{is_stuck, low_free, due_at, after_turn}
-use Rattle.esc_core.specs.Comm.{begins, waits_for, decided, turned, turn_step, resumed, resumed_step, acted, comm_step}
+use Rattle.esc_core.specs.Comm.{begins, waits_for, decided, turned, turn_step, resumed, resumed_step, comm_step}
 use Rattle.esc_core.specs.Stepped.{Stepped, goes_on}
 use Rattle.esc_core.specs.Firmware.{comm_left, pwm_need, tick_need}
 use Rattle.settings_block.specs.declared.settings.Settings.{Settings}
@@ -330,7 +328,8 @@ stuck_next (Turned q) turned told stuck forced f wait change time c e g s m =
 stuck_next (Crossed q x) turned told stuck forced f wait change time c e g s m = rw (e, s) (no_more stuck (nat_le 60 forced))
 
 -- PWM has been interrupted where it has read nothing that it will use
-resumes_pwm : (at : PwmAt) (own sampled demand sector sector' : ℕ) → 8 < pwm_need at → PwmTied at own sampled demand sector → PwmTied at own sampled demand sector'
+resumes_pwm : (at : PwmAt) (own sampled demand sector sector' : ℕ) → 8 < pwm_need at → PwmTied at own sampled demand sector
+    → PwmTied at own sampled demand sector'
 resumes_pwm pwm.Shut own sampled demand sector sector' l t = tt
 resumes_pwm (pwm.Run chop.Raise) own sampled demand sector sector' l t = t
 resumes_pwm (pwm.Run chop.Over) own sampled demand sector sector' l t = t
@@ -342,7 +341,8 @@ resumes_pwm (pwm.Run (chop.Write leg)) own sampled demand sector sector' l t = a
 resumes_pwm (pwm.Run chop.Lower) own sampled demand sector sector' l t = absurd (omega arith)
 
 -- at a Q the high switch of the new pair's low leg has been off for 8 ticks
-long_off : (w : World) (outer : List Kind) → IsComm w outer comm.Turn change.SetSector → at_leg w.core.drive.gates.hi_free (low_of w.core.drive.turn.to) ≤ w.bank.time + 40
+long_off : (w : World) (outer : List Kind) → IsComm w outer comm.Turn change.SetSector
+    → at_leg w.core.drive.gates.hi_free (low_of w.core.drive.turn.to) ≤ w.bank.time + 40
 long_off w outer i = by_sector w.bank.sector refl
   where
     by_sector : (s : ℕ) → w.bank.sector ≡ s → at_leg w.core.drive.gates.hi_free (low_of w.core.drive.turn.to) ≤ w.bank.time + 40
@@ -455,8 +455,7 @@ low_waits w outer place at until i some to e =
     let t = i.ties kind.Comm in
     let off : is_on w.bank.hi (low_of w.core.drive.turn.to) ≡ false = rw to (low_leg_off w.bank.sector w.bank.hi w.bank.lo t.sectors t.pair) in
     let later : w.bank.time < low_free w.core.drive =
-    waits_free w.bank.hi (low_free w.core.drive) (low_of w.core.drive.turn.to) w.bank.time until off e in
-    (
+    waits_free w.bank.hi (low_free w.core.drive) (low_of w.core.drive.turn.to) w.bank.time until off e in (
       later,
       off_is (low_on (drive_seen w)) (λ on. (
           let free : at_leg w.core.drive.gates.hi_free (low_of w.bank.sector) ≤ w.bank.time = t.held (low_of w.bank.sector) on in
@@ -506,7 +505,12 @@ low_places None w outer e i =
     let after : Bank = written w.bank reg.GlSet (mask_of x) in
     let tied = turn_tie w outer change.Low i in
     let to : w.core.drive.turn.to ≡ w.bank.sector = same_to w outer comm.Turn change.Low i refl tied.1 in
-    let d : Drive = record w.core.drive { gates = gates_after g w.bank after; turn = record { to = w.core.drive.turn.to; at = change.Position }; postponed = false } in
+    let d : Drive = record w.core.drive {
+      gates = gates_after g w.bank after;
+      turn = record { to = w.core.drive.turn.to; at = change.Position };
+      postponed =
+          false;
+    } in
     record {
       gates = comm_gates w outer comm.Turn change.Low _ i refl
           (low_on_keeps g (gates_after g w.bank after) w.bank after x refl refl refl e (pair_apart w.bank.sector w.bank.hi w.bank.lo t.sectors t.pair))
@@ -587,7 +591,12 @@ resumed_places None w outer e i =
     let after : Bank = written w.bank reg.GlSet (mask_of x) in
     let tied : Resumes (drive_seen w) = place_tie w outer comm.Low change.Low i in
     let to : w.core.drive.turn.to ≡ w.bank.sector = same_to w outer comm.Low change.Low i refl tied.some in
-    let d : Drive = record w.core.drive { gates = gates_after g w.bank after; turn = record { to = w.core.drive.turn.to; at = change.Position }; postponed = false } in
+    let d : Drive = record w.core.drive {
+      gates = gates_after g w.bank after;
+      turn = record { to = w.core.drive.turn.to; at = change.Position };
+      postponed =
+          false;
+    } in
     record {
       gates = comm_gates w outer comm.Low change.Low _ i refl
           (low_on_keeps g (gates_after g w.bank after) w.bank after x refl refl refl e (pair_apart w.bank.sector w.bank.hi w.bank.lo t.sectors t.pair))
@@ -941,7 +950,8 @@ arms true at w outer e i =
     }
   where
     done_kept : ((turns_in w.back ≡ 1) × OnOrHeld (drive_seen w)) ⊎ Resumed (drive_seen w)
-        → ((turns_in w.back ≡ 1) × OnOrHeld (moved_view (drive_seen w) w.core.drive comm.Stick (Some (due_at w.core.drive)) w.bank.stuck (postponed_at w.back) w.bank.hi w.bank.lo))
+        → ((turns_in w.back ≡ 1) × OnOrHeld (moved_view (drive_seen w) w.core.drive comm.Stick (Some (due_at w.core.drive)) w.bank.stuck (postponed_at w.back)
+        w.bank.hi w.bank.lo))
         ⊎ Resumed (moved_view (drive_seen w) w.core.drive comm.Stick (Some (due_at w.core.drive)) w.bank.stuck (postponed_at w.back) w.bank.hi w.bank.lo)
     done_kept (inl d) = inl d
     done_kept (inr r) = inr (record { none = r.none; not_due = r.not_due; postponed = r.postponed; low = r.low; prompt = r.prompt })
@@ -977,7 +987,8 @@ arms false at w outer e i =
     }
   where
     done_kept : ((turns_in w.back ≡ 1) × OnOrHeld (drive_seen w)) ⊎ Resumed (drive_seen w)
-        → ((turns_in w.back ≡ 1) × OnOrHeld (moved_view (drive_seen w) w.core.drive comm.Back (Some (due_at w.core.drive)) w.bank.stuck (postponed_at w.back) w.bank.hi w.bank.lo))
+        → ((turns_in w.back ≡ 1) × OnOrHeld (moved_view (drive_seen w) w.core.drive comm.Back (Some (due_at w.core.drive)) w.bank.stuck (postponed_at w.back)
+        w.bank.hi w.bank.lo))
         ⊎ Resumed (moved_view (drive_seen w) w.core.drive comm.Back (Some (due_at w.core.drive)) w.bank.stuck (postponed_at w.back) w.bank.hi w.bank.lo)
     done_kept (inl d) = inl d
     done_kept (inr r) = inr (record { none = r.none; not_due = r.not_due; postponed = r.postponed; low = r.low; prompt = r.prompt })
@@ -1017,13 +1028,15 @@ sticks at w outer i =
     }
   where
     done_kept : ((turns_in w.back ≡ 1) × OnOrHeld (drive_seen w)) ⊎ Resumed (drive_seen w)
-        → ((turns_in w.back ≡ 1) × OnOrHeld (moved_view (drive_seen w) w.core.drive comm.Back w.bank.comm (w.bank.stuck || true) (postponed_at w.back) w.bank.hi w.bank.lo))
+        → ((turns_in w.back ≡ 1) × OnOrHeld (moved_view (drive_seen w) w.core.drive comm.Back w.bank.comm (w.bank.stuck || true) (postponed_at w.back)
+        w.bank.hi w.bank.lo))
         ⊎ Resumed (moved_view (drive_seen w) w.core.drive comm.Back w.bank.comm (w.bank.stuck || true) (postponed_at w.back) w.bank.hi w.bank.lo)
     done_kept (inl d) = inl d
     done_kept (inr r) = inr (record { none = r.none; not_due = r.not_due; postponed = r.postponed; low = r.low; prompt = r.prompt })
 
 -- what the notes say of the low switch
-low_told : (w : World) (s : Stepped) → s.core.drive.gates ≡ w.core.drive.gates → (accessed w.bank s.access).lo ≡ w.bank.lo → StepTold w s → w.bank.sector ≡ sector_at w.back
+low_told : (w : World) (s : Stepped) → s.core.drive.gates ≡ w.core.drive.gates → (accessed w.bank s.access).lo ≡ w.bank.lo → StepTold w s
+    → w.bank.sector ≡ sector_at w.back
     → low_is_on w.back ≡ low_on (drive_seen w)
 low_told w s e lo told sector = rw (told.lo_is, lo, ← sector) refl
 
@@ -1229,7 +1242,7 @@ entry_drives w t unheld due = elim (cases_lt 0 (demand_at w.back)) [
   | inl l ↦ l
   | inr z ↦ absurd (
       let still = rest_still w.core.tick_at w.bank.hi w.bank.lo w.bank.flag w.bank.comm w.core.drive.postponed w.bank.stuck (unheld kind.Tick)
-          ((t kind.Tick).4 (omega arith)).rest in
+      ((t kind.Tick).4 (omega arith)).rest in
       let r : is_reached None w.bank.time ≡ true = subst (λ (x : Option ℕ). is_reached x w.bank.time ≡ true) still.disarmed due in
       cc)
 ]

@@ -78,7 +78,8 @@ control_refuses = record {
   stuck_in_the_next_drive =
       λ after h. (let e = (last_fits (ticks 2404 1 0 20 ∷ rows 61 (ticks 4804 2 1 0 ∷ [])) after (ticks 7204 3 1 0) h).tick.marks_are in absurd (omega arith));
   row_that_a_crossing_ended =
-      λ after h. (let e = (last_fits (ticks 2404 1 0 20 ∷ rows 40 (crosses 3000 ∷ rows 40 [])) after (ticks 4804 2 1 0) h).tick.marks_are in absurd (omega arith));
+      λ after h. (let e = (last_fits (ticks 2404 1 0 20 ∷ rows 40 (crosses 3000 ∷ rows 40 [])) after (ticks 4804 2 1 0) h).tick.marks_are in absurd
+      (omega arith));
 }
 
 -- ---- windows

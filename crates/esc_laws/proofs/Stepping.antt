@@ -80,7 +80,8 @@ entry_fits loaded nest cost trace c b stack log k l down chosen calls = record {
   first = λ o. (
     refl,
     λ j s. highest_most (due_now c.orders.save_asked b) k j
-        (waits_due loaded nest trace c b stack log l.keeps l.ground l.ties l.gates (unheld_down c b stack l.keeps down) j s (empty_open stack j (l.marks.stack_is ∙ o)))
+        (waits_due loaded nest trace c b stack log l.keeps l.ground l.ties l.gates (unheld_down c b stack l.keeps down) j s
+        (empty_open stack j (l.marks.stack_is ∙ o)))
         (entry_highest nest stack (due_now c.orders.save_asked b) k chosen),
   );
   entry = λ e. refl;
