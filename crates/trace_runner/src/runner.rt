@@ -209,7 +209,7 @@ impl Runner {
         self.quiet = Tick(0);
         self.machine.step_into(&mut self.regs, dev, &mut self.notes);
         self.next = Tick(self.next.0 + self.cost as u64);
-        put_notes(self.notes.as_slice(), out)
+        put_notes(self.notes.as_slice(), &mut self.line, out)
     }
 
     /// Applies an event at the limit. A stall puts off the next step.

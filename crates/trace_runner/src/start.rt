@@ -18,6 +18,7 @@ use esc_core::Core;
 use interrupt_machine::Machine;
 use settings_block::{BlockFault, Loaded};
 use timer_regs::{Reg, Regs};
+use trace_text::Line;
 
 /// The number of a load's result in the first line.
 fn load_number(fault: Option<BlockFault>) -> u8
@@ -56,6 +57,7 @@ impl Runner {
             quiet: Tick(0),
             fault: loaded.fault,
             notes: ArrayVec::new(),
+            line: Line::new(),
         }
     }
 
@@ -73,6 +75,6 @@ impl Runner {
             r: load_number(self.fault),
         };
         let window = Note::Window { t: Tick(0), m: 0 };
-        put_notes(&[settings, window], out)
+        put_notes(&[settings, window], &mut Line::new(), out)
     }
 }

@@ -1,5 +1,5 @@
 pub mod Digits
-pub mod Spacing
+pub mod Bits
 pub mod Fields
 pub mod Saying
 pub mod Cut

@@ -23,6 +23,6 @@ pub use field::number_in;
 pub use item::{Item, Place, Refusal};
 pub use laws::one_journal;
 pub use note_back::note_read;
-pub use note_line::note_text;
+pub use note_line::{note_text, write_note};
 pub use reader::Lines;
 pub use write::Line;
