@@ -3,7 +3,7 @@ ghost use Rattle.esc_base.specs.declared.kind.Kind.{Kind};
 ghost use Rattle.esc_base.specs.Range.{InRange};
 ghost use Rattle.esc_base.specs.Flash.{Told};
 ghost use Rattle.interrupt_machine.specs.Did.{notes_of};
-ghost use Rattle.interrupt_machine.specs.Open.{innermost, is_open, due_now, due_in, highest, next_entry, is_idle};
+ghost use Rattle.interrupt_machine.specs.Open.{innermost, is_open, due_now, highest, next_entry, is_idle};
 ghost use Rattle.interrupt_machine.specs.Response.{Moment, Passed, Responds};
 ghost use Rattle.timer_regs.specs.Effects.{advanced};
 ghost use Rattle.interrupt_machine.specs.Step.{MachineStepped};
@@ -14,7 +14,7 @@ use crate::{Did, Firmware, Nest, Own};
 use arrayvec::ArrayVec;
 use esc_base::{FlashDev, GateWord, Kind, Note, Tick};
 use std::marker::Model;
-use timer_regs::{KindSet, Regs};
+use timer_regs::Regs;
 
 /// The notes of one step: a gate change, three of the handler's own, a return.
 pub type Notes = ArrayVec<Note, 6>;
@@ -56,27 +56,6 @@ const BY_PRIORITY: [Kind; 7] = [
     Kind::Main,
 ];
 
-/// The highest due kind, where MAIN is due if the firmware waits.
-fn highest_due(due: KindSet, waiting: bool) -> Option<Kind>
-    ensures { result ≡ highest (due_in waiting due) }
-{
-    for kind in BY_PRIORITY {
-        if is_due(kind, due, waiting) {
-            return Some(kind);
-        }
-    }
-    None
-}
-
-fn is_due(kind: Kind, due: KindSet, waiting: bool) -> bool
-    ensures { result ≡ due_in waiting due kind }
-{
-    match kind {
-        Kind::Main => waiting,
-        _ => due.has(kind),
-    }
-}
-
 impl<F: Firmware> Machine<F> {
     /// The firmware with no handler open.
     pub fn new(firmware: F, nest: Nest) -> Machine<F>
@@ -112,7 +91,21 @@ impl<F: Firmware> Machine<F> {
     fn due(&self, regs: &Regs) -> Option<Kind>
         ensures { result ≡ highest (due_now (F.waits self.now.firmware) regs.now) }
     {
-        highest_due(regs.due(), self.firmware.waiting())
+        for kind in BY_PRIORITY {
+            if self.is_due(kind, regs) {
+                return Some(kind);
+            }
+        }
+        None
+    }
+
+    fn is_due(&self, kind: Kind, regs: &Regs) -> bool
+        ensures { result ≡ due_now (F.waits self.now.firmware) regs.now kind }
+    {
+        match kind {
+            Kind::Main => self.firmware.waiting(),
+            _ => regs.is_due(kind),
+        }
     }
 
     /// Whether no handler is open and no kind is due.

@@ -299,6 +299,19 @@ impl Regs {
             .with(Kind::Comm, self.comm_due())
     }
 
+    /// Whether a kind is due. MAIN, which only the firmware knows of, isn't.
+    pub fn is_due(&self, kind: Kind) -> bool
+        ensures { result ≡ is_due self.now kind }
+    {
+        match kind {
+            Kind::Tick => self.tick_due(),
+            Kind::Cap => self.cap_due(),
+            Kind::Pwm => self.flag,
+            Kind::Comm => self.comm_due(),
+            _ => false,
+        }
+    }
+
     /// A kind is entered: what made it due is cleared. A closed window counts as taken and stays readable; the
     /// control tick is due until its number is read.
     pub fn entered(&mut self, kind: Kind)
