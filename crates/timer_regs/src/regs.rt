@@ -431,7 +431,8 @@ impl Regs {
         Some(Tick((self.number_read as u64 + 1) * 2400))
     }
 
-    fn next_cap(&self) -> Option<Tick>
+    /// The earliest later tick at which CAP becomes due by time alone. `None` where it is due or there is no such tick.
+    pub fn next_cap(&self) -> Option<Tick>
         ensures { IsFirstDue self.now kinds.Cap (tick_of result) }
     {
         if self.cap_due() {

@@ -26,6 +26,7 @@ fn put_all<K: Sink>(notes: &[Note], line: &mut Line, out: &mut K) -> Result<(), 
 }
 
 /// Writes the notes' lines, in a buffer that the caller keeps. Most steps have no note.
+#[inline(always)]
 pub(crate) fn put_notes<K: Sink>(
     notes: &[Note],
     line: &mut Line,

@@ -5,6 +5,8 @@ ghost use Rattle.esc_base.specs.Flash.{Told};
 ghost use Rattle.esc_base.specs.Outside.{Rose};
 ghost use Rattle.esc_base.specs.Trace.{tick_of as tick_of_event};
 ghost use Rattle.trace_text.specs.Ahead.{StallFits};
+ghost use Rattle.esc_base.specs.declared.kind.Kind.TheVariants as kinds;
+ghost use Rattle.timer_regs.specs.Effects.{advanced, is_due};
 ghost use Rattle.timer_regs.specs.NextDue.{tick_of as tick_of_due};
 ghost use Rattle.interrupt_machine.specs.Open.{due_now, is_idle};
 ghost use Rattle.esc_laws.specs.Steps.{Turned, journal};
@@ -14,7 +16,8 @@ ghost use Rattle.trace_runner.specs.Run.{Outset, Runs, StandsFor, StepBound, Lef
 
 use crate::lines::put_notes;
 use crate::{Runner, WriteFault};
-use esc_base::{Event, FlashDev, Sink, Tick};
+use esc_base::{Event, FlashDev, Kind, Sink, Tick};
+use timer_regs::Regs;
 
 fn tick_of(e: Event) -> Tick
     ensures { result.0 ≡ tick_of_event e }
@@ -34,6 +37,17 @@ fn quiet_until(due: Option<Tick>) -> Tick
     match due {
         Some(due) => due,
         None => Tick(u64::MAX),
+    }
+}
+
+/// The tick before which CAP isn't due while only time goes on.
+fn cap_quiet_until(regs: &Regs) -> Tick
+    ensures { (t : ℕ) → regs.now.time ≤ t → t < result.0 → is_due (advanced regs.now t) kinds.Cap ≡ false }
+{
+    if regs.is_due(Kind::Cap) {
+        regs.now()
+    } else {
+        quiet_until(regs.next_cap())
     }
 }
 
@@ -212,7 +226,8 @@ impl Runner {
         put_notes(self.notes.as_slice(), &mut self.line, out)
     }
 
-    /// Applies an event at the limit. A stall puts off the next step.
+    /// Applies an event at the limit. An edge changes nothing that makes another kind than CAP due. A stall puts off the next
+    /// step.
     fn apply(&mut self, e: Event)
         requires at { self.old.limit.0 ≡ tick_of_event e }
         requires reached { self.old.limit.0 ≤ self.old.next.0 }
@@ -226,7 +241,7 @@ impl Runner {
         match e {
             Event::Edge { level, .. } => {
                 self.regs.edge(level);
-                self.quiet = self.limit;
+                self.quiet = Tick(self.quiet.0.min(cap_quiet_until(&self.regs).0));
             }
             Event::Comp { level, .. } => self.regs.comp(level),
             Event::Serial { byte, .. } => {
