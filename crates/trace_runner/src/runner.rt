@@ -122,7 +122,7 @@ impl Runner {
         self.run_to(t, out, dev)
     }
 
-    /// Makes all steps at ticks below the limit.
+    /// Makes all steps at ticks below the limit. Mostly there is none, and then no loop is entered.
     fn run_to<K: Sink, D: FlashDev>(
         &mut self,
         limit: Tick,
@@ -137,7 +137,35 @@ impl Runner {
         ensures nest { nest_of self.new ≡ nest_of self.old }
         ensures cost { cost_of self.new ≡ cost_of self.old }
     {
+        self.approach(limit);
+        if self.limit.0 <= self.next.0 {
+            return Ok(());
+        }
+        self.run(out, dev)
+    }
+
+    /// Takes a limit, and lets idle time pass up to it where nothing becomes due before it.
+    fn approach(&mut self, limit: Tick)
+        requires small { limit.0 ≤ 1073741824 }
+        requires later { self.old.limit.0 ≤ limit.0 }
+        ensures runs { (o : Outset) (now : Told) (trace : List AnEvent) (steps : List Turned) → Runs self.old o now trace steps
+            → Runs self.new o now trace steps }
+        ensures limit { self.new.limit ≡ limit }
+        ensures nest { nest_of self.new ≡ nest_of self.old }
+        ensures cost { cost_of self.new ≡ cost_of self.old }
+    {
         self.limit = limit;
+        if self.next.0 < self.limit.0 && self.limit.0 <= self.quiet.0 {
+            self.wait();
+        }
+    }
+
+    /// Makes all steps at ticks below the limit, one after the other.
+    fn run<K: Sink, D: FlashDev>(&mut self, out: &mut K, dev: &mut D) -> Result<(), WriteFault>
+        ensures reached { OnOk result (self.new.limit.0 ≤ self.new.next.0) }
+        ensures run { RunsOn K.given K.took K.broke K.faults self.old self.new (D.told dev.old) (D.told dev.new) result out.old out.new }
+        ensures kept { Kept self.old self.new }
+    {
         while self.next.0 < self.limit.0 {
             self.go_on(out, dev)?;
         }

@@ -16,6 +16,9 @@ capped_bits v n m a d e f g = omega arith
 pub digit_of : (b : ℕ) → is_ascii_digit b ≡ true → digit_value b ≡ b - 48
 digit_of b h = grind (arith, nat_tests)
 
+pub digit_most : (b : ℕ) → is_ascii_digit b ≡ true → b ≤ 57
+digit_most b h = grind (arith, nat_tests)
+
 -- ---- numbers as they are printed
 
 pub length_decimal_step : (n : ℕ) → 10 ≤ n → n < 2 ^ 32 → length (decimal n) ≡ length (decimal (n / 10)) + 1
