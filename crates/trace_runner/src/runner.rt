@@ -123,6 +123,7 @@ impl Runner {
     }
 
     /// Makes all steps at ticks below the limit. Mostly there is none, and then no loop is entered.
+    #[inline(always)]
     fn run_to<K: Sink, D: FlashDev>(
         &mut self,
         limit: Tick,
