@@ -312,6 +312,18 @@ impl Regs {
         }
     }
 
+    /// The tick from which on CAP is due, if only time goes on; it may have passed. `None` where CAP never is.
+    pub fn cap_due_from(&self) -> Option<Tick>
+        ensures { (t : ℕ) → is_due (advanced self.now t) kinds.Cap ≡ reached (tick_of result) t }
+    {
+        let closes = if self.taken {
+            None
+        } else {
+            self.window.closes_at()
+        };
+        sooner(closes, self.timer)
+    }
+
     /// A kind is entered: what made it due is cleared. A closed window counts as taken and stays readable; the
     /// control tick is due until its number is read.
     pub fn entered(&mut self, kind: Kind)
@@ -431,8 +443,7 @@ impl Regs {
         Some(Tick((self.number_read as u64 + 1) * 2400))
     }
 
-    /// The earliest later tick at which CAP becomes due by time alone. `None` where it is due or there is no such tick.
-    pub fn next_cap(&self) -> Option<Tick>
+    fn next_cap(&self) -> Option<Tick>
         ensures { IsFirstDue self.now kinds.Cap (tick_of result) }
     {
         if self.cap_due() {

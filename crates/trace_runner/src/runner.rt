@@ -16,7 +16,7 @@ ghost use Rattle.trace_runner.specs.Run.{Outset, Runs, StandsFor, StepBound, Lef
 
 use crate::lines::put_notes;
 use crate::{Runner, WriteFault};
-use esc_base::{Event, FlashDev, Kind, Sink, Tick};
+use esc_base::{Event, FlashDev, Sink, Tick};
 use timer_regs::Regs;
 
 fn tick_of(e: Event) -> Tick
@@ -44,11 +44,7 @@ fn quiet_until(due: Option<Tick>) -> Tick
 fn cap_quiet_until(regs: &Regs) -> Tick
     ensures { (t : ℕ) → regs.now.time ≤ t → t < result.0 → is_due (advanced regs.now t) kinds.Cap ≡ false }
 {
-    if regs.is_due(Kind::Cap) {
-        regs.now()
-    } else {
-        quiet_until(regs.next_cap())
-    }
+    quiet_until(regs.cap_due_from())
 }
 
 impl Runner {
