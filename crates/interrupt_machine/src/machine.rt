@@ -10,14 +10,10 @@ ghost use Rattle.interrupt_machine.specs.Step.{MachineStepped};
 ghost use Rattle.interrupt_machine.specs.Turn.{IsHeld, leave_note, gate_note};
 
 use crate::stack::Stack;
-use crate::{Did, Firmware, Nest, Own};
-use arrayvec::ArrayVec;
+use crate::{Did, Firmware, Nest, Notes, Own};
 use esc_base::{FlashDev, GateWord, Kind, Note, Tick};
 use std::marker::Model;
 use timer_regs::Regs;
-
-/// The notes of one step: a gate change, three of the handler's own, a return.
-pub type Notes = ArrayVec<Note, 6>;
 
 /// A firmware with its open handlers, which makes one step after the other.
 ///
@@ -127,7 +123,7 @@ impl<F: Firmware> Machine<F> {
         requires count { regs.old.accesses < 2 ^ 63 }
         ensures { MachineStepped F.came F.made F.waits F.left F.hold self.old regs.old (D.told dev.old) result.items self.new regs.new (D.told dev.new) }
     {
-        let mut notes = ArrayVec::new();
+        let mut notes = Notes::new();
         self.step_into(regs, dev, &mut notes);
         notes
     }

@@ -12,10 +12,9 @@ ghost use Rattle.trace_runner.specs.Run.{StandsFor, nest_of, cost_of, newest};
 
 use crate::lines::put_notes;
 use crate::{RunConfig, Runner, WriteFault};
-use arrayvec::ArrayVec;
 use esc_base::{Note, Sink, Tick};
 use esc_core::Core;
-use interrupt_machine::Machine;
+use interrupt_machine::{Machine, Notes};
 use settings_block::{BlockFault, Loaded};
 use timer_regs::{Reg, Regs};
 use trace_text::Line;
@@ -56,7 +55,7 @@ impl Runner {
             limit: Tick(0),
             quiet: Tick(0),
             fault: loaded.fault,
-            notes: ArrayVec::new(),
+            notes: Notes::new(),
             line: Line::new(),
         }
     }

@@ -9,3 +9,4 @@ pub mod AtOnce
 pub mod InTime
 pub mod NoteBack
 pub mod OneText
+pub mod Written

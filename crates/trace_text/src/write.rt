@@ -1,4 +1,4 @@
-ghost use Rattle.std.specs.Prelude.{◌≡◌, ◌+◌, ◌≤◌, ◌<◌, ◌++◌, ◌∷◌, [], length, decimal, false};
+ghost use Rattle.std.specs.Prelude.{◌≡◌, ◌+◌, ◌≤◌, ◌<◌, ◌++◌, ◌∷◌, [], length, take, decimal, false};
 ghost use Rattle.std.specs.Fmt.{digit_glyph};
 ghost use Rattle.trace_text.specs.Text.{hex, bits};
 
@@ -38,6 +38,25 @@ fn hex_digit_of(n: u8) -> u8
     ensures { result ≡ digit_glyph false n }
 {
     if n < 10 { b'0' + n } else { b'a' + (n - 10) }
+}
+
+/// Writes a space and a number in decimal from a place on, and answers where they end.
+fn write_field(buffer: &mut [u8; 64], at: usize, n: u32) -> usize
+    requires { at + 11 ≤ 64 }
+    ensures written { take result buffer.new ≡ take at buffer.old ++ 32 ∷ decimal n }
+    ensures later { at ≤ result }
+    ensures most { result ≤ at + 11 }
+    ensures len { length buffer.new ≡ 64 }
+{
+    if n < 10 {
+        buffer[at] = b' ';
+        buffer[at + 1] = b'0' + n as u8;
+        return at + 2;
+    }
+    let end = at + 1 + digits_of(n);
+    write_digits(n as u64, buffer, end);
+    buffer[at] = b' ';
+    end
 }
 
 impl Line {
@@ -87,20 +106,7 @@ impl Line {
     }
 
     /// Appends a number in decimal, at most ten digits.
-    #[tactic(auto, using(std::proofs::lemmas::Fmt::decimal_digit))]
     pub fn push_number(&mut self, n: u32)
-        requires { length self.old.bytes + 10 ≤ 64 }
-        ensures bytes { self.new.bytes ≡ self.old.bytes ++ decimal n }
-        ensures len { length self.new.bytes ≤ length self.old.bytes + 10 }
-    {
-        if n < 10 {
-            self.push_byte(b'0' + n as u8);
-        } else {
-            self.push_digits(n);
-        }
-    }
-
-    fn push_digits(&mut self, n: u32)
         requires { length self.old.bytes + 10 ≤ 64 }
         ensures bytes { self.new.bytes ≡ self.old.bytes ++ decimal n }
         ensures len { length self.new.bytes ≤ length self.old.bytes + 10 }
@@ -116,8 +122,7 @@ impl Line {
         ensures bytes { self.new.bytes ≡ self.old.bytes ++ 32 ∷ decimal n }
         ensures len { length self.new.bytes ≤ length self.old.bytes + 11 }
     {
-        self.push_byte(b' ');
-        self.push_number(n);
+        self.len = write_field(&mut self.buffer, self.len, n);
     }
 
     /// Appends a byte as two hexadecimal digits, behind a space.
