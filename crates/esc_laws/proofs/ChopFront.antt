@@ -77,14 +77,14 @@ chopped_on : (cost : ℕ) (trace : List Event) (until : ℕ) (notes front : List
 chopped_on cost trace until notes front below at c p d y = record {
   high_on = λ t lt late by.
       rw (front_tick t until notes front lt at, sector_is t lt late)
-      ((c p d (undisturbed_before cost trace until p d t notes front lt late below at y)).high_on t lt late by);
+          ((c p d (undisturbed_before cost trace until p d t notes front lt late below at y)).high_on t lt late by);
   high_off = λ t lt late by.
       let since : p + 48 * cost ≤ t = omega arith in
       rw (front_tick t until notes front lt at, sector_is t lt since)
       ((c p d (undisturbed_before cost trace until p d t notes front lt since below at y)).high_off t lt late by);
   low_on = λ t lt late by.
       rw (front_tick t until notes front lt at, sector_is t lt late)
-      ((c p d (undisturbed_before cost trace until p d t notes front lt late below at y)).low_on t lt late by);
+          ((c p d (undisturbed_before cost trace until p d t notes front lt late below at y)).low_on t lt late by);
   other_low_off = λ t lt late by.
       rw (front_tick t until notes front lt at, sector_is t lt late)
       ((c p d (undisturbed_before cost trace until p d t notes front lt late below at y)).other_low_off t lt late by);
@@ -105,12 +105,13 @@ steps_below loaded nest cost trace until before (e ∷ log) b f =
 
 -- nothing is claimed below tick 1
 none_claimed : (cost : ℕ) (trace : List Event) (notes : List Note) → Chopped cost trace 0 notes
-none_claimed cost trace notes p d y = record {
-  high_on = λ t lt. absurd (omega arith);
-  high_off = λ t lt. absurd (omega arith);
-  low_on = λ t lt. absurd (omega arith);
-  other_low_off = λ t lt. absurd (omega arith);
-}
+none_claimed cost trace notes p d y =
+    record {
+      high_on = λ t lt. absurd (omega arith);
+      high_off = λ t lt. absurd (omega arith);
+      low_on = λ t lt. absurd (omega arith);
+      other_low_off = λ t lt. absurd (omega arith);
+    }
 
 pub chopped_front : (loaded : Loaded) (nest : Nest) (cost : ℕ) (trace : List Event) (until : ℕ) (log : List Turned) (front : List Note)
     → Below until log → EachStep (StepFits loaded nest cost trace) [] log → All (λ n. time_of n ≡ until) front → Chopped cost trace until (journal loaded log)
