@@ -16,7 +16,7 @@ ghost use Rattle.trace_runner.specs.Run.{Outset, Runs, StandsFor, StepBound, Lef
 
 use crate::lines::put_notes;
 use crate::{Runner, WriteFault};
-use esc_base::{Event, FlashDev, Sink, Tick};
+use esc_base::{Event, FlashDev, Kind, Sink, Tick};
 use timer_regs::Regs;
 
 fn tick_of(e: Event) -> Tick
@@ -251,8 +251,8 @@ impl Runner {
         put_notes(self.notes.as_slice(), &mut self.line, out)
     }
 
-    /// Applies an event at the limit. An edge changes nothing that makes another kind than CAP due. A stall puts off the next
-    /// step.
+    /// Applies an event at the limit. An edge changes when CAP is due and no other kind, a change of the comparator whether CMP
+    /// is due now and no other kind. A stall puts off the next step.
     fn apply(&mut self, e: Event)
         requires at { self.old.limit.0 ≡ tick_of_event e }
         requires reached { self.old.limit.0 ≤ self.old.next.0 }
@@ -270,7 +270,9 @@ impl Runner {
             }
             Event::Comp { level, .. } => {
                 self.regs.comp(level);
-                self.quiet = self.limit;
+                if self.regs.is_due(Kind::Cmp) {
+                    self.quiet = self.limit;
+                }
             }
             Event::Serial { byte, .. } => {
                 let _ = self.regs.serial(byte);
