@@ -97,7 +97,8 @@ begins_turn w outer due i =
       gates = quiet_gates kind.Comm w _ (λ e. cc) refl refl refl;
       fits = λ told. tt;
       ground = i.ground;
-      tie = λ told. comm_moves (drive_seen w) 5 d comm.Turn w.bank.comm w.bank.stuck (postponed_at w.back) w.bank.hi w.bank.lo (no_commute w i.alone) t (record {
+      tie = λ told. comm_moves (drive_seen w) 5 d comm.Turn w.bank.comm w.bank.stuck (postponed_at w.back) w.bank.hi w.bank.lo (no_commute w i.alone) t
+          (record {
         words = same_words (drive_seen w) d refl t;
         change_is = refl;
         turned_is = refl;
@@ -142,7 +143,8 @@ resumes true w outer e early i =
       gates = quiet_gates kind.Comm w _ (λ e. cc) refl refl refl;
       fits = λ told. tt;
       ground = i.ground;
-      tie = λ told. comm_moves (drive_seen w) 5 w.core.drive comm.Low w.bank.comm w.bank.stuck (postponed_at w.back) w.bank.hi w.bank.lo (no_commute w i.alone) t (record {
+      tie = λ told. comm_moves (drive_seen w) 5 w.core.drive comm.Low w.bank.comm w.bank.stuck (postponed_at w.back) w.bank.hi w.bank.lo
+          (no_commute w i.alone) t (record {
         words = same_words (drive_seen w) w.core.drive refl t;
         change_is = refl;
         turned_is = refl;
@@ -303,7 +305,8 @@ no_more true b = refl
 no_more false true = refl
 no_more false false = refl
 
-stuck_next : (turn : Turn) (turned told stuck : Bool) (forced f wait change time : ℕ) → ChangeTied wait turn change time → turned ≡ is_forced turn → forced ≡ min 60 f
+stuck_next : (turn : Turn) (turned told stuck : Bool) (forced f wait change time : ℕ) → ChangeTied wait turn change time → turned ≡ is_forced turn
+    → forced ≡ min 60 f
     → told ≡ (stuck || nat_le 60 forced) → (nat_le 60 forced ≡ true → stuck ≡ true)
     → (told || (is_forced turn && nat_le 59 f)) ≡ (stuck || nat_le 60 (if turned then min 60 (forced + 1) else forced))
 stuck_next Idle turned told stuck forced f wait change time c e g s m = absurd c
@@ -551,7 +554,8 @@ low_places (Some until) w outer e i =
       gates = quiet_gates kind.Comm w _ (λ f. cc) refl refl refl;
       fits = λ told. tt;
       ground = i.ground;
-      tie = λ told. comm_moves (drive_seen w) 1 d comm.Blank w.bank.comm w.bank.stuck (postponed_at w.back) w.bank.hi w.bank.lo (no_commute w i.alone) t (record {
+      tie = λ told. comm_moves (drive_seen w) 1 d comm.Blank w.bank.comm w.bank.stuck (postponed_at w.back) w.bank.hi w.bank.lo (no_commute w i.alone) t
+          (record {
         words = same_words (drive_seen w) d refl t;
         change_is = refl;
         turned_is = refl;
@@ -649,7 +653,8 @@ reads_position w outer i =
       gates = quiet_gates kind.Comm w _ (λ f. cc) refl refl refl;
       fits = λ told. tt;
       ground = i.ground;
-      tie = λ told. comm_moves (drive_seen w) 2 d comm.Turn w.bank.comm w.bank.stuck (postponed_at w.back) w.bank.hi w.bank.lo (no_commute w i.alone) t (record {
+      tie = λ told. comm_moves (drive_seen w) 2 d comm.Turn w.bank.comm w.bank.stuck (postponed_at w.back) w.bank.hi w.bank.lo (no_commute w i.alone) t
+          (record {
         words = same_words (drive_seen w) d refl t;
         change_is = refl;
         turned_is = refl;
@@ -685,7 +690,8 @@ duty_places true position w outer i =
       gates = quiet_gates kind.Comm w _ (λ f. cc) refl refl refl;
       fits = λ told. tt;
       ground = i.ground;
-      tie = λ told. comm_moves (drive_seen w) 3 d comm.Turn w.bank.comm w.bank.stuck (postponed_at w.back) w.bank.hi w.bank.lo (no_commute w i.alone) t (record {
+      tie = λ told. comm_moves (drive_seen w) 3 d comm.Turn w.bank.comm w.bank.stuck (postponed_at w.back) w.bank.hi w.bank.lo (no_commute w i.alone) t
+          (record {
         words = same_words (drive_seen w) d refl t;
         change_is = refl;
         turned_is = refl;
@@ -717,7 +723,8 @@ duty_places false position w outer i =
       gates = quiet_gates kind.Comm w _ (λ f. cc) refl refl refl;
       fits = λ told. tt;
       ground = i.ground;
-      tie = λ told. comm_moves (drive_seen w) 3 d comm.Blank w.bank.comm w.bank.stuck (postponed_at w.back) w.bank.hi w.bank.lo (no_commute w i.alone) t (record {
+      tie = λ told. comm_moves (drive_seen w) 3 d comm.Blank w.bank.comm w.bank.stuck (postponed_at w.back) w.bank.hi w.bank.lo (no_commute w i.alone) t
+          (record {
         words = same_words (drive_seen w) d refl t;
         change_is = refl;
         turned_is = refl;
@@ -794,7 +801,8 @@ high_places (Some until) w outer e i =
       gates = quiet_gates kind.Comm w _ (λ f. cc) refl refl refl;
       fits = λ told. tt;
       ground = i.ground;
-      tie = λ told. comm_moves (drive_seen w) 4 d comm.Blank w.bank.comm w.bank.stuck (postponed_at w.back) w.bank.hi w.bank.lo (no_commute w i.alone) t (record {
+      tie = λ told. comm_moves (drive_seen w) 4 d comm.Blank w.bank.comm w.bank.stuck (postponed_at w.back) w.bank.hi w.bank.lo (no_commute w i.alone) t
+          (record {
         words = same_words (drive_seen w) d refl t;
         change_is = refl;
         turned_is = refl;
@@ -851,12 +859,14 @@ blanks at w outer i =
     let u = i.ties kind.Cmp in
     let tied : HasActed (drive_seen w) = place_tie w outer comm.Blank at i in
     let begun = u.begins (sym (same_search w outer comm.Blank at i)) in
-    let by : arms_crossing (until w.core.drive.crossing.phase) ≡ Writes reg.CmpAt (cross_seen w).blanked = ap (λ (p : Phase). arms_crossing (until p)) begun.blank in
+    let by : arms_crossing (until w.core.drive.crossing.phase) ≡ Writes reg.CmpAt (cross_seen w).blanked =
+        ap (λ (p : Phase). arms_crossing (until p)) begun.blank in
     subst (λ (a : Access). StepKeeps kind.Comm outer w (goes_on (record w.core { comm_at = comm.Period }) a)) (sym by) (record {
       gates = quiet_gates kind.Comm w _ (λ f. cc) refl refl refl;
       fits = λ told. tt;
       ground = i.ground;
-      tie = λ told. comm_moves (drive_seen w) 2 w.core.drive comm.Period w.bank.comm w.bank.stuck (postponed_at w.back) w.bank.hi w.bank.lo (no_commute w i.alone) t (record {
+      tie = λ told. comm_moves (drive_seen w) 2 w.core.drive comm.Period w.bank.comm w.bank.stuck (postponed_at w.back) w.bank.hi w.bank.lo
+          (no_commute w i.alone) t (record {
         words = same_words (drive_seen w) w.core.drive refl t;
         change_is = refl;
         turned_is = refl;
@@ -889,7 +899,8 @@ periods at w outer i =
       gates = quiet_gates kind.Comm w _ (λ f. cc) refl refl refl;
       fits = λ told. tt;
       ground = i.ground;
-      tie = λ told. comm_moves (drive_seen w) 2 w.core.drive comm.Arm w.bank.comm w.bank.stuck (postponed_at w.back) w.bank.hi w.bank.lo (no_commute w i.alone) t (record {
+      tie = λ told. comm_moves (drive_seen w) 2 w.core.drive comm.Arm w.bank.comm w.bank.stuck (postponed_at w.back) w.bank.hi w.bank.lo
+          (no_commute w i.alone) t (record {
         words = same_words (drive_seen w) w.core.drive refl t;
         change_is = refl;
         turned_is = refl;
@@ -925,7 +936,8 @@ arms true at w outer e i =
       gates = quiet_gates kind.Comm w _ (λ f. cc) refl refl refl;
       fits = λ told. tt;
       ground = i.ground;
-      tie = λ told. comm_moves (drive_seen w) 2 w.core.drive comm.Stick (Some (due_at w.core.drive)) w.bank.stuck (postponed_at w.back) w.bank.hi w.bank.lo (no_commute w i.alone) t (record {
+      tie = λ told. comm_moves (drive_seen w) 2 w.core.drive comm.Stick (Some (due_at w.core.drive)) w.bank.stuck (postponed_at w.back) w.bank.hi w.bank.lo
+          (no_commute w i.alone) t (record {
         words = same_words (drive_seen w) w.core.drive refl t;
         change_is = refl;
         turned_is = refl;
@@ -962,7 +974,8 @@ arms false at w outer e i =
       gates = quiet_gates kind.Comm w _ (λ f. cc) refl refl refl;
       fits = λ told. tt;
       ground = i.ground;
-      tie = λ told. comm_moves (drive_seen w) 2 w.core.drive comm.Back (Some (due_at w.core.drive)) w.bank.stuck (postponed_at w.back) w.bank.hi w.bank.lo (no_commute w i.alone) t (record {
+      tie = λ told. comm_moves (drive_seen w) 2 w.core.drive comm.Back (Some (due_at w.core.drive)) w.bank.stuck (postponed_at w.back) w.bank.hi w.bank.lo
+          (no_commute w i.alone) t (record {
         words = same_words (drive_seen w) w.core.drive refl t;
         change_is = refl;
         turned_is = refl;
@@ -1003,7 +1016,8 @@ sticks at w outer i =
       gates = quiet_gates kind.Comm w _ (λ f. cc) refl refl refl;
       fits = λ told. tt;
       ground = i.ground;
-      tie = λ told. comm_moves (drive_seen w) 3 w.core.drive comm.Back w.bank.comm stuck (postponed_at w.back) w.bank.hi w.bank.lo (no_commute w i.alone) t (record {
+      tie = λ told. comm_moves (drive_seen w) 3 w.core.drive comm.Back w.bank.comm stuck (postponed_at w.back) w.bank.hi w.bank.lo (no_commute w i.alone) t
+          (record {
         words = same_words (drive_seen w) w.core.drive refl t;
         change_is = refl;
         turned_is = refl;
@@ -1223,7 +1237,8 @@ called w t told unheld shut e = elim (or_parts (calls_turn (advance_of w.loaded.
     d = t kind.Comm
 
     kept : 0 < demand_at w.back → TimerKept (drive_seen w)
-    kept some = timer_kept w.core.tick_at (drive_seen w) (unheld kind.Tick) ((t kind.Comm).low shut some (unmasked_commutes w.core.cmp_at (cmp_unmasked w.core.cmp_at (unheld kind.Cmp))))
+    kept some = timer_kept w.core.tick_at (drive_seen w) (unheld kind.Tick)
+        ((t kind.Comm).low shut some (unmasked_commutes w.core.cmp_at (cmp_unmasked w.core.cmp_at (unheld kind.Cmp))))
 
     by_sector : (s : ℕ) → w.bank.sector ≡ s → 0 < demand_at w.back → low_is_on w.back ≡ false → high_free_at (low_of (sector_at w.back)) w.back ≤ w.bank.time
         → is_reached w.bank.comm w.bank.time ≡ true
@@ -1264,7 +1279,8 @@ entered : (w : World) → Ties w → Unheld w → w.core.comm_at ≡ comm.Shut �
 entered w t unheld shut due past =
     let d = t kind.Comm in
     let some = entry_drives w t unheld due in
-    let kept = timer_kept w.core.tick_at (drive_seen w) (unheld kind.Tick) (d.low shut some (unmasked_commutes w.core.cmp_at (cmp_unmasked w.core.cmp_at (unheld kind.Cmp)))) in
+    let kept = timer_kept w.core.tick_at (drive_seen w) (unheld kind.Tick)
+        (d.low shut some (unmasked_commutes w.core.cmp_at (cmp_unmasked w.core.cmp_at (unheld kind.Cmp)))) in
     record {
       sector_is = d.sector_is;
       sectors = d.sectors;

@@ -217,7 +217,8 @@ asks lost armed_now start w outer marks demand kept i begins none st number = by
         (pwm_entered_at w.back) w.bank.time
     flag_now = asked_flag (demand == 0) start w.bank.flag demand (pwm_entered_at w.back) w.bank.time refl (i.ties kind.Pwm).1.past
 
-    drive_now : DriveTied (asked_view (drive_seen w) (demand == 0) (rests_at w.back) (nat_lt 0 demand) start demand (wait_at (advance_of w.loaded.settings) (k ∷ w.back)))
+    drive_now : DriveTied (asked_view (drive_seen w) (demand == 0) (rests_at w.back) (nat_lt 0 demand) start demand
+        (wait_at (advance_of w.loaded.settings) (k ∷ w.back)))
     drive_now = asked_drive (demand == 0) (rests_at w.back) (nat_lt 0 demand) start (drive_seen w) demand
         (wait_at (advance_of w.loaded.settings) (k ∷ w.back)) (λ e. plain_wait (nat_lt 0 demand) (rests_at w.back) (advance_of w.loaded.settings) (pace_at w.back) e) refl (rests_is w.back) refl begins (asked_in w outer i)
         (i.ties kind.Comm)
@@ -622,7 +623,8 @@ starts w outer i =
           same_flag tick.Start tick.Lower w.bank.flag (pwm_asked_at w.back) (demand_at w.back) (pwm_entered_at w.back) w.bank.time refl
               (flag_tie w outer tick.Start i),
         )
-        | kind.Comm ↦ λ ne u. timed (drive_seen w) tick.Lower i.comm_is (λ l. inr (w.bank.time, refl, omega arith, (let q = low_tie w outer tick.Start i l in record { started = q.started; due = q.due }))) u
+        | kind.Comm ↦ λ ne u. timed (drive_seen w) tick.Lower i.comm_is (λ l. inr (w.bank.time, refl, omega arith, (let q =
+            low_tie w outer tick.Start i l in record { started = q.started; due = q.due }))) u
         | kind.Cmp ↦ λ ne u. cross_retimed (cross_seen w) tick.Lower (sym (ap ends_drive i.place_is)) u
         | j ↦ λ ne u. u
       ];
