@@ -437,9 +437,12 @@ returned v free t s = record {
     returns Away x = tt
     returns Begun x = absurd (let z = x.0 in cc)
     returns (Awaits u) x = absurd (let z = x.0 in cc)
-    returns (First i) x =
-        ((let a = x.0 in let p = free.past in omega arith), refl, λ e. passes_more v.search.phase i (v.past + 24) (v.time + 24)
-            (let p = free.past in omega arith) (x.1 e))
+    returns (First i) x = (
+      (let a = x.0 in let p = free.past in omega arith),
+      refl,
+      λ e. passes_more v.search.phase i (v.past + 24) (v.time + 24)
+          (let p = free.past in omega arith) (x.1 e),
+    )
     returns (Settles i u) x = absurd (let z = x.1 in cc)
     returns (Second i z) x = tt
 

@@ -235,7 +235,7 @@ isnt_ready end w outer e over ill i = record {
       (w.bank.crossing) (not_shut w outer cmp.Look refl i)
       (free_of w outer cmp.Look i) (i.ties kind.Cmp)
       (goes (cross_seen w) cmp.Enable (phase.Watch) (record w.core.drive.crossing { phase = phase.Watch }) (w.bank.comp_changed) (w.bank.comp_enabled)
-          (w.bank.crossing) refl refl
+      (w.bank.crossing) refl refl
       (looked_unready (cross_seen w) end.0 over ill (free_of w outer cmp.Look i) (i.ties kind.Cmp) (stands_at w outer cmp.Look (phase.Blank end) i e)));
   others = elim [
     | kind.Cmp ↦ λ ne u. absurd (ne refl)
@@ -274,8 +274,10 @@ rejects end w outer e over ill i = record {
   tie = λ told. cmp_moves (cross_seen w) cmp.Arm (record w.core.drive.crossing { phase = phase.Blank (as_tick (w.bank.time + 400)) }) (w.bank.comp_changed)
       (w.bank.comp_enabled) (w.bank.crossing) (not_shut w outer cmp.Look refl i)
       (free_of w outer cmp.Look i) (i.ties kind.Cmp)
-      (goes (cross_seen w) cmp.Arm (phase.Blank (as_tick (w.bank.time + 400))) (record w.core.drive.crossing { phase =
-          phase.Blank (as_tick (w.bank.time + 400)) }) (w.bank.comp_changed) (w.bank.comp_enabled) (w.bank.crossing) refl refl
+      (goes (cross_seen w) cmp.Arm (phase.Blank (as_tick (w.bank.time + 400))) (record w.core.drive.crossing {
+        phase =
+            phase.Blank (as_tick (w.bank.time + 400));
+      }) (w.bank.comp_changed) (w.bank.comp_enabled) (w.bank.crossing) refl refl
       (looked_reject (cross_seen w) end.0 over ill (free_of w outer cmp.Look i) (i.ties kind.Cmp) (stands_at w outer cmp.Look (phase.Filter end) i e)));
   others = elim [
     | kind.Cmp ↦ λ ne u. absurd (ne refl)
@@ -472,7 +474,8 @@ acks w outer i = record {
   tie = λ told. cmp_moves (cross_seen w) cmp.Arm (after_changed w.core.drive.crossing w.bank.time) (false) (w.bank.comp_enabled) (w.bank.crossing)
       (not_shut w outer cmp.Ack refl i)
       (free_of w outer cmp.Ack i) (i.ties kind.Cmp)
-      (goes (cross_seen w) cmp.Arm (phase.Filter (as_tick (w.bank.time + 24))) (after_changed w.core.drive.crossing w.bank.time) (false) (w.bank.comp_enabled) (w.bank.crossing) refl refl
+      (goes (cross_seen w) cmp.Arm (phase.Filter (as_tick (w.bank.time + 24))) (after_changed w.core.drive.crossing w.bank.time) (false) (w.bank.comp_enabled)
+      (w.bank.crossing) refl refl
       (acked (cross_seen w) w.core.drive.crossing.phase (free_of w outer cmp.Ack i) (stands_at w outer cmp.Ack w.core.drive.crossing.phase i refl)));
   others = elim [
     | kind.Cmp ↦ λ ne u. absurd (ne refl)
@@ -643,7 +646,8 @@ lowers w outer i = record {
   tie = λ told. cmp_moves (cross_seen w) cmp.Back (w.core.drive.crossing) (w.bank.comp_changed) (w.bank.comp_enabled) (w.bank.crossing)
       (not_shut w outer cmp.Lower refl i)
       (free_of w outer cmp.Lower i) (i.ties kind.Cmp)
-      (goes (cross_seen w) cmp.Back (w.core.drive.crossing.phase) (w.core.drive.crossing) (w.bank.comp_changed) (w.bank.comp_enabled) (w.bank.crossing) refl refl
+      (goes (cross_seen w) cmp.Back (w.core.drive.crossing.phase) (w.core.drive.crossing) (w.bank.comp_changed) (w.bank.comp_enabled) (w.bank.crossing) refl
+      refl
       (lowered (cross_seen w) w.core.drive.crossing.phase (free_of w outer cmp.Lower i) (stands_at w outer cmp.Lower w.core.drive.crossing.phase i refl)));
   others = elim [
     | kind.Cmp ↦ λ ne u. absurd (ne refl)

@@ -114,7 +114,7 @@ searches_refuse = record {
       let four : 4 < 4 = rw n at few in absurd (omega arith));
   five_from_a_change_on = λ after h. (let n = changed_once in
       let few = search_fits (up_from 8500) (commutes ++ (looks 8500 ++ looks 8600 ++ looks 8700 ++ looks 8800)) (leaves 8908 4 ∷ after)
-          (enters 8900 4) h refl in
+      (enters 8900 4) h refl in
       let four : 4 < 4 = rw n at few in absurd (omega arith));
 }
 

@@ -138,6 +138,6 @@ cap_opens_window loaded nest trace before through after f r t u windowed nested 
     let w : Each (WindowRule loaded trace) start all = each_rest (WindowRule loaded trace) (opening loaded) before all
     (each_rest (WindowRule loaded trace) [] (opening loaded) (before ++ all) windowed) in
     let n : Each (NestRule (advance_of loaded.settings) nest) start all =
-        each_rest (NestRule (advance_of loaded.settings) nest) (opening loaded) before all nested in
+    each_rest (NestRule (advance_of loaded.settings) nest) (opening loaded) before all nested in
     returns_not loaded nest trace f r (start ++ note.Enter t 3 ∷ []) through after u
     (rw (place-push start (note.Enter t 3)) (record { signal = rests; windows = refl; verdicts = refl })) none w.1 n.1
