@@ -3,19 +3,11 @@ use Rattle.esc_base.specs.declared.event.Event.{Event}
 use Rattle.esc_base.specs.declared.event.Event.TheVariants as event
 use Rattle.esc_base.specs.Trace.{tick_of}
 use Rattle.timer_regs.specs.Bank.{Bank}
-use Rattle.timer_regs.specs.Effects.{after_line}
+use Rattle.timer_regs.specs.Effects.{after_line, after_comp}
 use Rattle.trace_runner.specs.declared.state.Runner.{Runner}
 use Rattle.trace_runner.proofs.Steps.{event_later, stall_max, spaced_later}
 use Rattle.trace_runner.proofs.Quiet.{quiet_later}
 use Rattle.trace_runner.proofs.state.Runner.apply.Goals as goal
-
-pub invariant_of-self-in-Comp-clause-waits : goal.invariant_of-self-in-Comp-clause-waits
-invariant_of-self-in-Comp-clause-waits c = λ below.
-    let r : Runner = c.args.self.now in
-    let reached : r.limit.0 ≤ r.next.0 = c.requires.reached in
-    let soon : r.limit.0 < r.quiet.0 = omega arith in
-    rw (c.comp.ensures, c.advance.ensures.regs)
-    (quiet_later r.machine.open_kinds r.machine.firmware.orders.save_asked r.regs r.quiet.0 r.limit.0 r.before soon (r.waits below))
 
 pub invariant_of-self-in-Serial-clause-waits : goal.invariant_of-self-in-Serial-clause-waits
 invariant_of-self-in-Serial-clause-waits c = λ below.
@@ -49,7 +41,7 @@ returns-in-Edge-clause-runs c = λ o now trace steps st.
 
 pub returns-in-Comp-clause-runs : goal.returns-in-Comp-clause-runs
 returns-in-Comp-clause-runs c = λ o now trace steps st.
-    let bank = c.comp.ensures ∙ c.advance.ensures.regs in
+    let bank = c.comp.ensures ∙ ap (λ (b : Bank). after_comp b c.in-Comp.level) c.advance.ensures.regs in
     record {
       logged = event_later c.args.self.now c.args.e
           (event.Comp c.in-Comp.t c.in-Comp.level) c.comp.new.self c.args.self.now.next.0 c.requires.at c.requires.reached c.in-Comp.is bank refl o now trace
