@@ -118,13 +118,13 @@ comp_now w b level kind.Main e f = refl
 comp_now w b level k e f = sym (comp_due b level k e f)
 
 -- a quiet core stays quiet at such a change
-pub quiet_comp : (stack : List Kind) (w : Bool) (b : Bank) (level : Bool) (until : ℕ) → IsQuiet stack w b until → is_due (after_comp b level) kind.Cmp ≡ false
-    → IsQuiet stack w (after_comp b level) until
-quiet_comp stack w b level until q f =
+pub quiet_comp : (stack : List Kind) (w : Bool) (b : Bank) (level : Bool) (until to : ℕ) → IsQuiet stack w b until → is_due (after_comp b level) kind.Cmp ≡ false
+    → to ≤ until → IsQuiet stack w (after_comp b level) to
+quiet_comp stack w b level until to q f le =
     let after : Bank = after_comp b level in
     let now : after.time ≡ b.time = comp_time b level in
     let e : is_due b kind.Cmp ≡ false = highest_none (due_now w b) kind.Cmp (none_highest stack (due_now w b) q.idle) in
     record {
       idle = sym (idle_same stack (due_now w b) (due_now w after) (λ k. comp_now w b level k e f)) ∙ q.idle;
-      none = λ k t from under. comp_becomes b level k t f (q.none k t (omega arith) under);
+      none = λ k t from under. comp_becomes b level k t f (q.none k t (omega arith) (omega arith));
     }

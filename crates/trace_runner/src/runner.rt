@@ -47,6 +47,18 @@ fn cap_quiet_until(regs: &Regs) -> Tick
     quiet_until(regs.cap_due_from())
 }
 
+/// The tick before which a change of the comparator makes nothing due, 0 where CMP is due now: a change that doesn't ask for CMP
+/// at once never does.
+fn cmp_quiet_until(regs: &Regs) -> Tick
+    ensures { 0 < result.0 → is_due regs.now kinds.Cmp ≡ false }
+{
+    if regs.is_due(Kind::Cmp) {
+        Tick(0)
+    } else {
+        Tick(u64::MAX)
+    }
+}
+
 impl Runner {
     /// Makes all steps before the event's tick, and then applies the event. Its tick, at most 1073741824, isn't before
     /// that of the last event.
@@ -270,9 +282,7 @@ impl Runner {
             }
             Event::Comp { level, .. } => {
                 self.regs.comp(level);
-                if self.regs.is_due(Kind::Cmp) {
-                    self.quiet = self.limit;
-                }
+                self.quiet = Tick(self.quiet.0.min(cmp_quiet_until(&self.regs).0));
             }
             Event::Serial { byte, .. } => {
                 let _ = self.regs.serial(byte);
