@@ -22,18 +22,18 @@ invariant_of-self-clause-waits c = λ below.
     (quiet_edge r.machine.open_kinds r.machine.firmware.orders.save_asked (advanced r.regs r.limit.0) c.in-Edge.level r.quiet.0 c.cap_quiet_until.result.0
     c.min.result quiet (rw bank at c.cap_quiet_until.ensures) (omega arith) (omega arith) (omega arith))
 
-pub invariant_of-self-2-clause-waits : goal.invariant_of-self-2-clause-waits
-invariant_of-self-2-clause-waits c = λ below.
+pub invariant_of-self-in-Comp-clause-waits : goal.invariant_of-self-in-Comp-clause-waits
+invariant_of-self-in-Comp-clause-waits c = λ below.
     let r : Runner = c.args.self.now in
     let reached : r.limit.0 ≤ r.next.0 = c.requires.reached in
-    let m : c.min.result ≡ min r.quiet.0 c.cmp_quiet_until.result.0 = c.min.ensures in
+    let m : c.min-in-Comp.result ≡ min r.quiet.0 c.cmp_quiet_until.result.0 = c.min-in-Comp.ensures in
     let soon : r.limit.0 < r.quiet.0 = omega arith in
     let before : r.next.0 < r.quiet.0 = omega arith in
     let some : 0 < c.cmp_quiet_until.result.0 = omega arith in
     let bank = c.comp.ensures ∙ ap (λ (b : Bank). after_comp b c.in-Comp.level) c.advance.ensures.regs in
     let quiet = quiet_later r.machine.open_kinds r.machine.firmware.orders.save_asked r.regs r.quiet.0 r.limit.0 r.before soon (r.waits before) in
     rw bank
-    (quiet_comp r.machine.open_kinds r.machine.firmware.orders.save_asked (advanced r.regs r.limit.0) c.in-Comp.level r.quiet.0 c.min.result quiet
+    (quiet_comp r.machine.open_kinds r.machine.firmware.orders.save_asked (advanced r.regs r.limit.0) c.in-Comp.level r.quiet.0 c.min-in-Comp.result quiet
     (rw bank at c.cmp_quiet_until.ensures some) (omega arith))
 
 pub invariant_of-self-in-Serial-clause-waits : goal.invariant_of-self-in-Serial-clause-waits
