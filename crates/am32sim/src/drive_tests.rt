@@ -49,15 +49,18 @@ fn count_lines(lines: &str) -> u32 {
     count
 }
 
-/// Stalls stand over all of the 61 sectors but their ends, so that the journal is short. The last one ends at 26410950: COMM sets
-/// the sector in its fourth step after its entry and the stuck mark in its tenth, PWM chops, and TICK asks control in its second
-/// step.
+/// Stalls stand over all of the 61 sectors but their first 200 ticks, so that the journal is short. In these the comparator
+/// changes to the level that isn't expected, so no sector has a crossing; and control ticks let the demand grow to 998. The last
+/// stall ends at 26410800: COMM sets the sector in its fourth step after its entry and the stuck mark in its twelfth, and returns;
+/// PWM makes seven steps, and TICK asks control in its second one.
 #[test]
 fn sixty_forced_sectors_end_the_drive(rt: HostRuntime) -> Result<(), Fail> {
     let mut trace = throttled(rt.alloc())?;
-    for n in 0u64..61 {
+    for n in 0u64..60 {
         let at = 12005000 + n * 240100;
-        write!(&mut trace, "{at} J 240050\n")?;
+        let changed = at + 240090;
+        let level = (n + 1) % 2;
+        write!(&mut trace, "{at} J 239900\n{changed} C {level}\n")?;
     }
     trace.push_str("26411000 END\n")?;
     let journal = journal_of(rt.alloc(), trace.as_str())?;
@@ -67,7 +70,7 @@ fn sixty_forced_sectors_end_the_drive(rt: HostRuntime) -> Result<(), Fail> {
     assert!(rt;
         control
             .as_str()
-            .ends_with("Q 26410958 1\nK 26410994 11004 1 0\nX 26410994 1\n"),
+            .ends_with("Q 26410808 1\nK 26410848 11004 1 0\nX 26410848 1\n"),
         "{control}"
     );
     Ok(())
@@ -83,7 +86,7 @@ fn a_timeout_turns_all_switches_off(rt: HostRuntime) -> Result<(), Fail> {
     let end = lines_of(rt.alloc(), b"GKXO", journal.as_str())?;
     assert!(rt;
         end.as_str().ends_with(
-            "G 36110106 0 0\nG 36110110 0 1\nO 36110118 6\nO 36110134 5\nK 36110140 15045 0 0\nX 36110140 0\nG 36110144 0 0\nO 36110152 2\n"
+            "G 36110106 0 0\nG 36110110 0 1\nO 36110122 6\nO 36110138 5\nK 36110144 15045 0 0\nX 36110144 0\nG 36110148 0 0\nO 36110156 2\n"
         ),
         "{end}"
     );
