@@ -296,7 +296,19 @@ above_none One k = All-nil (λ j. (kind_number j ≡ 0) × (0 < k))
 
 said_at : (loaded : Loaded) (nest : Nest) (t u : ℕ) (rest : List Note) → t ≤ u → Said loaded nest two_edges t rest → Said loaded nest two_edges u rest
 said_at loaded nest t u rest le s =
-    record { in_time = s.in_time; windowed = s.windowed; dead_safe = s.dead_safe; driven = s.driven; commutated = s.commutated; crossed = s.crossed; searched = s.searched; nested = s.nested; waits = s.waits; past = λ k d l. (let a = s.past k d l in omega arith) }
+    record {
+      in_time = s.in_time;
+      windowed = s.windowed;
+      dead_safe = s.dead_safe;
+      driven = s.driven;
+      commutated = s.commutated;
+      crossed =
+          s.crossed;
+      searched = s.searched;
+      nested = s.nested;
+      waits = s.waits;
+      past = λ k d l. (let a = s.past k d l in omega arith);
+    }
 
 sees_nothing : (allowed : InputKind) (servo : Servo) (t : ℕ)
     → nothing t ≡ verdict_note t (judged (mode_of 0) (burst (line two_edges).edges 0 (mode_of 0)) allowed servo)
@@ -347,26 +359,88 @@ rules_5 loaded nest = (answers loaded, refl)
 
 rules_6 : (loaded : Loaded) (nest : Nest)
     → WindowRule loaded two_edges (opening loaded ++ (enters 2400 2 ∷ ticks 2402 1 0 0 ∷ leaves 2402 2 ∷ enters 4200 3 ∷ nothing 4202 ∷ [])) (leaves 4202 3)
-    × NestRule (advance_of loaded.settings) nest (opening loaded ++ (enters 2400 2 ∷ ticks 2402 1 0 0 ∷ leaves 2402 2 ∷ enters 4200 3 ∷ nothing 4202 ∷ [])) (leaves 4202 3)
+    × NestRule (advance_of loaded.settings) nest (opening loaded
+    ++ (enters 2400 2 ∷ ticks 2402 1 0 0 ∷ leaves 2402 2 ∷ enters 4200 3 ∷ nothing 4202 ∷ [])) (leaves 4202 3)
 unfolding place
 rules_6 loaded nest = (λ e. refl, (refl, inl refl))
 
 one_said : (loaded : Loaded) (nest : Nest) → Said loaded nest two_edges 2400 (enters 2400 2 ∷ [])
 one_said loaded nest =
-    said_push loaded nest two_edges 2400 [] (enters 2400 2) (start_said loaded nest two_edges 2400) refl (record { window = (rules_1 loaded nest).0; safe = tt; driven = tt; turns = tt; crossed = tt; searched = λ e. cc; nesting = (rules_1 loaded nest).1; waits = tt })
+    said_push loaded nest two_edges 2400 [] (enters 2400 2) (start_said loaded nest two_edges 2400) refl (record {
+      window = (rules_1 loaded nest).0;
+      safe =
+          tt;
+      driven = tt;
+      turns = tt;
+      crossed = tt;
+      searched = λ e. cc;
+      nesting = (rules_1 loaded nest).1;
+      waits = tt;
+    })
 
 all_said : (loaded : Loaded) (nest : Nest) → Said loaded nest two_edges 4202 tick_and_verdict
 all_said loaded nest =
     let s2 = said_push loaded nest two_edges 2402 (enters 2400 2 ∷ []) (ticks 2402 1 0 0)
-    (said_at loaded nest 2400 2402 (enters 2400 2 ∷ []) (omega arith) (one_said loaded nest)) refl (record { window = (rules_2 loaded nest).0; safe = tt; driven = tt; turns = tt; crossed = tt; searched = tt; nesting = (rules_2 loaded nest).1; waits = tt }) in
-    let s3 = said_push loaded nest two_edges 2402 (enters 2400 2 ∷ ticks 2402 1 0 0 ∷ []) (leaves 2402 2) s2 refl (record { window = (rules_3 loaded nest).0; safe = tt; driven = λ e d. (refl, refl); turns = tt; crossed = tt; searched = λ e. cc; nesting = (rules_3 loaded nest).1; waits = tt }) in
+    (said_at loaded nest 2400 2402 (enters 2400 2 ∷ []) (omega arith) (one_said loaded nest)) refl (record {
+      window = (rules_2 loaded nest).0;
+      safe =
+          tt;
+      driven = tt;
+      turns = tt;
+      crossed = tt;
+      searched = tt;
+      nesting = (rules_2 loaded nest).1;
+      waits = tt;
+    }) in
+    let s3 = said_push loaded nest two_edges 2402 (enters 2400 2 ∷ ticks 2402 1 0 0 ∷ []) (leaves 2402 2) s2 refl
+    (record {
+      window = (rules_3 loaded nest).0;
+      safe = tt;
+      driven = λ e d. (refl, refl);
+      turns = tt;
+      crossed = tt;
+      searched = λ e. cc;
+      nesting =
+          (rules_3 loaded nest).1;
+      waits = tt;
+    }) in
     let s4 = said_push loaded nest two_edges 4200 (enters 2400 2 ∷ ticks 2402 1 0 0 ∷ leaves 2402 2 ∷ []) (enters 4200 3)
-    (said_at loaded nest 2402 4200 (enters 2400 2 ∷ ticks 2402 1 0 0 ∷ leaves 2402 2 ∷ []) (omega arith) s3) refl (record { window = (rules_4 loaded nest).0; safe = tt; driven = tt; turns = tt; crossed = tt; searched = λ e. cc; nesting = (rules_4 loaded nest).1; waits = tt }) in
+    (said_at loaded nest 2402 4200 (enters 2400 2 ∷ ticks 2402 1 0 0 ∷ leaves 2402 2 ∷ []) (omega arith) s3) refl (record {
+      window =
+          (rules_4 loaded nest).0;
+      safe = tt;
+      driven = tt;
+      turns = tt;
+      crossed = tt;
+      searched = λ e. cc;
+      nesting = (rules_4 loaded nest).1;
+      waits = tt;
+    }) in
     let s5 = said_push loaded nest two_edges 4202 (enters 2400 2 ∷ ticks 2402 1 0 0 ∷ leaves 2402 2 ∷ enters 4200 3 ∷ []) (nothing 4202)
     (said_at loaded nest 4200 4202 (enters 2400 2 ∷ ticks 2402 1 0 0 ∷ leaves 2402 2 ∷ enters 4200 3 ∷ []) (omega arith) s4) refl
-    (record { window = (rules_5 loaded nest).0; safe = tt; driven = tt; turns = tt; crossed = tt; searched = tt; nesting = (rules_5 loaded nest).1; waits = tt }) in
+    (record {
+      window = (rules_5 loaded nest).0;
+      safe = tt;
+      driven = tt;
+      turns = tt;
+      crossed = tt;
+      searched = tt;
+      nesting = (rules_5 loaded nest).1;
+      waits =
+          tt;
+    }) in
     said_push loaded nest two_edges 4202 (enters 2400 2 ∷ ticks 2402 1 0 0 ∷ leaves 2402 2 ∷ enters 4200 3 ∷ nothing 4202 ∷ []) (leaves 4202 3) s5 refl
-    (record { window = (rules_6 loaded nest).0; safe = tt; driven = λ e. cc; turns = tt; crossed = tt; searched = λ e. cc; nesting = (rules_6 loaded nest).1; waits = tt })
+    (record {
+      window = (rules_6 loaded nest).0;
+      safe = tt;
+      driven = λ e. cc;
+      turns = tt;
+      crossed = tt;
+      searched = λ e. cc;
+      nesting =
+          (rules_6 loaded nest).1;
+      waits = tt;
+    })
 
 one_controlled : (loaded : Loaded) → Controlled (opening loaded ++ enters 2400 2 ∷ [])
 one_controlled loaded =

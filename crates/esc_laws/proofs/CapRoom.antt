@@ -105,7 +105,21 @@ open_window : (x : World) (outer : List Kind) (s : Signal) → Ground x → (so_
     → StepKeeps kind.Cap outer x (opens x.core x.bank)
 open_window x outer s g e may none done on = record {
   gates = quiet_gates kind.Cap x _ (λ e. cc) refl refl refl;
-  fits = λ told. (record { at = refl; owned = refl; window = (rw e may, g.control.ties.mode_is); nest = inside (so_far x).stack kind.Cap outer on; driven = tt; turns = tt; crossed = tt; searched = tt; waits = tt }, tt);
+  fits = λ told. (
+    record {
+      at = refl;
+      owned = refl;
+      window = (rw e may, g.control.ties.mode_is);
+      nest = inside (so_far x).stack kind.Cap outer on;
+      driven =
+          tt;
+      turns = tt;
+      crossed = tt;
+      searched = tt;
+      waits = tt;
+    },
+    tt,
+  );
   ground = ground_noted x (note.Window (as_tick x.bank.time) (mode_number x.core.control.mode)) refl refl tt refl g;
   tie = λ told. (
     opens_tied x.trace x.core x.bank (so_far x) g.edges.0 none done,
@@ -180,7 +194,21 @@ good : (o : Option Act) (x : World) (outer : List Kind) (frame : Frame) (w m : �
     })
 good None x outer frame w m g sound k answers on shut named st = record {
   gates = quiet_gates kind.Cap x _ (λ e. cc) refl refl refl;
-  fits = λ told. (record { at = refl; owned = refl; window = answers; nest = inside (so_far x).stack kind.Cap outer on; driven = tt; turns = tt; crossed = tt; searched = tt; waits = tt }, tt);
+  fits = λ told. (
+    record {
+      at = refl;
+      owned = refl;
+      window = answers;
+      nest = inside (so_far x).stack kind.Cap outer on;
+      driven = tt;
+      turns = tt;
+      crossed =
+          tt;
+      searched = tt;
+      waits = tt;
+    },
+    tt,
+  );
   ground = record {
     control = st;
     orders = orders_other x.loaded x.core.orders (note.Good (as_tick x.bank.time) frame.value (bit_of frame.telemetry)) x.back refl g.orders;
@@ -201,7 +229,21 @@ good (Some act) x outer frame w m g sound k answers on shut named st =
     let here = inside (so_far x).stack kind.Cap outer on in
     record {
       gates = quiet_gates kind.Cap x _ (λ e. cc) refl refl refl;
-      fits = λ told. (record { at = refl; owned = refl; window = answers; nest = here; driven = tt; turns = tt; crossed = tt; searched = tt; waits = tt }, (record { at = refl; owned = refl; window = tt; nest = here; driven = tt; turns = tt; crossed = tt; searched = tt; waits = tt }, tt));
+      fits = λ told. (
+        record {
+          at = refl;
+          owned = refl;
+          window = answers;
+          nest = here;
+          driven = tt;
+          turns = tt;
+          crossed = tt;
+          searched = tt;
+          waits =
+              tt;
+        },
+        (record { at = refl; owned = refl; window = tt; nest = here; driven = tt; turns = tt; crossed = tt; searched = tt; waits = tt }, tt),
+      );
       ground = record {
         control = st;
         orders = obeyed_tied x.loaded x.core.orders act (as_tick x.bank.time) (n ∷ x.back) (named act refl)
@@ -235,7 +277,21 @@ judges (Good frame) x outer w m g sound k answers on shut =
     (frame_stands x.core.control x.back (as_tick x.bank.time) frame.value (bit_of frame.telemetry) g.control)
 judges (Bad why) x outer w m g sound k answers on shut = record {
   gates = quiet_gates kind.Cap x _ (λ e. cc) refl refl refl;
-  fits = λ told. (record { at = refl; owned = refl; window = answers; nest = inside (so_far x).stack kind.Cap outer on; driven = tt; turns = tt; crossed = tt; searched = tt; waits = tt }, tt);
+  fits = λ told. (
+    record {
+      at = refl;
+      owned = refl;
+      window = answers;
+      nest = inside (so_far x).stack kind.Cap outer on;
+      driven = tt;
+      turns = tt;
+      crossed =
+          tt;
+      searched = tt;
+      waits = tt;
+    },
+    tt,
+  );
   ground = ground_noted x (note.Bad (as_tick x.bank.time) (why_number why)) refl refl tt refl g;
   tie = λ told. (
     (record { verdict = ap (λ (n : ℕ). n + 1) k.no_verdict; taken = k.taken; running = k.hears.running; no_timer = k.hears.no_timer }, (refl, refl)),
@@ -247,7 +303,21 @@ judges (Bad why) x outer w m g sound k answers on shut = record {
 }
 judges (Found mode) x outer w m g sound k answers on shut = record {
   gates = quiet_gates kind.Cap x _ (λ e. cc) refl refl refl;
-  fits = λ told. (record { at = refl; owned = refl; window = answers; nest = inside (so_far x).stack kind.Cap outer on; driven = tt; turns = tt; crossed = tt; searched = tt; waits = tt }, tt);
+  fits = λ told. (
+    record {
+      at = refl;
+      owned = refl;
+      window = answers;
+      nest = inside (so_far x).stack kind.Cap outer on;
+      driven = tt;
+      turns = tt;
+      crossed =
+          tt;
+      searched = tt;
+      waits = tt;
+    },
+    tt,
+  );
   ground = record {
     control = found_stands x.core.control x.back (as_tick x.bank.time) mode g.control;
     orders = orders_other x.loaded x.core.orders (note.Detected (as_tick x.bank.time) (mode_number mode)) x.back refl g.orders;
@@ -278,7 +348,21 @@ judges (Found mode) x outer w m g sound k answers on shut = record {
 }
 judges Nothing x outer w m g sound k answers on shut = record {
   gates = quiet_gates kind.Cap x _ (λ e. cc) refl refl refl;
-  fits = λ told. (record { at = refl; owned = refl; window = answers; nest = inside (so_far x).stack kind.Cap outer on; driven = tt; turns = tt; crossed = tt; searched = tt; waits = tt }, tt);
+  fits = λ told. (
+    record {
+      at = refl;
+      owned = refl;
+      window = answers;
+      nest = inside (so_far x).stack kind.Cap outer on;
+      driven = tt;
+      turns = tt;
+      crossed =
+          tt;
+      searched = tt;
+      waits = tt;
+    },
+    tt,
+  );
   ground = ground_noted x (note.Nothing (as_tick x.bank.time)) refl refl tt refl g;
   tie = λ told. (
     (record { verdict = ap (λ (n : ℕ). n + 1) k.no_verdict; taken = k.taken; running = k.hears.running; no_timer = k.hears.no_timer }, (refl, refl)),

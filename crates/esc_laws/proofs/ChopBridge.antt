@@ -374,7 +374,8 @@ comm_waits_after : (before : List Turned) (e : Turned) → (view (before ++ e �
 comm_waits_after before e = subst (λ (w : View). w.comm_waits ≡ waits_next (comm_called (view before) e.tick) (comm_called w e.tick) true
     (view before).comm_waits) (sym (view-push before e)) refl
 
-link_next : (loaded : Loaded) (cost : ℕ) (trace : List Event) (before : List Turned) (e : Turned) → SeesDrive loaded trace → StepIn loaded cost trace before e.kind e.enters e.tick e.notes → Linked loaded trace (before ++ e ∷ [])
+link_next : (loaded : Loaded) (cost : ℕ) (trace : List Event) (before : List Turned) (e : Turned) → SeesDrive loaded trace
+    → StepIn loaded cost trace before e.kind e.enters e.tick e.notes → Linked loaded trace (before ++ e ∷ [])
 link_next loaded cost trace before e d i =
     let o = open_next loaded cost trace before e.kind e.enters e.tick e.notes i in
     let a = asks_next loaded cost trace before e i.fits i.link.asks in
@@ -407,7 +408,8 @@ not_true : (v : Bool) → (v ≡ true → ⊥) → v ≡ false
 not_true true f = absurd (f refl)
 not_true false f = refl
 
-rests_idle : (loaded : Loaded) (trace : List Event) (log : List Turned) (t : ℕ) → Linked loaded trace log → CallsSeen loaded trace log → open_in loaded log ≡ [] → ((k : Kind) → sees loaded trace (journal loaded log) t k ≡ false) → Rests (view log) t
+rests_idle : (loaded : Loaded) (trace : List Event) (log : List Turned) (t : ℕ) → Linked loaded trace log → CallsSeen loaded trace log
+    → open_in loaded log ≡ [] → ((k : Kind) → sees loaded trace (journal loaded log) t k ≡ false) → Rests (view log) t
 rests_idle loaded trace log t l c e none = record {
   comm = l.comm ∙ ap (λ (x : List Kind). is_open x kind.Comm) e;
   pwm = l.pwm ∙ ap (λ (x : List Kind). is_open x kind.Pwm) e;
@@ -438,7 +440,8 @@ end_passes loaded cost trace log until l c f t lo hi free = elim (idle_or_not (o
 
 -- ---- over the log
 
-fits_from : (loaded : Loaded) (cost : ℕ) (trace : List Event) (d : SeesDrive loaded trace) (before rest : List Turned) → Linked loaded trace before → EachStep (StepFits loaded Full cost trace) before rest → EachStep (BridgeFits loaded trace) before rest
+fits_from : (loaded : Loaded) (cost : ℕ) (trace : List Event) (d : SeesDrive loaded trace) (before rest : List Turned) → Linked loaded trace before
+    → EachStep (StepFits loaded Full cost trace) before rest → EachStep (BridgeFits loaded trace) before rest
     → EachStep (LawFits cost trace) before rest × Linked loaded trace (before ++ rest)
 fits_from loaded cost trace d before [] l f g = (tt, subst (λ (x : List Turned). Linked loaded trace x) (sym (append-nil before)) l)
 fits_from loaded cost trace d before (e ∷ rest) l f g =
@@ -473,7 +476,9 @@ notes_fit loaded cost trace before [] f = tt
 notes_fit loaded cost trace before (e ∷ rest) f = (record { at_tick = f.0.at_tick; entry = f.0.entry }, notes_fit loaded cost trace (before ++ e ∷ []) rest f.1)
 
 -- From the rules of steps, and the laws of the drive, `Chopped`.
-pub chopped_of : (loaded : Loaded) (cost : ℕ) (trace : List Event) (log : List Turned) (until : ℕ) → 1 ≤ cost → cost ≤ 16 → EachStep (StepFits loaded Full cost trace) [] log → Awaits loaded cost trace until log → SeesDrive loaded trace → EachStep (BridgeFits loaded trace) [] log
+pub chopped_of : (loaded : Loaded) (cost : ℕ) (trace : List Event) (log : List Turned) (until : ℕ) → 1 ≤ cost → cost ≤ 16
+    → EachStep (StepFits loaded Full cost trace) [] log → Awaits loaded cost trace until log → SeesDrive loaded trace
+    → EachStep (BridgeFits loaded trace) [] log
     → EachStep DriveFits [] log → EachStep PairFits [] log → All InRange (journal loaded log) → Chopped cost trace until (journal loaded log)
 chopped_of loaded cost trace log until one few fits awaits d bridge drives pairs range =
     let r = fits_from loaded cost trace d [] log (start_linked loaded trace) fits bridge in

@@ -102,7 +102,8 @@ same_low v back t s q =
     (subst (λ (x : ℕ). (nat_lt 0 v.demand && (not (is_on v.lo (low_of v.sector)) && nat_le x t)) ≡ true) (s.hi_free (low_of v.sector)) p)))
 
 -- Where `sees` has the rows of Calls.antt, it sees what the fold calls.
-pub seen_of : (loaded : Loaded) (trace : List Event) (log : List Turned) → SeesDrive loaded trace → Asks (view log) (reverse (journal loaded log)) → CallsSeen loaded trace log
+pub seen_of : (loaded : Loaded) (trace : List Event) (log : List Turned) → SeesDrive loaded trace → Asks (view log) (reverse (journal loaded log))
+    → CallsSeen loaded trace log
 seen_of loaded trace log d a = record {
   pwm = λ t q. d.pwm (journal loaded log) t (same_pwm (view log) (reverse (journal loaded log)) t (says_all loaded log) a q);
   comm = λ t q. d.low (journal loaded log) t (same_low (view log) (reverse (journal loaded log)) t (says_all loaded log) q);

@@ -77,14 +77,14 @@ chopped_on : (cost : ℕ) (trace : List Event) (until : ℕ) (notes front : List
 chopped_on cost trace until notes front below at c p d y = record {
   high_on = λ t lt late by.
       rw (front_tick t until notes front lt at, sector_is t lt late)
-          ((c p d (undisturbed_before cost trace until p d t notes front lt late below at y)).high_on t lt late by);
+      ((c p d (undisturbed_before cost trace until p d t notes front lt late below at y)).high_on t lt late by);
   high_off = λ t lt late by.
       let since : p + 48 * cost ≤ t = omega arith in
       rw (front_tick t until notes front lt at, sector_is t lt since)
       ((c p d (undisturbed_before cost trace until p d t notes front lt since below at y)).high_off t lt late by);
   low_on = λ t lt late by.
       rw (front_tick t until notes front lt at, sector_is t lt late)
-          ((c p d (undisturbed_before cost trace until p d t notes front lt late below at y)).low_on t lt late by);
+      ((c p d (undisturbed_before cost trace until p d t notes front lt late below at y)).low_on t lt late by);
   other_low_off = λ t lt late by.
       rw (front_tick t until notes front lt at, sector_is t lt late)
       ((c p d (undisturbed_before cost trace until p d t notes front lt late below at y)).other_low_off t lt late by);

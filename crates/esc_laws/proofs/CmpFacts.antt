@@ -83,7 +83,8 @@ cmp_moves v at search changed enabled timer was free t m = record {
 
 -- ---- what goes on as it is
 
-pub phase_more : (p : Phase) (turn : Turn) (changed : Bool) (since blanked time past past' : ℕ) → past ≤ past' → PhaseTied p turn changed since blanked time past
+pub phase_more : (p : Phase) (turn : Turn) (changed : Bool) (since blanked time past past' : ℕ) → past ≤ past'
+    → PhaseTied p turn changed since blanked time past
     → PhaseTied p turn changed since blanked time past'
 phase_more phase.Off turn changed since blanked time past past' l t = t
 phase_more (phase.Blank end) turn changed since blanked time past past' l t = t
@@ -208,7 +209,8 @@ looked_done v free s = record {
   phase_is = s.phase_is;
   regs = (s.regs.0, s.regs.1);
   few = s.few;
-  seen = seen_moves v.sight cmp.Look cmp.Lower phase.Done phase.Done v.held v.expects v.blanked v.time v.past (v.time + 1) (let l = free.past in omega arith) refl
+  seen = seen_moves v.sight cmp.Look cmp.Lower phase.Done phase.Done v.held v.expects v.blanked v.time v.past (v.time + 1)
+      (let l = free.past in omega arith) refl
       (λ i l f. absurd f) (λ i z l f e. absurd (f e)) s.seen;
   late = tt;
 }
@@ -435,8 +437,12 @@ returned v free t s = record {
     returns Away x = tt
     returns Begun x = absurd (let z = x.0 in cc)
     returns (Awaits u) x = absurd (let z = x.0 in cc)
-    returns (First i) x =
-        ((let a = x.0 in let p = free.past in omega arith), refl, λ e. passes_more v.search.phase i (v.past + 24) (v.time + 24) (let p = free.past in omega arith) (x.1 e))
+    returns (First i) x = (
+      (let a = x.0 in let p = free.past in omega arith),
+      refl,
+      λ e. passes_more v.search.phase i (v.past + 24) (v.time + 24)
+          (let p = free.past in omega arith) (x.1 e),
+    )
     returns (Settles i u) x = absurd (let z = x.1 in cc)
     returns (Second i z) x = tt
 

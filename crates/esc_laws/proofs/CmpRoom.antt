@@ -136,7 +136,8 @@ raises w outer i = record {
   gates = quiet_gates kind.Cmp w _ (λ e. cc) refl refl refl;
   fits = λ told. tt;
   ground = i.ground;
-  tie = λ told. cmp_moves (cross_seen w) cmp.Look w.core.drive.crossing w.bank.comp_changed w.bank.comp_enabled w.bank.crossing (not_shut w outer cmp.Raise refl i)
+  tie = λ told. cmp_moves (cross_seen w) cmp.Look w.core.drive.crossing w.bank.comp_changed w.bank.comp_enabled w.bank.crossing
+      (not_shut w outer cmp.Raise refl i)
       (free_of w outer cmp.Raise i) (i.ties kind.Cmp)
       (goes (cross_seen w) cmp.Look w.core.drive.crossing.phase w.core.drive.crossing w.bank.comp_changed w.bank.comp_enabled w.bank.crossing refl refl
       (raised (cross_seen w) w.core.drive.crossing.phase (free_of w outer cmp.Raise i) (stands_at w outer cmp.Raise w.core.drive.crossing.phase i refl)));
@@ -155,7 +156,8 @@ passes_off w outer e i = record {
   gates = quiet_gates kind.Cmp w _ (λ e. cc) refl refl refl;
   fits = λ told. tt;
   ground = i.ground;
-  tie = λ told. cmp_moves (cross_seen w) cmp.Lower (w.core.drive.crossing) (w.bank.comp_changed) (w.bank.comp_enabled) (w.bank.crossing) (not_shut w outer cmp.Look refl i)
+  tie = λ told. cmp_moves (cross_seen w) cmp.Lower (w.core.drive.crossing) (w.bank.comp_changed) (w.bank.comp_enabled) (w.bank.crossing)
+      (not_shut w outer cmp.Look refl i)
       (free_of w outer cmp.Look i) (i.ties kind.Cmp)
       (goes (cross_seen w) cmp.Lower (phase.Off) (w.core.drive.crossing) (w.bank.comp_changed) (w.bank.comp_enabled) (w.bank.crossing) e refl
       (looked_off (cross_seen w) (free_of w outer cmp.Look i) (stands_at w outer cmp.Look phase.Off i e)));
@@ -172,7 +174,8 @@ passes_done w outer e i = record {
   gates = quiet_gates kind.Cmp w _ (λ e. cc) refl refl refl;
   fits = λ told. tt;
   ground = i.ground;
-  tie = λ told. cmp_moves (cross_seen w) cmp.Lower (w.core.drive.crossing) (w.bank.comp_changed) (w.bank.comp_enabled) (w.bank.crossing) (not_shut w outer cmp.Look refl i)
+  tie = λ told. cmp_moves (cross_seen w) cmp.Lower (w.core.drive.crossing) (w.bank.comp_changed) (w.bank.comp_enabled) (w.bank.crossing)
+      (not_shut w outer cmp.Look refl i)
       (free_of w outer cmp.Look i) (i.ties kind.Cmp)
       (goes (cross_seen w) cmp.Lower (phase.Done) (w.core.drive.crossing) (w.bank.comp_changed) (w.bank.comp_enabled) (w.bank.crossing) e refl
       (looked_done (cross_seen w) (free_of w outer cmp.Look i) (stands_at w outer cmp.Look phase.Done i e)));
@@ -184,12 +187,14 @@ passes_done w outer e i = record {
   stack_is = i.on;
 }
 
-begins_early : (end : Tick) (w : World) (outer : List Kind) → w.core.drive.crossing.phase ≡ phase.Blank end → nat_le end.0 w.bank.time ≡ false → IsCmp w outer cmp.Look → StepKeeps kind.Cmp outer w (passes w.core)
+begins_early : (end : Tick) (w : World) (outer : List Kind) → w.core.drive.crossing.phase ≡ phase.Blank end → nat_le end.0 w.bank.time ≡ false
+    → IsCmp w outer cmp.Look → StepKeeps kind.Cmp outer w (passes w.core)
 begins_early end w outer e early i = record {
   gates = quiet_gates kind.Cmp w _ (λ e. cc) refl refl refl;
   fits = λ told. tt;
   ground = i.ground;
-  tie = λ told. cmp_moves (cross_seen w) cmp.Lower (w.core.drive.crossing) (w.bank.comp_changed) (w.bank.comp_enabled) (w.bank.crossing) (not_shut w outer cmp.Look refl i)
+  tie = λ told. cmp_moves (cross_seen w) cmp.Lower (w.core.drive.crossing) (w.bank.comp_changed) (w.bank.comp_enabled) (w.bank.crossing)
+      (not_shut w outer cmp.Look refl i)
       (free_of w outer cmp.Look i) (i.ties kind.Cmp)
       (goes (cross_seen w) cmp.Lower (phase.Blank end) (w.core.drive.crossing) (w.bank.comp_changed) (w.bank.comp_enabled) (w.bank.crossing) e refl
       (looked_early (cross_seen w) end.0 early (free_of w outer cmp.Look i) (stands_at w outer cmp.Look (phase.Blank end) i e)));
@@ -207,7 +212,8 @@ is_ready end w outer e over well i = record {
   gates = quiet_gates kind.Cmp w _ (λ e. cc) refl refl refl;
   fits = λ told. tt;
   ground = i.ground;
-  tie = λ told. cmp_moves (cross_seen w) cmp.Ack (w.core.drive.crossing) (w.bank.comp_changed) (w.bank.comp_enabled) (w.bank.crossing) (not_shut w outer cmp.Look refl i)
+  tie = λ told. cmp_moves (cross_seen w) cmp.Ack (w.core.drive.crossing) (w.bank.comp_changed) (w.bank.comp_enabled) (w.bank.crossing)
+      (not_shut w outer cmp.Look refl i)
       (free_of w outer cmp.Look i) (i.ties kind.Cmp)
       (goes (cross_seen w) cmp.Ack (phase.Blank end) (w.core.drive.crossing) (w.bank.comp_changed) (w.bank.comp_enabled) (w.bank.crossing) e refl
       (looked_ready (cross_seen w) end.0 over well (free_of w outer cmp.Look i) (stands_at w outer cmp.Look (phase.Blank end) i e)));
@@ -225,9 +231,11 @@ isnt_ready end w outer e over ill i = record {
   gates = quiet_gates kind.Cmp w _ (λ e. cc) refl refl refl;
   fits = λ told. tt;
   ground = i.ground;
-  tie = λ told. cmp_moves (cross_seen w) cmp.Enable (record w.core.drive.crossing { phase = phase.Watch }) (w.bank.comp_changed) (w.bank.comp_enabled) (w.bank.crossing) (not_shut w outer cmp.Look refl i)
+  tie = λ told. cmp_moves (cross_seen w) cmp.Enable (record w.core.drive.crossing { phase = phase.Watch }) (w.bank.comp_changed) (w.bank.comp_enabled)
+      (w.bank.crossing) (not_shut w outer cmp.Look refl i)
       (free_of w outer cmp.Look i) (i.ties kind.Cmp)
-      (goes (cross_seen w) cmp.Enable (phase.Watch) (record w.core.drive.crossing { phase = phase.Watch }) (w.bank.comp_changed) (w.bank.comp_enabled) (w.bank.crossing) refl refl
+      (goes (cross_seen w) cmp.Enable (phase.Watch) (record w.core.drive.crossing { phase = phase.Watch }) (w.bank.comp_changed) (w.bank.comp_enabled)
+      (w.bank.crossing) refl refl
       (looked_unready (cross_seen w) end.0 over ill (free_of w outer cmp.Look i) (i.ties kind.Cmp) (stands_at w outer cmp.Look (phase.Blank end) i e)));
   others = elim [
     | kind.Cmp ↦ λ ne u. absurd (ne refl)
@@ -237,12 +245,14 @@ isnt_ready end w outer e over ill i = record {
   stack_is = i.on;
 }
 
-watches : (w : World) (outer : List Kind) → w.core.drive.crossing.phase ≡ phase.Watch → IsCmp w outer cmp.Look → StepKeeps kind.Cmp outer w (goes_on (record w.core { cmp_at = cmp.Ack }) NoAccess)
+watches : (w : World) (outer : List Kind) → w.core.drive.crossing.phase ≡ phase.Watch → IsCmp w outer cmp.Look
+    → StepKeeps kind.Cmp outer w (goes_on (record w.core { cmp_at = cmp.Ack }) NoAccess)
 watches w outer e i = record {
   gates = quiet_gates kind.Cmp w _ (λ e. cc) refl refl refl;
   fits = λ told. tt;
   ground = i.ground;
-  tie = λ told. cmp_moves (cross_seen w) cmp.Ack (w.core.drive.crossing) (w.bank.comp_changed) (w.bank.comp_enabled) (w.bank.crossing) (not_shut w outer cmp.Look refl i)
+  tie = λ told. cmp_moves (cross_seen w) cmp.Ack (w.core.drive.crossing) (w.bank.comp_changed) (w.bank.comp_enabled) (w.bank.crossing)
+      (not_shut w outer cmp.Look refl i)
       (free_of w outer cmp.Look i) (i.ties kind.Cmp)
       (goes (cross_seen w) cmp.Ack (phase.Watch) (w.core.drive.crossing) (w.bank.comp_changed) (w.bank.comp_enabled) (w.bank.crossing) e refl
       (looked_watch (cross_seen w) (free_of w outer cmp.Look i) (stands_at w outer cmp.Look phase.Watch i e)));
@@ -255,14 +265,19 @@ watches w outer e i = record {
 }
 
 rejects : (end : Tick) (w : World) (outer : List Kind) → w.core.drive.crossing.phase ≡ phase.Filter end → nat_le end.0 w.bank.time ≡ true
-    → is_clean w.core.drive.crossing w.bank.comp w.bank.comp_changed ≡ false → IsCmp w outer cmp.Look → StepKeeps kind.Cmp outer w (judged_step false w.core w.bank)
+    → is_clean w.core.drive.crossing w.bank.comp w.bank.comp_changed ≡ false → IsCmp w outer cmp.Look
+    → StepKeeps kind.Cmp outer w (judged_step false w.core w.bank)
 rejects end w outer e over ill i = record {
   gates = quiet_gates kind.Cmp w _ (λ e. cc) refl refl refl;
   fits = λ told. tt;
   ground = i.ground;
-  tie = λ told. cmp_moves (cross_seen w) cmp.Arm (record w.core.drive.crossing { phase = phase.Blank (as_tick (w.bank.time + 400)) }) (w.bank.comp_changed) (w.bank.comp_enabled) (w.bank.crossing) (not_shut w outer cmp.Look refl i)
+  tie = λ told. cmp_moves (cross_seen w) cmp.Arm (record w.core.drive.crossing { phase = phase.Blank (as_tick (w.bank.time + 400)) }) (w.bank.comp_changed)
+      (w.bank.comp_enabled) (w.bank.crossing) (not_shut w outer cmp.Look refl i)
       (free_of w outer cmp.Look i) (i.ties kind.Cmp)
-      (goes (cross_seen w) cmp.Arm (phase.Blank (as_tick (w.bank.time + 400))) (record w.core.drive.crossing { phase = phase.Blank (as_tick (w.bank.time + 400)) }) (w.bank.comp_changed) (w.bank.comp_enabled) (w.bank.crossing) refl refl
+      (goes (cross_seen w) cmp.Arm (phase.Blank (as_tick (w.bank.time + 400))) (record w.core.drive.crossing {
+        phase =
+            phase.Blank (as_tick (w.bank.time + 400));
+      }) (w.bank.comp_changed) (w.bank.comp_enabled) (w.bank.crossing) refl refl
       (looked_reject (cross_seen w) end.0 over ill (free_of w outer cmp.Look i) (i.ties kind.Cmp) (stands_at w outer cmp.Look (phase.Filter end) i e)));
   others = elim [
     | kind.Cmp ↦ λ ne u. absurd (ne refl)
@@ -382,7 +397,7 @@ accepts end w outer e over well i =
     let told : paced w.core.drive.timing.pace (as_tick w.bank.time) ≡ paced (pace_at w.back) (as_tick w.bank.time) =
     ap (λ (p : Pace). paced p (as_tick w.bank.time)) u.pace_is in
     let wait : wait_of w.core.drive.timing.advance (paced w.core.drive.timing.pace (as_tick w.bank.time)).interval
-        ≡ wait_of (advance_of w.loaded.settings) (paced (pace_at w.back) (as_tick w.bank.time)).interval =
+    ≡ wait_of (advance_of w.loaded.settings) (paced (pace_at w.back) (as_tick w.bank.time)).interval =
     ap (λ (a : ℕ). wait_of a (paced w.core.drive.timing.pace (as_tick w.bank.time)).interval) u.advance_is
     ∙ ap (λ (p : Pace). wait_of (advance_of w.loaded.settings) p.interval) told in
     let kept : TimerKept (drive_seen w) =
@@ -456,9 +471,11 @@ acks w outer i = record {
   gates = quiet_gates kind.Cmp w _ (λ e. cc) refl refl refl;
   fits = λ told. tt;
   ground = i.ground;
-  tie = λ told. cmp_moves (cross_seen w) cmp.Arm (after_changed w.core.drive.crossing w.bank.time) (false) (w.bank.comp_enabled) (w.bank.crossing) (not_shut w outer cmp.Ack refl i)
+  tie = λ told. cmp_moves (cross_seen w) cmp.Arm (after_changed w.core.drive.crossing w.bank.time) (false) (w.bank.comp_enabled) (w.bank.crossing)
+      (not_shut w outer cmp.Ack refl i)
       (free_of w outer cmp.Ack i) (i.ties kind.Cmp)
-      (goes (cross_seen w) cmp.Arm (phase.Filter (as_tick (w.bank.time + 24))) (after_changed w.core.drive.crossing w.bank.time) (false) (w.bank.comp_enabled) (w.bank.crossing) refl refl
+      (goes (cross_seen w) cmp.Arm (phase.Filter (as_tick (w.bank.time + 24))) (after_changed w.core.drive.crossing w.bank.time) (false) (w.bank.comp_enabled)
+      (w.bank.crossing) refl refl
       (acked (cross_seen w) w.core.drive.crossing.phase (free_of w outer cmp.Ack i) (stands_at w outer cmp.Ack w.core.drive.crossing.phase i refl)));
   others = elim [
     | kind.Cmp ↦ λ ne u. absurd (ne refl)
@@ -484,7 +501,8 @@ by_may false w outer e i = absurd (
 
 -- ---- the registers are written
 
-arms_blank : (end : Tick) (w : World) (outer : List Kind) → w.core.drive.crossing.phase ≡ phase.Blank end → IsCmp w outer cmp.Arm → StepKeeps kind.Cmp outer w (goes_on (record w.core { cmp_at = cmp.Lower }) (Writes reg.CmpAt end.0))
+arms_blank : (end : Tick) (w : World) (outer : List Kind) → w.core.drive.crossing.phase ≡ phase.Blank end → IsCmp w outer cmp.Arm
+    → StepKeeps kind.Cmp outer w (goes_on (record w.core { cmp_at = cmp.Lower }) (Writes reg.CmpAt end.0))
 arms_blank end w outer e i = record {
   gates = quiet_gates kind.Cmp w _ (λ e. cc) refl refl refl;
   fits = λ told. tt;
@@ -501,7 +519,8 @@ arms_blank end w outer e i = record {
   stack_is = i.on;
 }
 
-arms_filter : (end : Tick) (w : World) (outer : List Kind) → w.core.drive.crossing.phase ≡ phase.Filter end → IsCmp w outer cmp.Arm → StepKeeps kind.Cmp outer w (goes_on (record w.core { cmp_at = cmp.Lower }) (Writes reg.CmpAt end.0))
+arms_filter : (end : Tick) (w : World) (outer : List Kind) → w.core.drive.crossing.phase ≡ phase.Filter end → IsCmp w outer cmp.Arm
+    → StepKeeps kind.Cmp outer w (goes_on (record w.core { cmp_at = cmp.Lower }) (Writes reg.CmpAt end.0))
 arms_filter end w outer e i = record {
   gates = quiet_gates kind.Cmp w _ (λ e. cc) refl refl refl;
   fits = λ told. tt;
@@ -526,12 +545,14 @@ arms_by phase.Off w outer e i = absurd (stands_at w outer cmp.Arm phase.Off i e)
 arms_by phase.Watch w outer e i = absurd (stands_at w outer cmp.Arm phase.Watch i e).regs
 arms_by phase.Done w outer e i = absurd (stands_at w outer cmp.Arm phase.Done i e).regs
 
-enables_at : (w : World) (outer : List Kind) → w.core.drive.crossing.phase ≡ phase.Watch → IsCmp w outer cmp.Enable → StepKeeps kind.Cmp outer w (cmp_step cmp.Enable w.core w.bank)
+enables_at : (w : World) (outer : List Kind) → w.core.drive.crossing.phase ≡ phase.Watch → IsCmp w outer cmp.Enable
+    → StepKeeps kind.Cmp outer w (cmp_step cmp.Enable w.core w.bank)
 enables_at w outer e i = record {
   gates = quiet_gates kind.Cmp w _ (λ e. cc) refl refl refl;
   fits = λ told. tt;
   ground = i.ground;
-  tie = λ told. cmp_moves (cross_seen w) cmp.Lower (w.core.drive.crossing) (w.bank.comp_changed && false) (w.bank.comp_enabled || true) (w.bank.crossing) (not_shut w outer cmp.Enable refl i)
+  tie = λ told. cmp_moves (cross_seen w) cmp.Lower (w.core.drive.crossing) (w.bank.comp_changed && false) (w.bank.comp_enabled || true) (w.bank.crossing)
+      (not_shut w outer cmp.Enable refl i)
       (free_of w outer cmp.Enable i) (i.ties kind.Cmp)
       (goes (cross_seen w) cmp.Lower (phase.Watch) (w.core.drive.crossing) (w.bank.comp_changed && false) (w.bank.comp_enabled || true) (w.bank.crossing) e refl
       (enabled (cross_seen w) (free_of w outer cmp.Enable i) (stands_at w outer cmp.Enable phase.Watch i e)));
@@ -622,9 +643,11 @@ lowers w outer i = record {
   gates = quiet_gates kind.Cmp w _ (λ e. cc) refl refl refl;
   fits = λ told. tt;
   ground = i.ground;
-  tie = λ told. cmp_moves (cross_seen w) cmp.Back (w.core.drive.crossing) (w.bank.comp_changed) (w.bank.comp_enabled) (w.bank.crossing) (not_shut w outer cmp.Lower refl i)
+  tie = λ told. cmp_moves (cross_seen w) cmp.Back (w.core.drive.crossing) (w.bank.comp_changed) (w.bank.comp_enabled) (w.bank.crossing)
+      (not_shut w outer cmp.Lower refl i)
       (free_of w outer cmp.Lower i) (i.ties kind.Cmp)
-      (goes (cross_seen w) cmp.Back (w.core.drive.crossing.phase) (w.core.drive.crossing) (w.bank.comp_changed) (w.bank.comp_enabled) (w.bank.crossing) refl refl
+      (goes (cross_seen w) cmp.Back (w.core.drive.crossing.phase) (w.core.drive.crossing) (w.bank.comp_changed) (w.bank.comp_enabled) (w.bank.crossing) refl
+      refl
       (lowered (cross_seen w) w.core.drive.crossing.phase (free_of w outer cmp.Lower i) (stands_at w outer cmp.Lower w.core.drive.crossing.phase i refl)));
   others = elim [
     | kind.Cmp ↦ λ ne u. absurd (ne refl)
@@ -656,7 +679,8 @@ returns w outer i = record {
       driven = λ e. cc;
       turns = tt;
       crossed = tt;
-      searched = λ four. has_crossed w.trace (cross_seen w).expects w.bank.time (sight_at w.back) w.core.drive.crossing.phase (blanked_at w.back) w.made.cmp_past
+      searched = λ four. has_crossed w.trace (cross_seen w).expects w.bank.time (sight_at w.back) w.core.drive.crossing.phase
+          (blanked_at w.back) w.made.cmp_past
           i.past.cmp i.ground.in_time (stands_at w outer cmp.Back w.core.drive.crossing.phase i refl).seen;
       waits = tt;
     },
@@ -752,7 +776,8 @@ not_late v k none free = by_test v.drive.postponed refl k
         let due : due_at v.drive ≡ min v.drive.change (low_free v.drive) = rw e refl in
         let f : is_reached v.timer v.time ≡ true = rw (at, due) (min_le v.drive.change (low_free v.drive) v.time free) in
         let z : true ≡ false = sym f ∙ none in cc)
-    by_test true e (inr (n, at, l, c)) = absurd (let f : is_reached v.timer v.time ≡ true = rw at (le-leb n v.time l) in let z : true ≡ false = sym f ∙ none in cc)
+    by_test true e (inr (n, at, l, c)) = absurd (let f : is_reached v.timer v.time ≡ true = rw at (le-leb n v.time l) in let z : true ≡ false = sym f
+        ∙ none in cc)
 
 late_entered : (p : Phase) (w : World) → w.core.drive.crossing.phase ≡ p → Ties w → Unheld w → w.core.comm_at ≡ comm.Shut → w.core.cmp_at ≡ cmp.Shut
     → is_reached w.bank.comm w.bank.time ≡ false → (is_reached w.bank.crossing w.bank.time || (w.bank.comp_enabled && w.bank.comp_changed)) ≡ true

@@ -97,27 +97,28 @@ begins_turn w outer due i =
       gates = quiet_gates kind.Comm w _ (λ e. cc) refl refl refl;
       fits = λ told. tt;
       ground = i.ground;
-      tie = λ told. comm_moves (drive_seen w) 5 d comm.Turn w.bank.comm w.bank.stuck (postponed_at w.back) w.bank.hi w.bank.lo (no_commute w i.alone) t (record {
-        words = same_words (drive_seen w) d refl t;
-        change_is = refl;
-        turned_is = refl;
-        forced_is = refl;
-        before = before_step w outer comm.Decide w.core.drive.turn.at i;
-        since_is = omega arith;
-        to_is = λ e. cc;
-        at_low = λ e. cc;
-        stuck_is = t.stuck;
-        marked = λ l f. same_marked w outer comm.Decide w.core.drive.turn.at i refl l;
-        place_is = record {
-          none = tied.none;
-          to_is = ap (λ (n : ℕ). next_sector n (is_forward w.core.orders)) t.sector_is
-              ∙ ap (λ (f : Bool). next_sector (sector_at w.back) f) (direction_is w i.ground);
-          due = due;
-          prompt = refl;
-        };
-        low = λ e. cc;
-        waits = λ e. cc;
-      });
+      tie = λ told. comm_moves (drive_seen w) 5 d comm.Turn w.bank.comm w.bank.stuck (postponed_at w.back) w.bank.hi w.bank.lo (no_commute w i.alone) t
+          (record {
+            words = same_words (drive_seen w) d refl t;
+            change_is = refl;
+            turned_is = refl;
+            forced_is = refl;
+            before = before_step w outer comm.Decide w.core.drive.turn.at i;
+            since_is = omega arith;
+            to_is = λ e. cc;
+            at_low = λ e. cc;
+            stuck_is = t.stuck;
+            marked = λ l f. same_marked w outer comm.Decide w.core.drive.turn.at i refl l;
+            place_is = record {
+              none = tied.none;
+              to_is = ap (λ (n : ℕ). next_sector n (is_forward w.core.orders)) t.sector_is
+                  ∙ ap (λ (f : Bool). next_sector (sector_at w.back) f) (direction_is w i.ground);
+              due = due;
+              prompt = refl;
+            };
+            low = λ e. cc;
+            waits = λ e. cc;
+          });
       others = elim [
         | kind.Comm ↦ λ ne u. absurd (ne refl)
         | kind.Tick ↦ λ ne u. beside_tick w outer comm.Decide comm.Turn w.core.drive.turn.at d w.bank.hi w.bank.lo w.bank.sector w.bank.comm w.bank.stuck i u
@@ -142,32 +143,35 @@ resumes true w outer e early i =
       gates = quiet_gates kind.Comm w _ (λ e. cc) refl refl refl;
       fits = λ told. tt;
       ground = i.ground;
-      tie = λ told. comm_moves (drive_seen w) 5 w.core.drive comm.Low w.bank.comm w.bank.stuck (postponed_at w.back) w.bank.hi w.bank.lo (no_commute w i.alone) t (record {
-        words = same_words (drive_seen w) w.core.drive refl t;
-        change_is = refl;
-        turned_is = refl;
-        forced_is = refl;
-        before = before_step w outer comm.Decide w.core.drive.turn.at i;
-        since_is = omega arith;
-        to_is = λ f. same_to w outer comm.Decide w.core.drive.turn.at i refl;
-        at_low = t.at_low;
-        stuck_is = t.stuck;
-        marked = λ l f. same_marked w outer comm.Decide w.core.drive.turn.at i refl l;
-        place_is = record {
-          none = tied.none;
-          not_due = off_is (turn_was_due (advance_of w.loaded.settings) w.back) (λ f. (let x = tied.was_due f in absurd (omega arith)));
-          postponed = tied.postponed e;
-          some = some w.bank.sector refl;
-          free = elim tied.due [ inl l ↦ absurd (let x = l in omega arith) | inr p ↦ p.1 ];
-          late = e;
-        };
-        low = λ f. cc;
-        waits = λ f. cc;
-      });
+      tie = λ told. comm_moves (drive_seen w) 5 w.core.drive comm.Low w.bank.comm w.bank.stuck (postponed_at w.back) w.bank.hi w.bank.lo
+          (no_commute w i.alone) t (record {
+            words = same_words (drive_seen w) w.core.drive refl t;
+            change_is = refl;
+            turned_is = refl;
+            forced_is = refl;
+            before = before_step w outer comm.Decide w.core.drive.turn.at i;
+            since_is = omega arith;
+            to_is = λ f. same_to w outer comm.Decide w.core.drive.turn.at i refl;
+            at_low = t.at_low;
+            stuck_is = t.stuck;
+            marked = λ l f. same_marked w outer comm.Decide w.core.drive.turn.at i refl l;
+            place_is = record {
+              none = tied.none;
+              not_due = off_is (turn_was_due (advance_of w.loaded.settings) w.back) (λ f. (let x = tied.was_due f in absurd (omega arith)));
+              postponed = tied.postponed e;
+              some = some w.bank.sector refl;
+              free = elim tied.due [ inl l ↦ absurd (let x = l in omega arith) | inr p ↦ p.1 ];
+              late = e;
+            };
+            low = λ f. cc;
+            waits = λ f. cc;
+          });
       others = elim [
         | kind.Comm ↦ λ ne u. absurd (ne refl)
-        | kind.Tick ↦ λ ne u. beside_tick w outer comm.Decide comm.Low w.core.drive.turn.at w.core.drive w.bank.hi w.bank.lo w.bank.sector w.bank.comm w.bank.stuck i u
-        | kind.Cmp ↦ λ ne u. moved_cross (cross_seen w) comm.Low w.core.drive.turn.at w.core.drive.postponed (same_search w outer comm.Decide w.core.drive.turn.at i) (λ e. cc) u.late u
+        | kind.Tick ↦ λ ne u. beside_tick w outer comm.Decide comm.Low w.core.drive.turn.at w.core.drive w.bank.hi w.bank.lo w.bank.sector w.bank.comm
+            w.bank.stuck i u
+        | kind.Cmp ↦ λ ne u. moved_cross (cross_seen w) comm.Low w.core.drive.turn.at w.core.drive.postponed
+            (same_search w outer comm.Decide w.core.drive.turn.at i) (λ e. cc) u.late u
         | j ↦ λ ne u. u
       ];
       stack_is = i.on;
@@ -225,7 +229,8 @@ clears_high w outer i =
       others = elim [
         | kind.Comm ↦ λ ne u. absurd (ne refl)
         | kind.Tick ↦ λ ne u. beside_tick w outer comm.Turn comm.Turn change.ClearHigh d hi w.bank.lo w.bank.sector w.bank.comm w.bank.stuck i u
-        | kind.Cmp ↦ λ ne u. moved_cross (cross_seen w) comm.Turn change.ClearLow w.core.drive.postponed (same_search w outer comm.Turn change.ClearHigh i) (λ e. cc) u.late u
+        | kind.Cmp ↦ λ ne u. moved_cross (cross_seen w) comm.Turn change.ClearLow w.core.drive.postponed (same_search w outer comm.Turn change.ClearHigh i)
+            (λ e. cc) u.late u
         | j ↦ λ ne u. u
       ];
       stack_is = i.on;
@@ -270,7 +275,8 @@ clears_low w outer i =
       others = elim [
         | kind.Comm ↦ λ ne u. absurd (ne refl)
         | kind.Tick ↦ λ ne u. beside_tick w outer comm.Turn comm.Turn change.ClearLow d w.bank.hi lo w.bank.sector w.bank.comm w.bank.stuck i u
-        | kind.Cmp ↦ λ ne u. moved_cross (cross_seen w) comm.Turn change.SetSector w.core.drive.postponed (same_search w outer comm.Turn change.ClearLow i) (λ e. cc) u.late u
+        | kind.Cmp ↦ λ ne u. moved_cross (cross_seen w) comm.Turn change.SetSector w.core.drive.postponed (same_search w outer comm.Turn change.ClearLow i)
+            (λ e. cc) u.late u
         | j ↦ λ ne u. u
       ];
       stack_is = i.on;
@@ -303,7 +309,8 @@ no_more true b = refl
 no_more false true = refl
 no_more false false = refl
 
-stuck_next : (turn : Turn) (turned told stuck : Bool) (forced f wait change time : ℕ) → ChangeTied wait turn change time → turned ≡ is_forced turn → forced ≡ min 60 f
+stuck_next : (turn : Turn) (turned told stuck : Bool) (forced f wait change time : ℕ) → ChangeTied wait turn change time → turned ≡ is_forced turn
+    → forced ≡ min 60 f
     → told ≡ (stuck || nat_le 60 forced) → (nat_le 60 forced ≡ true → stuck ≡ true)
     → (told || (is_forced turn && nat_le 59 f)) ≡ (stuck || nat_le 60 (if turned then min 60 (forced + 1) else forced))
 stuck_next Idle turned told stuck forced f wait change time c e g s m = absurd c
@@ -551,29 +558,31 @@ low_places (Some until) w outer e i =
       gates = quiet_gates kind.Comm w _ (λ f. cc) refl refl refl;
       fits = λ told. tt;
       ground = i.ground;
-      tie = λ told. comm_moves (drive_seen w) 1 d comm.Blank w.bank.comm w.bank.stuck (postponed_at w.back) w.bank.hi w.bank.lo (no_commute w i.alone) t (record {
-        words = same_words (drive_seen w) d refl t;
-        change_is = refl;
-        turned_is = refl;
-        forced_is = refl;
-        before = before_step w outer comm.Turn change.Low i;
-        since_is = omega arith;
-        to_is = λ f s. to;
-        at_low = λ f. i.change_is;
-        stuck_is = t.stuck;
-        marked = λ l f. cc;
-        place_is = record {
-          some = tied.1;
-          done = inl (tied.0, inr (refl, late.1, (let p = t.past in let l = late.0 in omega arith)));
-        };
-        low = λ f. cc;
-        waits = λ f. cc;
-      });
+      tie = λ told. comm_moves (drive_seen w) 1 d comm.Blank w.bank.comm w.bank.stuck (postponed_at w.back) w.bank.hi w.bank.lo (no_commute w i.alone) t
+          (record {
+            words = same_words (drive_seen w) d refl t;
+            change_is = refl;
+            turned_is = refl;
+            forced_is = refl;
+            before = before_step w outer comm.Turn change.Low i;
+            since_is = omega arith;
+            to_is = λ f s. to;
+            at_low = λ f. i.change_is;
+            stuck_is = t.stuck;
+            marked = λ l f. cc;
+            place_is = record {
+              some = tied.1;
+              done = inl (tied.0, inr (refl, late.1, (let p = t.past in let l = late.0 in omega arith)));
+            };
+            low = λ f. cc;
+            waits = λ f. cc;
+          });
       others = elim [
         | kind.Comm ↦ λ ne u. absurd (ne refl)
         | kind.Tick ↦ λ ne u. beside_tick w outer comm.Turn comm.Blank change.Low d w.bank.hi w.bank.lo w.bank.sector w.bank.comm w.bank.stuck i u
         | kind.Cmp ↦ λ ne u. moved_cross (cross_seen w) comm.Blank w.core.drive.turn.at true (same_search w outer comm.Turn change.Low i) (λ e. cc)
-            (late_blank w.core.cmp_at w.core.drive.crossing.phase true (cross_seen w).blanked (u.begins (sym (same_search w outer comm.Turn change.Low i))).blank) u
+            (late_blank w.core.cmp_at w.core.drive.crossing.phase true (cross_seen w).blanked
+            (u.begins (sym (same_search w outer comm.Turn change.Low i))).blank) u
         | j ↦ λ ne u. u
       ];
       stack_is = i.on;
@@ -649,25 +658,27 @@ reads_position w outer i =
       gates = quiet_gates kind.Comm w _ (λ f. cc) refl refl refl;
       fits = λ told. tt;
       ground = i.ground;
-      tie = λ told. comm_moves (drive_seen w) 2 d comm.Turn w.bank.comm w.bank.stuck (postponed_at w.back) w.bank.hi w.bank.lo (no_commute w i.alone) t (record {
-        words = same_words (drive_seen w) d refl t;
-        change_is = refl;
-        turned_is = refl;
-        forced_is = refl;
-        before = before_step w outer comm.Turn change.Position i;
-        since_is = omega arith;
-        to_is = λ f s. to;
-        at_low = λ f. (let z : true ≡ false = sym f ∙ tied.prompt in cc);
-        stuck_is = t.stuck;
-        marked = λ l f. cc;
-        place_is = record { one = tied.one; some = tied.some; low = tied.low; prompt = tied.prompt };
-        low = λ f. cc;
-        waits = λ f. cc;
-      });
+      tie = λ told. comm_moves (drive_seen w) 2 d comm.Turn w.bank.comm w.bank.stuck (postponed_at w.back) w.bank.hi w.bank.lo (no_commute w i.alone) t
+          (record {
+            words = same_words (drive_seen w) d refl t;
+            change_is = refl;
+            turned_is = refl;
+            forced_is = refl;
+            before = before_step w outer comm.Turn change.Position i;
+            since_is = omega arith;
+            to_is = λ f s. to;
+            at_low = λ f. (let z : true ≡ false = sym f ∙ tied.prompt in cc);
+            stuck_is = t.stuck;
+            marked = λ l f. cc;
+            place_is = record { one = tied.one; some = tied.some; low = tied.low; prompt = tied.prompt };
+            low = λ f. cc;
+            waits = λ f. cc;
+          });
       others = elim [
         | kind.Comm ↦ λ ne u. absurd (ne refl)
         | kind.Tick ↦ λ ne u. beside_tick w outer comm.Turn comm.Turn change.Position d w.bank.hi w.bank.lo w.bank.sector w.bank.comm w.bank.stuck i u
-        | kind.Cmp ↦ λ ne u. moved_cross (cross_seen w) comm.Turn (change.Duty (w.bank.time % 2000)) w.core.drive.postponed (same_search w outer comm.Turn change.Position i) (λ e. cc)
+        | kind.Cmp ↦ λ ne u. moved_cross (cross_seen w) comm.Turn (change.Duty (w.bank.time % 2000)) w.core.drive.postponed
+            (same_search w outer comm.Turn change.Position i) (λ e. cc)
             u.late u
         | j ↦ λ ne u. u
       ];
@@ -685,25 +696,27 @@ duty_places true position w outer i =
       gates = quiet_gates kind.Comm w _ (λ f. cc) refl refl refl;
       fits = λ told. tt;
       ground = i.ground;
-      tie = λ told. comm_moves (drive_seen w) 3 d comm.Turn w.bank.comm w.bank.stuck (postponed_at w.back) w.bank.hi w.bank.lo (no_commute w i.alone) t (record {
-        words = same_words (drive_seen w) d refl t;
-        change_is = refl;
-        turned_is = refl;
-        forced_is = refl;
-        before = before_step w outer comm.Turn (change.Duty position) i;
-        since_is = omega arith;
-        to_is = λ f s. to;
-        at_low = λ f. (let z : true ≡ false = sym f ∙ tied.prompt in cc);
-        stuck_is = t.stuck;
-        marked = λ l f. cc;
-        place_is = record { one = tied.one; some = tied.some; low = tied.low; prompt = tied.prompt };
-        low = λ f. cc;
-        waits = λ f. cc;
-      });
+      tie = λ told. comm_moves (drive_seen w) 3 d comm.Turn w.bank.comm w.bank.stuck (postponed_at w.back) w.bank.hi w.bank.lo (no_commute w i.alone) t
+          (record {
+            words = same_words (drive_seen w) d refl t;
+            change_is = refl;
+            turned_is = refl;
+            forced_is = refl;
+            before = before_step w outer comm.Turn (change.Duty position) i;
+            since_is = omega arith;
+            to_is = λ f s. to;
+            at_low = λ f. (let z : true ≡ false = sym f ∙ tied.prompt in cc);
+            stuck_is = t.stuck;
+            marked = λ l f. cc;
+            place_is = record { one = tied.one; some = tied.some; low = tied.low; prompt = tied.prompt };
+            low = λ f. cc;
+            waits = λ f. cc;
+          });
       others = elim [
         | kind.Comm ↦ λ ne u. absurd (ne refl)
         | kind.Tick ↦ λ ne u. beside_tick w outer comm.Turn comm.Turn (change.Duty position) d w.bank.hi w.bank.lo w.bank.sector w.bank.comm w.bank.stuck i u
-        | kind.Cmp ↦ λ ne u. moved_cross (cross_seen w) comm.Turn change.High w.core.drive.postponed (same_search w outer comm.Turn (change.Duty position) i) (λ e. cc) u.late u
+        | kind.Cmp ↦ λ ne u. moved_cross (cross_seen w) comm.Turn change.High w.core.drive.postponed (same_search w outer comm.Turn (change.Duty position) i)
+            (λ e. cc) u.late u
         | j ↦ λ ne u. u
       ];
       stack_is = i.on;
@@ -717,25 +730,27 @@ duty_places false position w outer i =
       gates = quiet_gates kind.Comm w _ (λ f. cc) refl refl refl;
       fits = λ told. tt;
       ground = i.ground;
-      tie = λ told. comm_moves (drive_seen w) 3 d comm.Blank w.bank.comm w.bank.stuck (postponed_at w.back) w.bank.hi w.bank.lo (no_commute w i.alone) t (record {
-        words = same_words (drive_seen w) d refl t;
-        change_is = refl;
-        turned_is = refl;
-        forced_is = refl;
-        before = before_step w outer comm.Turn (change.Duty position) i;
-        since_is = omega arith;
-        to_is = λ f s. to;
-        at_low = λ f. (let z : true ≡ false = sym f ∙ tied.prompt in cc);
-        stuck_is = t.stuck;
-        marked = λ l f. cc;
-        place_is = record { some = tied.some; done = inl (tied.one, inl (tied.low, tied.prompt)) };
-        low = λ f. cc;
-        waits = λ f. cc;
-      });
+      tie = λ told. comm_moves (drive_seen w) 3 d comm.Blank w.bank.comm w.bank.stuck (postponed_at w.back) w.bank.hi w.bank.lo (no_commute w i.alone) t
+          (record {
+            words = same_words (drive_seen w) d refl t;
+            change_is = refl;
+            turned_is = refl;
+            forced_is = refl;
+            before = before_step w outer comm.Turn (change.Duty position) i;
+            since_is = omega arith;
+            to_is = λ f s. to;
+            at_low = λ f. (let z : true ≡ false = sym f ∙ tied.prompt in cc);
+            stuck_is = t.stuck;
+            marked = λ l f. cc;
+            place_is = record { some = tied.some; done = inl (tied.one, inl (tied.low, tied.prompt)) };
+            low = λ f. cc;
+            waits = λ f. cc;
+          });
       others = elim [
         | kind.Comm ↦ λ ne u. absurd (ne refl)
         | kind.Tick ↦ λ ne u. beside_tick w outer comm.Turn comm.Blank (change.Duty position) d w.bank.hi w.bank.lo w.bank.sector w.bank.comm w.bank.stuck i u
-        | kind.Cmp ↦ λ ne u. moved_cross (cross_seen w) comm.Blank change.Over w.core.drive.postponed (same_search w outer comm.Turn (change.Duty position) i) (λ e. cc) u.late u
+        | kind.Cmp ↦ λ ne u. moved_cross (cross_seen w) comm.Blank change.Over w.core.drive.postponed (same_search w outer comm.Turn (change.Duty position) i)
+            (λ e. cc) u.late u
         | j ↦ λ ne u. u
       ];
       stack_is = i.on;
@@ -780,7 +795,8 @@ high_places None w outer e i =
       others = elim [
         | kind.Comm ↦ λ ne u. absurd (ne refl)
         | kind.Tick ↦ λ ne u. beside_tick w outer comm.Turn comm.Blank change.High d hi w.bank.lo w.bank.sector w.bank.comm w.bank.stuck i u
-        | kind.Cmp ↦ λ ne u. moved_cross (cross_seen w) comm.Blank change.Over w.core.drive.postponed (same_search w outer comm.Turn change.High i) (λ e. cc) u.late u
+        | kind.Cmp ↦ λ ne u. moved_cross (cross_seen w) comm.Blank change.Over w.core.drive.postponed (same_search w outer comm.Turn change.High i) (λ e. cc)
+            u.late u
         | j ↦ λ ne u. u
       ];
       stack_is = i.on;
@@ -794,25 +810,27 @@ high_places (Some until) w outer e i =
       gates = quiet_gates kind.Comm w _ (λ f. cc) refl refl refl;
       fits = λ told. tt;
       ground = i.ground;
-      tie = λ told. comm_moves (drive_seen w) 4 d comm.Blank w.bank.comm w.bank.stuck (postponed_at w.back) w.bank.hi w.bank.lo (no_commute w i.alone) t (record {
-        words = same_words (drive_seen w) d refl t;
-        change_is = refl;
-        turned_is = refl;
-        forced_is = refl;
-        before = before_step w outer comm.Turn change.High i;
-        since_is = omega arith;
-        to_is = λ f s. to;
-        at_low = t.at_low;
-        stuck_is = t.stuck;
-        marked = λ l f. cc;
-        place_is = record { some = tied.some; done = inl (tied.one, inl (tied.low, tied.prompt)) };
-        low = λ f. cc;
-        waits = λ f. cc;
-      });
+      tie = λ told. comm_moves (drive_seen w) 4 d comm.Blank w.bank.comm w.bank.stuck (postponed_at w.back) w.bank.hi w.bank.lo (no_commute w i.alone) t
+          (record {
+            words = same_words (drive_seen w) d refl t;
+            change_is = refl;
+            turned_is = refl;
+            forced_is = refl;
+            before = before_step w outer comm.Turn change.High i;
+            since_is = omega arith;
+            to_is = λ f s. to;
+            at_low = t.at_low;
+            stuck_is = t.stuck;
+            marked = λ l f. cc;
+            place_is = record { some = tied.some; done = inl (tied.one, inl (tied.low, tied.prompt)) };
+            low = λ f. cc;
+            waits = λ f. cc;
+          });
       others = elim [
         | kind.Comm ↦ λ ne u. absurd (ne refl)
         | kind.Tick ↦ λ ne u. beside_tick w outer comm.Turn comm.Blank change.High d w.bank.hi w.bank.lo w.bank.sector w.bank.comm w.bank.stuck i u
-        | kind.Cmp ↦ λ ne u. moved_cross (cross_seen w) comm.Blank w.core.drive.turn.at w.core.drive.postponed (same_search w outer comm.Turn change.High i) (λ e. cc) u.late u
+        | kind.Cmp ↦ λ ne u. moved_cross (cross_seen w) comm.Blank w.core.drive.turn.at w.core.drive.postponed (same_search w outer comm.Turn change.High i)
+            (λ e. cc) u.late u
         | j ↦ λ ne u. u
       ];
       stack_is = i.on;
@@ -851,26 +869,28 @@ blanks at w outer i =
     let u = i.ties kind.Cmp in
     let tied : HasActed (drive_seen w) = place_tie w outer comm.Blank at i in
     let begun = u.begins (sym (same_search w outer comm.Blank at i)) in
-    let by : arms_crossing (until w.core.drive.crossing.phase) ≡ Writes reg.CmpAt (cross_seen w).blanked = ap (λ (p : Phase). arms_crossing (until p)) begun.blank in
+    let by : arms_crossing (until w.core.drive.crossing.phase) ≡ Writes reg.CmpAt (cross_seen w).blanked =
+    ap (λ (p : Phase). arms_crossing (until p)) begun.blank in
     subst (λ (a : Access). StepKeeps kind.Comm outer w (goes_on (record w.core { comm_at = comm.Period }) a)) (sym by) (record {
       gates = quiet_gates kind.Comm w _ (λ f. cc) refl refl refl;
       fits = λ told. tt;
       ground = i.ground;
-      tie = λ told. comm_moves (drive_seen w) 2 w.core.drive comm.Period w.bank.comm w.bank.stuck (postponed_at w.back) w.bank.hi w.bank.lo (no_commute w i.alone) t (record {
-        words = same_words (drive_seen w) w.core.drive refl t;
-        change_is = refl;
-        turned_is = refl;
-        forced_is = refl;
-        before = before_step w outer comm.Blank at i;
-        since_is = omega arith;
-        to_is = λ f s. same_to w outer comm.Blank at i refl s;
-        at_low = t.at_low;
-        stuck_is = t.stuck;
-        marked = λ l f. cc;
-        place_is = acts_on w comm.Period tied;
-        low = λ f. cc;
-        waits = λ f. cc;
-      });
+      tie = λ told. comm_moves (drive_seen w) 2 w.core.drive comm.Period w.bank.comm w.bank.stuck (postponed_at w.back) w.bank.hi w.bank.lo
+          (no_commute w i.alone) t (record {
+            words = same_words (drive_seen w) w.core.drive refl t;
+            change_is = refl;
+            turned_is = refl;
+            forced_is = refl;
+            before = before_step w outer comm.Blank at i;
+            since_is = omega arith;
+            to_is = λ f s. same_to w outer comm.Blank at i refl s;
+            at_low = t.at_low;
+            stuck_is = t.stuck;
+            marked = λ l f. cc;
+            place_is = acts_on w comm.Period tied;
+            low = λ f. cc;
+            waits = λ f. cc;
+          });
       others = elim [
         | kind.Comm ↦ λ ne v. absurd (ne refl)
         | kind.Tick ↦ λ ne v. beside_tick w outer comm.Blank comm.Period at w.core.drive w.bank.hi w.bank.lo w.bank.sector w.bank.comm w.bank.stuck i v
@@ -889,21 +909,22 @@ periods at w outer i =
       gates = quiet_gates kind.Comm w _ (λ f. cc) refl refl refl;
       fits = λ told. tt;
       ground = i.ground;
-      tie = λ told. comm_moves (drive_seen w) 2 w.core.drive comm.Arm w.bank.comm w.bank.stuck (postponed_at w.back) w.bank.hi w.bank.lo (no_commute w i.alone) t (record {
-        words = same_words (drive_seen w) w.core.drive refl t;
-        change_is = refl;
-        turned_is = refl;
-        forced_is = refl;
-        before = before_step w outer comm.Period at i;
-        since_is = omega arith;
-        to_is = λ f s. same_to w outer comm.Period at i refl s;
-        at_low = t.at_low;
-        stuck_is = t.stuck;
-        marked = λ l f. cc;
-        place_is = acts_on w comm.Arm tied;
-        low = λ f. cc;
-        waits = λ f. cc;
-      });
+      tie = λ told. comm_moves (drive_seen w) 2 w.core.drive comm.Arm w.bank.comm w.bank.stuck (postponed_at w.back) w.bank.hi w.bank.lo
+          (no_commute w i.alone) t (record {
+            words = same_words (drive_seen w) w.core.drive refl t;
+            change_is = refl;
+            turned_is = refl;
+            forced_is = refl;
+            before = before_step w outer comm.Period at i;
+            since_is = omega arith;
+            to_is = λ f s. same_to w outer comm.Period at i refl s;
+            at_low = t.at_low;
+            stuck_is = t.stuck;
+            marked = λ l f. cc;
+            place_is = acts_on w comm.Arm tied;
+            low = λ f. cc;
+            waits = λ f. cc;
+          });
       others = elim [
         | kind.Comm ↦ λ ne u. absurd (ne refl)
         | kind.Tick ↦ λ ne u. beside_tick w outer comm.Period comm.Arm at w.core.drive w.bank.hi w.bank.lo w.bank.sector w.bank.comm w.bank.stuck i u
@@ -925,25 +946,28 @@ arms true at w outer e i =
       gates = quiet_gates kind.Comm w _ (λ f. cc) refl refl refl;
       fits = λ told. tt;
       ground = i.ground;
-      tie = λ told. comm_moves (drive_seen w) 2 w.core.drive comm.Stick (Some (due_at w.core.drive)) w.bank.stuck (postponed_at w.back) w.bank.hi w.bank.lo (no_commute w i.alone) t (record {
-        words = same_words (drive_seen w) w.core.drive refl t;
-        change_is = refl;
-        turned_is = refl;
-        forced_is = refl;
-        before = before_step w outer comm.Arm at i;
-        since_is = omega arith;
-        to_is = λ f s. same_to w outer comm.Arm at i refl s;
-        at_low = t.at_low;
-        stuck_is = t.stuck;
-        marked = λ l f. cc;
-        place_is = ((record { some = tied.some; done = done_kept tied.done }, refl), e);
-        low = λ f. cc;
-        waits = λ f. cc;
-      });
+      tie = λ told. comm_moves (drive_seen w) 2 w.core.drive comm.Stick (Some (due_at w.core.drive)) w.bank.stuck (postponed_at w.back) w.bank.hi w.bank.lo
+          (no_commute w i.alone) t (record {
+            words = same_words (drive_seen w) w.core.drive refl t;
+            change_is = refl;
+            turned_is = refl;
+            forced_is = refl;
+            before = before_step w outer comm.Arm at i;
+            since_is = omega arith;
+            to_is = λ f s. same_to w outer comm.Arm at i refl s;
+            at_low = t.at_low;
+            stuck_is = t.stuck;
+            marked = λ l f. cc;
+            place_is = ((record { some = tied.some; done = done_kept tied.done }, refl), e);
+            low = λ f. cc;
+            waits = λ f. cc;
+          });
       others = elim [
         | kind.Comm ↦ λ ne u. absurd (ne refl)
-        | kind.Tick ↦ λ ne u. beside_tick w outer comm.Arm comm.Stick at w.core.drive w.bank.hi w.bank.lo w.bank.sector (Some (due_at w.core.drive)) w.bank.stuck i u
-        | kind.Cmp ↦ λ ne u. moved_cross (cross_seen w) comm.Stick w.core.drive.turn.at w.core.drive.postponed (same_search w outer comm.Arm at i) (λ e. cc) u.late u
+        | kind.Tick ↦ λ ne u. beside_tick w outer comm.Arm comm.Stick at w.core.drive w.bank.hi w.bank.lo w.bank.sector (Some (due_at w.core.drive))
+            w.bank.stuck i u
+        | kind.Cmp ↦ λ ne u. moved_cross (cross_seen w) comm.Stick w.core.drive.turn.at w.core.drive.postponed (same_search w outer comm.Arm at i) (λ e. cc)
+            u.late u
         | j ↦ λ ne u. u
       ];
       stack_is = i.on;
@@ -962,25 +986,28 @@ arms false at w outer e i =
       gates = quiet_gates kind.Comm w _ (λ f. cc) refl refl refl;
       fits = λ told. tt;
       ground = i.ground;
-      tie = λ told. comm_moves (drive_seen w) 2 w.core.drive comm.Back (Some (due_at w.core.drive)) w.bank.stuck (postponed_at w.back) w.bank.hi w.bank.lo (no_commute w i.alone) t (record {
-        words = same_words (drive_seen w) w.core.drive refl t;
-        change_is = refl;
-        turned_is = refl;
-        forced_is = refl;
-        before = before_step w outer comm.Arm at i;
-        since_is = omega arith;
-        to_is = λ f s. same_to w outer comm.Arm at i refl s;
-        at_low = t.at_low;
-        stuck_is = t.stuck;
-        marked = λ l f g. (let z : false ≡ true = sym e ∙ g in cc);
-        place_is = (record { some = tied.some; done = done_kept tied.done }, refl);
-        low = λ f. cc;
-        waits = λ f. cc;
-      });
+      tie = λ told. comm_moves (drive_seen w) 2 w.core.drive comm.Back (Some (due_at w.core.drive)) w.bank.stuck (postponed_at w.back) w.bank.hi w.bank.lo
+          (no_commute w i.alone) t (record {
+            words = same_words (drive_seen w) w.core.drive refl t;
+            change_is = refl;
+            turned_is = refl;
+            forced_is = refl;
+            before = before_step w outer comm.Arm at i;
+            since_is = omega arith;
+            to_is = λ f s. same_to w outer comm.Arm at i refl s;
+            at_low = t.at_low;
+            stuck_is = t.stuck;
+            marked = λ l f g. (let z : false ≡ true = sym e ∙ g in cc);
+            place_is = (record { some = tied.some; done = done_kept tied.done }, refl);
+            low = λ f. cc;
+            waits = λ f. cc;
+          });
       others = elim [
         | kind.Comm ↦ λ ne u. absurd (ne refl)
-        | kind.Tick ↦ λ ne u. beside_tick w outer comm.Arm comm.Back at w.core.drive w.bank.hi w.bank.lo w.bank.sector (Some (due_at w.core.drive)) w.bank.stuck i u
-        | kind.Cmp ↦ λ ne u. moved_cross (cross_seen w) comm.Back w.core.drive.turn.at w.core.drive.postponed (same_search w outer comm.Arm at i) (λ e. cc) u.late u
+        | kind.Tick ↦ λ ne u. beside_tick w outer comm.Arm comm.Back at w.core.drive w.bank.hi w.bank.lo w.bank.sector (Some (due_at w.core.drive))
+            w.bank.stuck i u
+        | kind.Cmp ↦ λ ne u. moved_cross (cross_seen w) comm.Back w.core.drive.turn.at w.core.drive.postponed (same_search w outer comm.Arm at i) (λ e. cc)
+            u.late u
         | j ↦ λ ne u. u
       ];
       stack_is = i.on;
@@ -1003,25 +1030,27 @@ sticks at w outer i =
       gates = quiet_gates kind.Comm w _ (λ f. cc) refl refl refl;
       fits = λ told. tt;
       ground = i.ground;
-      tie = λ told. comm_moves (drive_seen w) 3 w.core.drive comm.Back w.bank.comm stuck (postponed_at w.back) w.bank.hi w.bank.lo (no_commute w i.alone) t (record {
-        words = same_words (drive_seen w) w.core.drive refl t;
-        change_is = refl;
-        turned_is = refl;
-        forced_is = refl;
-        before = before_step w outer comm.Stick at i;
-        since_is = omega arith;
-        to_is = λ f s. same_to w outer comm.Stick at i refl s;
-        at_low = t.at_low;
-        stuck_is = λ l. t.stuck l ∙ or_right w.bank.stuck (is_stuck w.core.drive) tied.1 ∙ sym (or_left stuck (is_stuck w.core.drive) set);
-        marked = λ l f g. set;
-        place_is = (record { some = tied.0.0.some; done = done_kept tied.0.0.done }, tied.0.1);
-        low = λ f. cc;
-        waits = λ f. cc;
-      });
+      tie = λ told. comm_moves (drive_seen w) 3 w.core.drive comm.Back w.bank.comm stuck (postponed_at w.back) w.bank.hi w.bank.lo (no_commute w i.alone) t
+          (record {
+            words = same_words (drive_seen w) w.core.drive refl t;
+            change_is = refl;
+            turned_is = refl;
+            forced_is = refl;
+            before = before_step w outer comm.Stick at i;
+            since_is = omega arith;
+            to_is = λ f s. same_to w outer comm.Stick at i refl s;
+            at_low = t.at_low;
+            stuck_is = λ l. t.stuck l ∙ or_right w.bank.stuck (is_stuck w.core.drive) tied.1 ∙ sym (or_left stuck (is_stuck w.core.drive) set);
+            marked = λ l f g. set;
+            place_is = (record { some = tied.0.0.some; done = done_kept tied.0.0.done }, tied.0.1);
+            low = λ f. cc;
+            waits = λ f. cc;
+          });
       others = elim [
         | kind.Comm ↦ λ ne u. absurd (ne refl)
         | kind.Tick ↦ λ ne u. beside_tick w outer comm.Stick comm.Back at w.core.drive w.bank.hi w.bank.lo w.bank.sector w.bank.comm stuck i u
-        | kind.Cmp ↦ λ ne u. moved_cross (cross_seen w) comm.Back w.core.drive.turn.at w.core.drive.postponed (same_search w outer comm.Stick at i) (λ e. cc) u.late u
+        | kind.Cmp ↦ λ ne u. moved_cross (cross_seen w) comm.Back w.core.drive.turn.at w.core.drive.postponed (same_search w outer comm.Stick at i) (λ e. cc)
+            u.late u
         | j ↦ λ ne u. u
       ];
       stack_is = i.on;
@@ -1064,7 +1093,8 @@ returns at w outer i =
       );
       ground = ground_noted w (note.Leave (as_tick w.bank.time) 6) refl refl tt refl i.ground;
       tie = λ told.
-          comm_moves (drive_seen w) 3 w.core.drive comm.Shut w.bank.comm w.bank.stuck (nat_lt 0 (turns_in w.back) && not (low_is_on w.back)) w.bank.hi w.bank.lo (no_commute w i.alone) t
+          comm_moves (drive_seen w) 3 w.core.drive comm.Shut w.bank.comm w.bank.stuck (nat_lt 0 (turns_in w.back) && not (low_is_on w.back)) w.bank.hi
+          w.bank.lo (no_commute w i.alone) t
           (record {
             words = same_words (drive_seen w) w.core.drive refl t;
             change_is = refl;
@@ -1223,7 +1253,8 @@ called w t told unheld shut e = elim (or_parts (calls_turn (advance_of w.loaded.
     d = t kind.Comm
 
     kept : 0 < demand_at w.back → TimerKept (drive_seen w)
-    kept some = timer_kept w.core.tick_at (drive_seen w) (unheld kind.Tick) ((t kind.Comm).low shut some (unmasked_commutes w.core.cmp_at (cmp_unmasked w.core.cmp_at (unheld kind.Cmp))))
+    kept some = timer_kept w.core.tick_at (drive_seen w) (unheld kind.Tick)
+        ((t kind.Comm).low shut some (unmasked_commutes w.core.cmp_at (cmp_unmasked w.core.cmp_at (unheld kind.Cmp))))
 
     by_sector : (s : ℕ) → w.bank.sector ≡ s → 0 < demand_at w.back → low_is_on w.back ≡ false → high_free_at (low_of (sector_at w.back)) w.back ≤ w.bank.time
         → is_reached w.bank.comm w.bank.time ≡ true
@@ -1264,7 +1295,8 @@ entered : (w : World) → Ties w → Unheld w → w.core.comm_at ≡ comm.Shut �
 entered w t unheld shut due past =
     let d = t kind.Comm in
     let some = entry_drives w t unheld due in
-    let kept = timer_kept w.core.tick_at (drive_seen w) (unheld kind.Tick) (d.low shut some (unmasked_commutes w.core.cmp_at (cmp_unmasked w.core.cmp_at (unheld kind.Cmp)))) in
+    let kept = timer_kept w.core.tick_at (drive_seen w) (unheld kind.Tick)
+    (d.low shut some (unmasked_commutes w.core.cmp_at (cmp_unmasked w.core.cmp_at (unheld kind.Cmp)))) in
     record {
       sector_is = d.sector_is;
       sectors = d.sectors;

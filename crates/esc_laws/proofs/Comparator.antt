@@ -151,7 +151,8 @@ abbrev pub Says : Held → List Event → Bool → ℕ → ℕ → Type 0
 Says h trace v a b = ((held_from h trace a).level ≡ v) × All (HasLevel v a b) trace
 
 -- one change more: up to a, from there to b, or above b
-said_next : (ta tb d : Bool) (trace : List Event) (h : Held) (v level : Bool) (a b t : ℕ) → nat_le t a ≡ ta → nat_le t b ≡ tb → differ h.level level ≡ d → a ≤ b → h.since ≤ a → h.since ≤ t
+said_next : (ta tb d : Bool) (trace : List Event) (h : Held) (v level : Bool) (a b t : ℕ) → nat_le t a ≡ ta → nat_le t b ≡ tb → differ h.level level ≡ d
+    → a ≤ b → h.since ≤ a → h.since ≤ t
     → IsInTime t trace
     → ((g : Held) → g.since ≤ a → g.since ≤ t → is_steady (held_from g trace b) v a ≡ true → Says g trace v a b)
     → is_steady (held_from (held_to tb t h level) trace b) v a ≡ true
@@ -201,7 +202,8 @@ pub steady_of : (trace : List Event) (v : Bool) (a b : ℕ) → a ≤ b → IsIn
 unfolding held
 steady_of trace v a b le f e = says trace low v a b 0 le (omega arith) (omega arith) f e
 
-back_next : (ta tb d : Bool) (trace : List Event) (h : Held) (v level : Bool) (a b t : ℕ) → nat_le t a ≡ ta → nat_le t b ≡ tb → differ h.level level ≡ d → a ≤ b → h.since ≤ a
+back_next : (ta tb d : Bool) (trace : List Event) (h : Held) (v level : Bool) (a b t : ℕ) → nat_le t a ≡ ta → nat_le t b ≡ tb → differ h.level level ≡ d
+    → a ≤ b → h.since ≤ a
     → IsInTime t trace
     → ((g : Held) → g.since ≤ a → Says g trace v a b → is_steady (held_from g trace b) v a ≡ true)
     → (held_from (held_to ta t h level) trace a).level ≡ v → (a < t → t ≤ b → level ≡ v) → All (HasLevel v a b) trace

@@ -99,7 +99,8 @@ cross_asked v zero was some start pace = record v {
   sight = if zero then Away else v.sight;
 }
 
-off_phase : (p : Phase) (turn : Turn) (changed : Bool) (since blanked time past : ℕ) → HasNoQ turn → PhaseTied p turn changed since blanked time past → p ≡ phase.Off
+off_phase : (p : Phase) (turn : Turn) (changed : Bool) (since blanked time past : ℕ) → HasNoQ turn → PhaseTied p turn changed since blanked time past
+    → p ≡ phase.Off
 off_phase phase.Off Idle changed since blanked time past n t = refl
 off_phase phase.Off Started changed since blanked time past n t = refl
 off_phase (phase.Blank end) Idle changed since blanked time past n t = absurd t.0

@@ -90,7 +90,8 @@ either_below true s s' t b b' = b
 either_below false s s' t b b' = b'
 
 sight_below : (n : Note) (back : List Note) (t : ℕ) → time_of n < t → EntersBelow t (sight_at back) → EntersBelow t (sight_at (n ∷ back))
-sight_below (note.Enter u k) back t l b = either_below (k == 4) (sight_entered (sight_at back) u.0) (sight_at back) t (entered_below (sight_at back) t u.0 l b) b
+sight_below (note.Enter u k) back t l b = either_below (k == 4) (sight_entered (sight_at back) u.0) (sight_at back) t
+    (entered_below (sight_at back) t u.0 l b) b
 sight_below (note.Leave u k) back t l b =
     either_below (k == 4) (sight_left (sight_at back) u.0) (if k == 6 then sight_begun (sight_at back) (blanked_at back) u.0 else sight_at back) t
     (left_below (sight_at back) t u.0 b)

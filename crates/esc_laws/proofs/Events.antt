@@ -52,7 +52,8 @@ pub patient_later : (loaded : Loaded) (nest : Nest) (trace : List Event) (c : Br
     → Patient nest c.hold b.masked stack (sees loaded trace (journal loaded log) b.time) (called loaded nest trace log)
     → Patient nest c.hold b.masked stack (sees loaded trace (journal loaded log) u) (called loaded nest trace log)
 patient_later loaded nest trace c b stack log u le p =
-    grow_patient nest stack (sees loaded trace (journal loaded log) b.time) (sees loaded trace (journal loaded log) u) b.masked c.hold (called loaded nest trace log) p
+    grow_patient nest stack (sees loaded trace (journal loaded log) b.time) (sees loaded trace (journal loaded log) u) b.masked c.hold
+    (called loaded nest trace log) p
 
 -- ---- an event at now
 

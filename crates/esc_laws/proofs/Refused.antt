@@ -160,10 +160,12 @@ windows_refuse = record {
 
 -- ---- nesting
 
-pub nest_fits : (nest : Nest) (loaded : Loaded) (notes after : List Note) (n : Note) → NestedAfter (advance_of loaded.settings) nest (opening loaded) (notes ++ n ∷ after)
+pub nest_fits : (nest : Nest) (loaded : Loaded) (notes after : List Note) (n : Note)
+    → NestedAfter (advance_of loaded.settings) nest (opening loaded) (notes ++ n ∷ after)
     → NestRuleAt (advance_of loaded.settings) nest (placed (reverse (opening loaded ++ notes))) (reverse (opening loaded ++ notes)) n
 nest_fits nest loaded notes after n whole =
-    subst (λ (p : Place). NestRuleAt (advance_of loaded.settings) nest p (reverse (opening loaded ++ notes)) n) (sym (placed-is (opening loaded ++ notes))) (each_at (NestRule (advance_of loaded.settings) nest) (opening loaded) notes n after whole)
+    subst (λ (p : Place). NestRuleAt (advance_of loaded.settings) nest p (reverse (opening loaded ++ notes)) n) (sym (placed-is (opening loaded ++ notes)))
+    (each_at (NestRule (advance_of loaded.settings) nest) (opening loaded) notes n after whole)
 
 -- no kind enters above itself or a higher one
 not_above : (nest : Nest) (j : Kind) (k : ℕ) → 0 < kind_number j → k ≤ kind_number j → IsAboveAll nest (j ∷ []) k → ⊥
@@ -180,7 +182,8 @@ two verdicts windows v (inr e) = let f = e.0 in omega arith
 
 -- a COMM that returns has done neither
 not_both : (advance : ℕ) (back : List Note) → (turns_in back ≡ 1 → (low_is_on back ≡ false) × (high_free_at (low_of (sector_at back)) back ≤ turned_at back))
-    → (turns_in back ≡ 0 → (turn_was_due advance back ≡ true) ⊎ (postponed_at back ≡ false) ⊎ (low_is_on back ≡ false)) → HasTurned back ⊎ HasCaughtUp advance back → ⊥
+    → (turns_in back ≡ 0 → (turn_was_due advance back ≡ true) ⊎ (postponed_at back ≡ false) ⊎ (low_is_on back ≡ false)) → HasTurned back
+    ⊎ HasCaughtUp advance back → ⊥
 not_both advance back one none (inl h) =
     let o = one h.one in
     elim h.low [ inl on ↦ (let z : true ≡ false = sym on ∙ o.0 in cc) | inr l ↦ (let f = o.1 in omega arith) ]
@@ -225,16 +228,19 @@ nesting_refuses = record {
   word_changes_where_none_is_open = λ nest loaded after h. nest_fits nest loaded [] after (switches 2402 1 0) h;
   crossing_in_comm = λ nest loaded after h. (let e = nest_fits nest loaded (enters 2400 6 ∷ []) after (crosses 2402) h in absurd (cc));
   comm_returns_with_two_turns =
-      λ nest loaded after h. not_both (advance_of loaded.settings) (reverse (opening loaded ++ started (enters 2410 6 ∷ turns 2420 1 ∷ turns 2422 2 ∷ []))) (λ e. absurd (omega arith))
+      λ nest loaded after h. not_both (advance_of loaded.settings) (reverse (opening loaded
+      ++ started (enters 2410 6 ∷ turns 2420 1 ∷ turns 2422 2 ∷ []))) (λ e. absurd (omega arith))
       (λ e. absurd (omega arith)) (nest_fits nest loaded (started (enters 2410 6 ∷ turns 2420 1 ∷ turns 2422 2 ∷ [])) after (leaves 2430 6) h).1;
   comm_returns_without_a_turn =
       λ nest loaded after h. not_both (advance_of loaded.settings) (reverse (opening loaded ++ started (enters 2410 6 ∷ []))) (λ e. absurd (omega arith))
       (λ e. inl refl) (nest_fits nest loaded (started (enters 2410 6 ∷ [])) after (leaves 2430 6) h).1;
   forced_turn_left_out =
-      λ nest loaded after h. not_both (advance_of loaded.settings) (reverse (opening loaded ++ late_low (enters 242424 6 ∷ switches 242430 0 2 ∷ []))) (λ e. absurd (omega arith))
+      λ nest loaded after h. not_both (advance_of loaded.settings) (reverse (opening loaded
+      ++ late_low (enters 242424 6 ∷ switches 242430 0 2 ∷ []))) (λ e. absurd (omega arith))
       (λ e. inl refl) (nest_fits nest loaded (late_low (enters 242424 6 ∷ switches 242430 0 2 ∷ [])) after (leaves 242440 6) h).1;
   low_switch_left_off =
-      λ nest loaded after h. not_both (advance_of loaded.settings) (reverse (opening loaded ++ started (enters 2410 6 ∷ turns 2420 1 ∷ []))) (λ e. (refl, omega arith))
+      λ nest loaded after h. not_both (advance_of loaded.settings) (reverse (opening loaded
+      ++ started (enters 2410 6 ∷ turns 2420 1 ∷ []))) (λ e. (refl, omega arith))
       (λ e. absurd (omega arith)) (nest_fits nest loaded (started (enters 2410 6 ∷ turns 2420 1 ∷ [])) after (leaves 2430 6) h).1;
   low_switch_postponed_for_nothing =
       λ nest loaded after h. not_both (advance_of loaded.settings)
@@ -242,10 +248,12 @@ nesting_refuses = record {
       (λ e. absurd (omega arith))
       (nest_fits nest loaded (started (enters 2410 6 ∷ switches 2411 2 0 ∷ switches 2412 0 0 ∷ turns 2460 1 ∷ [])) after (leaves 2470 6) h).1;
   comm_for_nothing =
-      λ nest loaded after h. not_both (advance_of loaded.settings) (reverse (opening loaded ++ enters 2410 6 ∷ [])) (λ e. absurd (omega arith)) (λ e. inr (inl refl))
+      λ nest loaded after h. not_both (advance_of loaded.settings) (reverse (opening loaded
+      ++ enters 2410 6 ∷ [])) (λ e. absurd (omega arith)) (λ e. inr (inl refl))
       (nest_fits nest loaded (enters 2410 6 ∷ []) after (leaves 2430 6) h).1;
   postponed_switch_left_off =
-      λ nest loaded after h. not_both (advance_of loaded.settings) (reverse (opening loaded ++ late_low (enters 2470 6 ∷ []))) (λ e. absurd (omega arith)) (λ e. inr (inr refl))
+      λ nest loaded after h. not_both (advance_of loaded.settings) (reverse (opening loaded
+      ++ late_low (enters 2470 6 ∷ []))) (λ e. absurd (omega arith)) (λ e. inr (inr refl))
       (nest_fits nest loaded (late_low (enters 2470 6 ∷ [])) after (leaves 2480 6) h).1;
   postponed_switch_twice =
       λ nest loaded after h. not_both (advance_of loaded.settings)

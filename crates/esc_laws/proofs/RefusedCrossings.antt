@@ -60,7 +60,7 @@ crossings_refuse = record {
   over_a_short_change = λ after h. (let s = (crossing_fits glitch first_turn after (crosses 9000) h).steady.1 in
       let down : HasLevel true 8976 9000 (event.Comp (as_tick 8990) false) =
       All-head (HasLevel true 8976 9000) (event.Comp (as_tick 8990) false) (event.Comp (as_tick 8990) true ∷ [])
-          (All-tail (HasLevel true 8976 9000) (event.Comp (as_tick 100) true) (event.Comp (as_tick 8990) false ∷ event.Comp (as_tick 8990) true ∷ []) s) in
+      (All-tail (HasLevel true 8976 9000) (event.Comp (as_tick 100) true) (event.Comp (as_tick 8990) false ∷ event.Comp (as_tick 8990) true ∷ []) s) in
       let z : false ≡ true = down (omega arith) (omega arith) in cc);
   filtered_within_blanking = λ trace after h. (let b = (crossing_fits trace first_turn after (crosses 8523) h).blanked_before in absurd (omega arith));
 }
@@ -76,7 +76,8 @@ turn_fits front after n whole = each_at (λ before n. TurnRule 0 forwards (rever
 
 pub crossed_turns_refuse : CrossedTurnsRefuse
 crossed_turns_refuse = record {
-  by_an_old_crossing = λ after h. (let b = (turn_fits (first_turn ++ (crosses 9000 ∷ turns 21000 2 ∷ [])) after (turns 50000 3) h).time in absurd (omega arith));
+  by_an_old_crossing = λ after h. (let b = (turn_fits (first_turn ++ (crosses 9000 ∷ turns 21000 2 ∷ [])) after (turns 50000 3) h).time in absurd
+      (omega arith));
   wait_of_the_old_interval = λ after h. (let b = (turn_fits (first_turn ++ (crosses 9000 ∷ turns 21000 2 ∷ crosses 209000 ∷ [])) after
       (turns 221000 3) h).time in absurd (omega arith));
   wait_of_the_drive_before = λ after h. (let b = (turn_fits (first_turn ++ (crosses 8600 ∷ turns 20600 2 ∷ crosses 28000 ∷ turns 39700 3 ∷ ticks 40800 17 0 0
@@ -112,7 +113,8 @@ searches_refuse = record {
       let few = search_fits [] (commutes ++ (looks 8500 ++ looks 8600 ++ looks 8700 ++ looks 8800)) (leaves 8908 4 ∷ after) (enters 8900 4) h refl in
       let four : 4 < 4 = rw n at few in absurd (omega arith));
   five_from_a_change_on = λ after h. (let n = changed_once in
-      let few = search_fits (up_from 8500) (commutes ++ (looks 8500 ++ looks 8600 ++ looks 8700 ++ looks 8800)) (leaves 8908 4 ∷ after) (enters 8900 4) h refl in
+      let few = search_fits (up_from 8500) (commutes ++ (looks 8500 ++ looks 8600 ++ looks 8700 ++ looks 8800)) (leaves 8908 4 ∷ after)
+      (enters 8900 4) h refl in
       let four : 4 < 4 = rw n at few in absurd (omega arith));
 }
 

@@ -123,7 +123,8 @@ not_done f r p back advance h (inr w) = let z = h.windows in let y = w.1 in omeg
 
 returns_not : (loaded : Loaded) (nest : Nest) (trace : List Event) (f r : ℕ) (before through after : List Note) (u : Tick) → NothingYet f r (place before)
     → All OpensNone through
-    → Each (WindowRule loaded trace) before (through ++ note.Leave u 3 ∷ after) → Each (NestRule (advance_of loaded.settings) nest) before (through ++ note.Leave u 3 ∷ after) → ⊥
+    → Each (WindowRule loaded trace) before (through ++ note.Leave u 3 ∷ after)
+    → Each (NestRule (advance_of loaded.settings) nest) before (through ++ note.Leave u 3 ∷ after) → ⊥
 returns_not loaded nest trace f r before [] after u h a w n = not_done f r (place before) (reverse before) (advance_of loaded.settings) h n.0.1
 returns_not loaded nest trace f r before (x ∷ through) after u h a w n =
     returns_not loaded nest trace f r (before ++ x ∷ []) through after u
@@ -136,6 +137,7 @@ cap_opens_window loaded nest trace before through after f r t u windowed nested 
     let all : List Note = note.Enter t 3 ∷ through ++ note.Leave u 3 ∷ after in
     let w : Each (WindowRule loaded trace) start all = each_rest (WindowRule loaded trace) (opening loaded) before all
     (each_rest (WindowRule loaded trace) [] (opening loaded) (before ++ all) windowed) in
-    let n : Each (NestRule (advance_of loaded.settings) nest) start all = each_rest (NestRule (advance_of loaded.settings) nest) (opening loaded) before all nested in
+    let n : Each (NestRule (advance_of loaded.settings) nest) start all =
+    each_rest (NestRule (advance_of loaded.settings) nest) (opening loaded) before all nested in
     returns_not loaded nest trace f r (start ++ note.Enter t 3 ∷ []) through after u
     (rw (place-push start (note.Enter t 3)) (record { signal = rests; windows = refl; verdicts = refl })) none w.1 n.1

@@ -48,14 +48,16 @@ use Rattle.esc_laws.proofs.Turns.{reached_on, reached_new, by_on, by_new, stood,
 
 waits_due : (loaded : Loaded) (nest : Nest) (trace : List Event) (c : Brain) (b : Bank) (stack : List Kind) (log : List Turned) → Keeps c b stack
     → Ground (world loaded nest trace c b log) → ((j : Kind) → Tie j (world loaded nest trace c b log)) → WordTold c b (reverse (journal loaded log))
-    → ((j : Kind) → 8 < need_of c j) → (k : Kind) → sees loaded trace (journal loaded log) b.time k ≡ true → is_open stack k ≡ false → due_now c.orders.save_asked b k ≡ true
+    → ((j : Kind) → 8 < need_of c j) → (k : Kind) → sees loaded trace (journal loaded log) b.time k ≡ true → is_open stack k ≡ false
+    → due_now c.orders.save_asked b k ≡ true
 waits_due loaded nest trace c b stack log keeps g t told unheld k s f =
     (law k).called (world loaded nest trace c b log) g t told unheld (keeps.shut k f)
     (subst (λ (p : Place). sees_at loaded trace p (reverse (journal loaded log)) b.time k ≡ true) (sym (placed-is (journal loaded log))) s)
 
 pub sees_due : (loaded : Loaded) (nest : Nest) (trace : List Event) (c : Brain) (b : Bank) (stack : List Kind) (log : List Turned) → Keeps c b stack
     → Ground (world loaded nest trace c b log) → ((j : Kind) → Tie j (world loaded nest trace c b log)) → WordTold c b (reverse (journal loaded log))
-    → ((j : Kind) → 8 < need_of c j) → (k : Kind) → is_waiting (sees loaded trace (journal loaded log) b.time) stack k ≡ true → due_now c.orders.save_asked b k ≡ true
+    → ((j : Kind) → 8 < need_of c j) → (k : Kind) → is_waiting (sees loaded trace (journal loaded log) b.time) stack k ≡ true
+    → due_now c.orders.save_asked b k ≡ true
 sees_due loaded nest trace c b stack log keeps g t told unheld k e =
     let parts = and_parts (sees loaded trace (journal loaded log) b.time k) (not (is_open stack k)) e in
     waits_due loaded nest trace c b stack log keeps g t told unheld k parts.0 (not-true (is_open stack k) parts.1)
@@ -141,7 +143,8 @@ not_due due k j h l = by_test (due j) refl
     by_test true e = absurd (let m = highest_most due k j e h in omega arith)
     by_test false e = e
 
-entry_highest_of : (nest : Nest) (loaded : Loaded) (trace : List Event) (c : Brain) (b : Bank) (stack : List Kind) (log : List Turned) (k : Kind) → Keeps c b stack
+entry_highest_of : (nest : Nest) (loaded : Loaded) (trace : List Event) (c : Brain) (b : Bank) (stack : List Kind) (log : List Turned) (k : Kind)
+    → Keeps c b stack
     → IsStack stack → next_entry nest stack (due_now c.orders.save_asked b) ≡ Some k
     → Highest k (world_of loaded nest trace c b (made log) (notes_in log))
 entry_highest_of nest loaded trace c b stack log k keeps sorted chosen = record {

@@ -102,7 +102,8 @@ pub timer_retimed : (v : DriveView) (place : TickAt) → TimerKept v → TimerKe
 timer_retimed v place (inl e) = inl e
 timer_retimed v place (inr (at, e, l, c)) = inr (at, e, l, record { started = c.started; due = c.due })
 
-pub retimed : (v : DriveView) (place : TickAt) → (v.comm_at ≡ comm.Shut → 0 < v.demand → commutes v.cmp_at ≡ false → LowTied place (record v { tick_at = place })) → DriveTied v
+pub retimed : (v : DriveView) (place : TickAt) → (v.comm_at ≡ comm.Shut → 0 < v.demand → commutes v.cmp_at ≡ false
+    → LowTied place (record v { tick_at = place })) → DriveTied v
     → DriveTied (record v { tick_at = place })
 retimed v place low t = record {
   sector_is = t.sector_is;
@@ -171,7 +172,8 @@ low_view v lo place = record v {
   };
 }
 
-pub with_low : (v : DriveView) (lo : ℕ) (place : TickAt) → v.comm_at ≡ comm.Shut → commutes v.cmp_at ≡ false → v.demand ≡ 0 → ((x : Leg) → is_on lo x ≡ true → is_on v.lo x ≡ true)
+pub with_low : (v : DriveView) (lo : ℕ) (place : TickAt) → v.comm_at ≡ comm.Shut → commutes v.cmp_at ≡ false → v.demand ≡ 0
+    → ((x : Leg) → is_on lo x ≡ true → is_on v.lo x ≡ true)
     → DriveTied v → DriveTied (low_view v lo place)
 with_low v lo place shut none zero fewer t =
     let f : Legs = v.drive.gates.hi_free in
@@ -268,7 +270,8 @@ pub record AskedIn (v : DriveView) : Type 0 where
   pub prompt : v.demand ≡ 0 → v.drive.postponed ≡ false
   pub unmarked : v.demand ≡ 0 → v.stuck ≡ false
 
-pub asked_drive : (zero was some start : Bool) (v : DriveView) (d wait : ℕ) → (was ≡ false → wait ≡ v.wait) → (d == 0) ≡ zero → (v.demand == 0) ≡ was → nat_lt 0 d ≡ some → start ≡ (some && was)
+pub asked_drive : (zero was some start : Bool) (v : DriveView) (d wait : ℕ) → (was ≡ false → wait ≡ v.wait) → (d == 0) ≡ zero → (v.demand == 0) ≡ was
+    → nat_lt 0 d ≡ some → start ≡ (some && was)
     → AskedIn v → DriveTied v → DriveTied (asked_view v zero was some start d wait)
 asked_drive true was true start v d wait y e f g h i t = absurd (let z : true ≡ false = sym g ∙ none_lt d e in cc)
 asked_drive true was false start v d wait y e f g h i t = subst (λ (s : Bool). DriveTied (asked_view v true was false s d wait)) (sym h) (record {

@@ -217,9 +217,11 @@ asks lost armed_now start w outer marks demand kept i begins none st number = by
         (pwm_entered_at w.back) w.bank.time
     flag_now = asked_flag (demand == 0) start w.bank.flag demand (pwm_entered_at w.back) w.bank.time refl (i.ties kind.Pwm).1.past
 
-    drive_now : DriveTied (asked_view (drive_seen w) (demand == 0) (rests_at w.back) (nat_lt 0 demand) start demand (wait_at (advance_of w.loaded.settings) (k ∷ w.back)))
+    drive_now : DriveTied (asked_view (drive_seen w) (demand == 0) (rests_at w.back) (nat_lt 0 demand) start demand
+        (wait_at (advance_of w.loaded.settings) (k ∷ w.back)))
     drive_now = asked_drive (demand == 0) (rests_at w.back) (nat_lt 0 demand) start (drive_seen w) demand
-        (wait_at (advance_of w.loaded.settings) (k ∷ w.back)) (λ e. plain_wait (nat_lt 0 demand) (rests_at w.back) (advance_of w.loaded.settings) (pace_at w.back) e) refl (rests_is w.back) refl begins (asked_in w outer i)
+        (wait_at (advance_of w.loaded.settings) (k ∷ w.back)) (λ e. plain_wait (nat_lt 0 demand) (rests_at w.back) (advance_of w.loaded.settings)
+        (pace_at w.back) e) refl (rests_is w.back) refl begins (asked_in w outer i)
         (i.ties kind.Comm)
 
     cross_now : (s : Bool) → start ≡ s → CrossTied (cross_after w demand s)
@@ -442,7 +444,11 @@ high_off w outer i =
       );
       others = elim [
         | kind.Tick ↦ λ ne u. absurd (ne refl)
-        | kind.Pwm ↦ λ ne u. (u.0, none_flag (tick.Off off.Low) w.bank.flag (pwm_asked_at w.back) (demand_at w.back) (pwm_entered_at w.back) w.bank.time refl zero u.1.past)
+        | kind.Pwm ↦ λ ne u. (
+          u.0,
+          none_flag (tick.Off off.Low) w.bank.flag (pwm_asked_at w.back) (demand_at w.back) (pwm_entered_at w.back) w.bank.time refl
+              zero u.1.past,
+        )
         | kind.Comm ↦ λ ne u. retimed (high_view (drive_seen w) hi) (tick.Off off.Low) (λ e l s. tt) (with_high (drive_seen w) hi i.comm_is pair u)
         | kind.Cmp ↦ λ ne u. cross_retimed (cross_seen w) (tick.Off off.Low) (sym (ap ends_drive i.place_is)) u
         | j ↦ λ ne u. u
@@ -471,7 +477,11 @@ low_off w outer i =
       );
       others = elim [
         | kind.Tick ↦ λ ne u. absurd (ne refl)
-        | kind.Pwm ↦ λ ne u. (u.0, none_flag tick.DutyOff w.bank.flag (pwm_asked_at w.back) (demand_at w.back) (pwm_entered_at w.back) w.bank.time refl zero u.1.past)
+        | kind.Pwm ↦ λ ne u. (
+          u.0,
+          none_flag tick.DutyOff w.bank.flag (pwm_asked_at w.back) (demand_at w.back) (pwm_entered_at w.back) w.bank.time refl zero
+              u.1.past,
+        )
         | kind.Comm ↦ λ ne u. with_low (drive_seen w) lo tick.DutyOff i.comm_is (rw i.cmp_is refl) zero (λ x on. on_and w.bank.lo 0 x on) u
         | kind.Cmp ↦ λ ne u. cross_retimed (cross_seen w) tick.DutyOff (sym (ap ends_drive i.place_is)) u
         | j ↦ λ ne u. u
@@ -496,7 +506,11 @@ duty_off w outer i =
       );
       others = elim [
         | kind.Tick ↦ λ ne u. absurd (ne refl)
-        | kind.Pwm ↦ λ ne u. (u.0, none_flag tick.DriveOff false (pwm_asked_at w.back) (demand_at w.back) (pwm_entered_at w.back) w.bank.time refl zero u.1.past)
+        | kind.Pwm ↦ λ ne u. (
+          u.0,
+          none_flag tick.DriveOff false (pwm_asked_at w.back) (demand_at w.back) (pwm_entered_at w.back) w.bank.time refl zero
+              u.1.past,
+        )
         | kind.Comm ↦ λ ne u. retimed (drive_seen w) tick.DriveOff (λ e l s. tt) u
         | kind.Cmp ↦ λ ne u. cross_retimed (cross_seen w) tick.DriveOff (sym (ap ends_drive i.place_is)) u
         | j ↦ λ ne u. u
@@ -622,7 +636,13 @@ starts w outer i =
           same_flag tick.Start tick.Lower w.bank.flag (pwm_asked_at w.back) (demand_at w.back) (pwm_entered_at w.back) w.bank.time refl
               (flag_tie w outer tick.Start i),
         )
-        | kind.Comm ↦ λ ne u. timed (drive_seen w) tick.Lower i.comm_is (λ l. inr (w.bank.time, refl, omega arith, (let q = low_tie w outer tick.Start i l in record { started = q.started; due = q.due }))) u
+        | kind.Comm ↦ λ ne u. timed (drive_seen w) tick.Lower i.comm_is (λ l. inr (
+          w.bank.time,
+          refl,
+          omega arith,
+          (let q =
+              low_tie w outer tick.Start i l in record { started = q.started; due = q.due }),
+        )) u
         | kind.Cmp ↦ λ ne u. cross_retimed (cross_seen w) tick.Lower (sym (ap ends_drive i.place_is)) u
         | j ↦ λ ne u. u
       ];

@@ -82,7 +82,8 @@ stood loaded nest cost trace next c b stack log l = record {
 -- a kind's count after a step at t
 abbrev pub counted_by : Loaded → Nest → List Event → ℕ → List Kind → List Kind → List Turned → Turned → Kind → ℕ
 counted_by loaded nest trace t stack stack' log e k =
-    wait_next nest k (is_waiting (sees loaded trace (journal loaded log) t) stack k) (is_waiting (sees loaded trace (journal loaded (log ++ e ∷ [])) t) stack' k)
+    wait_next nest k (is_waiting (sees loaded trace (journal loaded log) t) stack k) (is_waiting (sees loaded trace (journal loaded (log
+    ++ e ∷ [])) t) stack' k)
     (Some e.kind)
     (called loaded nest trace log k)
 
@@ -176,7 +177,8 @@ logged_after loaded nest cost trace c c' b b' stack stack' log e some at l g =
       reached_by = g.reached_by;
       fits = step-push (StepFits loaded nest cost trace) [] log e l.fits
           (g.fits
-          (patient_most nest c'.hold b'.masked stack' (sees loaded trace (journal loaded (log ++ e ∷ [])) b.time) (called loaded nest trace (log ++ e ∷ [])) patient));
+          (patient_most nest c'.hold b'.masked stack' (sees loaded trace (journal loaded (log ++ e ∷ [])) b.time) (called loaded nest trace (log
+          ++ e ∷ [])) patient));
       drives = step-push (ChopFits loaded) [] log e l.drives g.drive;
       past = rw next (omega arith);
       made_past = rw (made-push log e) (past_next e.kind e.enters e.tick (b.time + cost) (made log) (omega arith) (record {

@@ -86,10 +86,11 @@ pub record SearchesRefuse : Type 0 where
 abbrev pub first_sector : List Turned
 first_sector =
     entry 2400 kind.Tick ∷ own 2402 kind.Tick (ticks 2402 1 0 20 ∷ leaves 2402 2 ∷ []) ∷ entry 2498 kind.Comm ∷ own 2500 kind.Comm
-        (turns 2500 1 ∷ leaves 2500 6 ∷ []) ∷ []
+    (turns 2500 1 ∷ leaves 2500 6 ∷ []) ∷ []
 
 pub record ActivationsRefuse : Type 0 where
   -- a COMM has a Q where the wait after a Z is over
-  pub no_sector_after_a_crossing : (nest : Nest) → Unnested nest (commutes ++ (enters 8500 4 ∷ crosses 8524 ∷ leaves 8530 4 ∷ enters 20600 6 ∷ leaves 20612 6 ∷ []))
+  pub no_sector_after_a_crossing : (nest : Nest) → Unnested nest (commutes
+      ++ (enters 8500 4 ∷ crosses 8524 ∷ leaves 8530 4 ∷ enters 20600 6 ∷ leaves 20612 6 ∷ []))
   -- CMP is entered when the blanking after a Q is over
   pub cmp_enters_a_tick_late : (loaded : Loaded) (nest : Nest) (cost : ℕ) → cost ≤ 16 → StepFits loaded nest cost [] first_sector (entry 8501 kind.Cmp) → ⊥

@@ -55,7 +55,8 @@ abbrev pub IsInTime : ℕ → List Event → Type 0
 IsInTime t [] = Unit {0}
 IsInTime t (e ∷ trace) = (t ≤ tick_of e) × IsInTime (tick_of e) trace
 
-pub record Grounded (loaded : Loaded) (trace : List Event) (kept : Kept) (o : Orders) (now_level now_comp : Bool) (rests : ℕ) (time : ℕ) (back : List Note) : Type 0 where
+pub record Grounded (loaded : Loaded) (trace : List Event) (kept : Kept) (o : Orders) (now_level now_comp : Bool) (rests : ℕ) (time : ℕ)
+    (back : List Note) : Type 0 where
   pub control : Stands kept back
   pub orders : OrdersTied loaded o back
   pub level : now_level ≡ (line trace).level
