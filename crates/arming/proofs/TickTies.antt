@@ -1,5 +1,5 @@
 -- A control tick keeps the ties.
-use Rattle.std.proofs.Common.{◌≡◌, ◌<◌, ℕ, ◌+◌, ◌-◌, ◌/◌, Bool, true, false, not, ◌&&◌, ◌==◌, nat_le, min, if◌then◌else◌, List, [], ◌∷◌, refl, sym, ap, arith}
+use Rattle.std.proofs.Common.{◌≡◌, ◌<◌, ℕ, ◌+◌, ◌-◌, ◌/◌, Bool, true, false, not, ◌&&◌, ◌==◌, nat_le, nat_lt, min, if◌then◌else◌, List, [], ◌∷◌, refl, sym, ap, arith}
 use Rattle.std.proofs.lemmas.Bool.Decides.{nat_tests}
 use Rattle.esc_base.specs.declared.tick.Tick.{Tick}
 use Rattle.esc_base.specs.declared.note.Cause.{Cause}
@@ -161,3 +161,9 @@ pub tick_stands : (c : Kept) (back : List Note) (t : Tick) (n s : ℕ) → n ≡
 tick_stands c back t n s at lt marks stands =
     decided_stands (decide (view_of c) n s) c back t n s refl
     (ap (λ (w : View). decide w n s) (sym (view_is c back stands.ties))) at (bound c back n lt stands.ties) marks stands
+
+-- a tick starts a drive exactly where its demand is above 0 and the one before was 0
+pub start_is : (decision : Decision) (before : ℕ) → (answer_of decision before).start ≡ (nat_lt 0 (answer_of decision before).demand && (before == 0))
+start_is (Loses cause) before = refl
+start_is Arms before = refl
+start_is (Drives demand) before = refl

@@ -5,6 +5,7 @@ use Rattle.esc_base.specs.declared.note.Note.{Note}
 use Rattle.esc_base.specs.declared.note.Note.TheVariants as note
 use Rattle.esc_base.specs.Times.{arming_frames}
 use Rattle.dshot_commands.specs.Repeats.{is_command}
+use Rattle.commutation.specs.Commutated.{stuck_at}
 use Rattle.arming.specs.Decide.{View}
 
 -- control is armed: an A stands with no X after it
@@ -90,11 +91,8 @@ asked_at (note.Saved t r ∷ back) = false
 asked_at (note.Command t c ∷ back) = (c == 12) || asked_at back
 asked_at (n ∷ back) = asked_at back
 
--- ---- the marks of a K at this place, a row for each: what the notes before it say
-
--- 1, stuck: so far no sector change stands in a journal
-abbrev pub stuck_at : List Note → Bool
-stuck_at back = false
+-- ---- the marks of a K at this place: what the notes before it say. 1, stuck, stands where sixty forced Q stood in a row
+-- since the newest K with demand 0 (`stuck_at`)
 
 -- 2, fuse: so far no watcher looks at a run
 abbrev pub fuse_at : List Note → Bool

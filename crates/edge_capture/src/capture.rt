@@ -180,6 +180,13 @@ impl Capture {
         self.armed && self.is_over(t)
     }
 
+    /// The mode in which the window opened.
+    pub fn mode(&self) -> Mode
+        ensures { result ≡ self.now.mode }
+    {
+        self.mode
+    }
+
     /// The edges that the window has heard.
     pub fn burst(&self) -> &Burst
         ensures edges { result.now ≡ self.now.edges }

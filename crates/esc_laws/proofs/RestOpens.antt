@@ -1,5 +1,5 @@
 -- No rest passes without a window: CAP is called, and opens it.
-use Rattle.std.proofs.Common.{◌≡◌, ◌≤◌, ◌+◌, ℕ, Bool, true, false, not, ◌&&◌, nat_le, max, if◌then◌else◌, List, [], ◌∷◌, ◌++◌, reverse, Some, inl, inr, ◌≢◌, ◌==◌, All, refl, sym, ◌∙◌, ap, subst, arith, append-nil, append_assoc}
+use Rattle.std.proofs.Common.{◌≡◌, ◌≤◌, ◌+◌, ℕ, Bool, true, false, max, if◌then◌else◌, List, [], ◌∷◌, ◌++◌, reverse, Some, inl, inr, ◌≢◌, ◌==◌, All, refl, ◌∙◌, ap, subst, arith, append-nil, append_assoc}
 use Rattle.std.proofs.lemmas.Bool.{le-leb, ne_eqb}
 use Rattle.std.proofs.lemmas.List.Elements.{All-head, All-tail}
 use Rattle.esc_base.specs.declared.kind.Kind.{Kind}
@@ -14,14 +14,13 @@ use Rattle.esc_base.specs.Trace.{line}
 use Rattle.settings_block.specs.declared.stored.Loaded.{Loaded}
 use Rattle.interrupt_machine.specs.declared.nest.Nest.{Nest}
 use Rattle.arming.proofs.InOrder.{each_rest}
-use Rattle.interrupt_machine.specs.Open.{is_open, kind_of}
+use Rattle.interrupt_machine.specs.Open.{kind_of}
 use Rattle.interrupt_machine.specs.Response.{counts, wait_next}
 use Rattle.esc_laws.specs.Place.{Signal, Rests, Place, place_entered, place_left, next, place}
 use Rattle.esc_laws.specs.Nested.{HasDone, NestRule}
 use Rattle.esc_laws.specs.Windowed.{AnswersAt, WindowRuleAt, WindowRule}
 use Rattle.esc_laws.specs.Rested.{first_rested}
-use Rattle.esc_laws.specs.Seen.{calls_cap}
-use Rattle.esc_laws.specs.Steps.{Turned, opening, journal, open_in, is_called, called, EachStep, StepFits}
+use Rattle.esc_laws.specs.Steps.{Turned, opening, is_called, called, EachStep, StepFits}
 use Rattle.esc_laws.specs.RestOpens.{waiting_steps, HasNoWindow, StaysWithout, RestCallsCap, OpensNone, CapOpensWindow}
 use Rattle.esc_laws.proofs.Pushes.{called-push, place-push}
 
@@ -92,7 +91,12 @@ entered_other f r p t k ne h = by_tests (k == 3) (k == 2) (k == 0) (kind_of k �
   where
     by_tests : (x a b : Bool) (stack : List Kind) → x ≡ false
         → NothingYet f r
-        (if x then record p { stack = stack; cap_entered = t; windows = 0; verdicts = 0; last = t } else if a then record p { stack = stack; ticks = 0; last = t } else if b then record p { stack = stack; saves = 0; last = t } else record p { stack = stack; last = t })
+        (if x then record p { stack = stack; cap_entered = t; windows = 0; verdicts = 0; last = t } else if a then record p {
+          stack = stack;
+          ticks = 0;
+          last =
+              t;
+        } else if b then record p { stack = stack; saves = 0; last = t } else record p { stack = stack; last = t })
     by_tests true a b stack e = absurd (let z = e in cc)
     by_tests false true b stack e = record { signal = h.signal; windows = h.windows; verdicts = h.verdicts }
     by_tests false false true stack e = record { signal = h.signal; windows = h.windows; verdicts = h.verdicts }
@@ -112,14 +116,14 @@ nothing_on loaded trace f r p back (note.Nothing t) o w h = absurd (answers_none
 nothing_on loaded trace f r p back (note.Bad t y) o w h = absurd (answers_none loaded trace p.signal f r p.cap_entered t.0 (note.Bad t y) h.signal w)
 nothing_on loaded trace f r p back n o w h = record { signal = h.signal; windows = h.windows; verdicts = h.verdicts }
 
-not_done : (f r : ℕ) (p : Place) → NothingYet f r p → HasDone kind.Cap p → ⊥
-not_done f r p h (inl v) = let z = h.verdicts in omega arith
-not_done f r p h (inr w) = let z = h.windows in let y = w.1 in omega arith
+not_done : (f r : ℕ) (p : Place) (back : List Note) → NothingYet f r p → HasDone kind.Cap p back → ⊥
+not_done f r p back h (inl v) = let z = h.verdicts in omega arith
+not_done f r p back h (inr w) = let z = h.windows in let y = w.1 in omega arith
 
 returns_not : (loaded : Loaded) (nest : Nest) (trace : List Event) (f r : ℕ) (before through after : List Note) (u : Tick) → NothingYet f r (place before)
     → All OpensNone through
     → Each (WindowRule loaded trace) before (through ++ note.Leave u 3 ∷ after) → Each (NestRule nest) before (through ++ note.Leave u 3 ∷ after) → ⊥
-returns_not loaded nest trace f r before [] after u h a w n = not_done f r (place before) h n.0.1
+returns_not loaded nest trace f r before [] after u h a w n = not_done f r (place before) (reverse before) h n.0.1
 returns_not loaded nest trace f r before (x ∷ through) after u h a w n =
     returns_not loaded nest trace f r (before ++ x ∷ []) through after u
     (rw (place-push before x) (nothing_on loaded trace f r (place before) (reverse before) x (All-head OpensNone x through a) w.0 h))

@@ -6,8 +6,7 @@ use Rattle.std.proofs.lemmas.List.Elements.{All-head, All-tail}
 use Rattle.esc_base.specs.declared.event.Event.{Event}
 use Rattle.esc_base.specs.declared.event.Event.TheVariants as event
 use Rattle.esc_base.specs.Trace.{tick_of}
-use Rattle.esc_laws.specs.Steps.{Turned, past_stall, free, next_step, after, uses}
-use Rattle.esc_laws.specs.Logged.{stall_end}
+use Rattle.esc_laws.specs.Steps.{stall_end, Turned, past_stall, free, next_step, after, uses}
 use Rattle.esc_laws.proofs.Pushes.{free-push, uses-more}
 
 -- ---- one event
@@ -80,7 +79,8 @@ pub after_before : (cost : ℕ) (trace : List Event) (e : Event) (log : List Tur
     → after cost (trace ++ e ∷ []) log ≡ after cost trace log
 after_before cost trace e log l = after_grows cost trace e log ∙ past_before e (after cost trace log) l
 
-pub uses_before : (cost : ℕ) (trace : List Event) (e : Event) (m t : ℕ) → uses cost trace m t < tick_of e → uses cost (trace ++ e ∷ []) m t ≡ uses cost trace m t
+pub uses_before : (cost : ℕ) (trace : List Event) (e : Event) (m t : ℕ) → uses cost trace m t < tick_of e
+    → uses cost (trace ++ e ∷ []) m t ≡ uses cost trace m t
 uses_before cost trace e zero t l = refl
 uses_before cost trace e (suc m) t l =
     let later = free_later trace (uses cost trace m t + cost) in

@@ -59,7 +59,7 @@ impl Lines {
         ensures no_fewer { S.faults src.old ≤ S.faults src.new }
     {
         loop {
-            if let Some(n) = self.held.line_feed() {
+            if let Some(n) = self.held.line_feed(LONGEST_LINE + 1) {
                 return Ok(n);
             }
             if self.held.len() > LONGEST_LINE {
