@@ -6,11 +6,9 @@ use Rattle.std.proofs.lemmas.List.{reverse-append}
 use Rattle.esc_base.specs.declared.kind.Kind.{Kind}
 use Rattle.esc_base.specs.declared.kind.Kind.TheVariants as kind
 use Rattle.esc_base.specs.Numbers.{kind_number}
-use Rattle.timer_regs.specs.Bank.{Bank}
-use Rattle.timer_regs.specs.Effects.{is_due}
 use Rattle.interrupt_machine.specs.declared.nest.Nest.{Nest}
 use Rattle.interrupt_machine.specs.declared.nest.Nest.TheVariants.{One, Full}
-use Rattle.interrupt_machine.specs.Open.{innermost, is_open, due_now, by_priority, highest, may_enter, enters_above, next_entry, is_idle, IsStack, IsAbove, outer_ones, kind_of}
+use Rattle.interrupt_machine.specs.Open.{innermost, is_open, by_priority, highest, may_enter, enters_above, next_entry, is_idle, IsStack, IsAbove, outer_ones, kind_of}
 use Rattle.interrupt_machine.specs.Turn.{IsHeld}
 
 -- the highest kind of two sets that agree
