@@ -145,3 +145,39 @@ broken_at x y z ps i d lt e f =
 pub on_err : {T E P : Type 0} (r : Result T E) → P → OnErr r P
 on_err (Ok x) p = tt
 on_err (Err x) p = p
+
+-- ---- pages of several pieces
+
+text_first : (items new : List Piece) (p : Piece) → items ≡ [] → new ≡ items ++ p ∷ [] → text new ≡ piece_text p
+text_first items new p none e = ap text (e ∙ ap (λ (ps : List Piece). ps ++ p ∷ []) none) ∙ append-nil (piece_text p)
+
+text_then : (items new : List Piece) (p : Piece) (before : List ℕ) → text items ≡ before → new ≡ items ++ p ∷ [] → text new ≡ before ++ piece_text p
+text_then items new p before was e = ap text e ∙ text_push items p ∙ ap (λ (b : List ℕ). b ++ piece_text p) was
+
+text_all : (items new more : List Piece) (before : List ℕ) → text items ≡ before → new ≡ items ++ more → text new ≡ before ++ text more
+text_all items new more before was e = ap text e ∙ flat_map-append piece_text items more ∙ ap (λ (b : List ℕ). b ++ text more) was
+
+pub head_of : (i0 i1 i2 i3 i4 i5 : List Piece) (p q r : Piece) (d v : List ℕ) → i0 ≡ [] → i1 ≡ i0 ++ p ∷ [] → text i2 ≡ text i1 ++ d → i3 ≡ i2 ++ q ∷ []
+    → text i4 ≡ text i3 ++ v → i5 ≡ i4 ++ r ∷ [] → text i5 ≡ piece_text p ++ d ++ piece_text q ++ v ++ piece_text r
+head_of i0 i1 i2 i3 i4 i5 p q r d v e0 e1 e2 e3 e4 e5 =
+    let f2 = e2 ∙ ap (λ (b : List ℕ). b ++ d) (text_first i0 i1 p e0 e1) in
+    let f3 = text_then i2 i3 q (piece_text p ++ d) f2 e3 in
+    let f4 = e4 ∙ ap (λ (b : List ℕ). b ++ v) f3 in
+    text_then i4 i5 r (((piece_text p ++ d) ++ piece_text q) ++ v) f4 e5
+
+pub line_of : (i0 i1 i2 i3 more i4 i5 : List Piece) (p q r s : Piece) → i0 ≡ [] → i1 ≡ i0 ++ p ∷ [] → i2 ≡ i1 ++ q ∷ [] → i3 ≡ i2 ++ r ∷ []
+    → i4 ≡ i3 ++ more → i5 ≡ i4 ++ s ∷ [] → text i5 ≡ piece_text p ++ piece_text q ++ piece_text r ++ text more ++ piece_text s
+line_of i0 i1 i2 i3 more i4 i5 p q r s e0 e1 e2 e3 e4 e5 =
+    let f2 = text_then i1 i2 q (piece_text p) (text_first i0 i1 p e0 e1) e2 in
+    let f3 = text_then i2 i3 r (piece_text p ++ piece_text q) f2 e3 in
+    let f4 = text_all i3 i4 more ((piece_text p ++ piece_text q) ++ piece_text r) f3 e4 in
+    text_then i4 i5 s (((piece_text p ++ piece_text q) ++ piece_text r) ++ text more) f4 e5
+
+pub pages_of : (i0 i1 i2 i3 i4 i5 p q r s t : List Piece) (a b c d e : List ℕ) → i0 ≡ [] → i1 ≡ i0 ++ p → i2 ≡ i1 ++ q → i3 ≡ i2 ++ r → i4 ≡ i3 ++ s
+    → i5 ≡ i4 ++ t → text p ≡ a → text q ≡ b → text r ≡ c → text s ≡ d → text t ≡ e → text i5 ≡ a ++ b ++ c ++ d ++ e
+pages_of i0 i1 i2 i3 i4 i5 p q r s t a b c d e e0 e1 e2 e3 e4 e5 f g h k l =
+    let f1 = text_all i0 i1 p [] (ap text e0) e1 ∙ f in
+    let f2 = text_all i1 i2 q a f1 e2 ∙ ap (λ (x : List ℕ). a ++ x) g in
+    let f3 = text_all i2 i3 r (a ++ b) f2 e3 ∙ ap (λ (x : List ℕ). (a ++ b) ++ x) h in
+    let f4 = text_all i3 i4 s ((a ++ b) ++ c) f3 e4 ∙ ap (λ (x : List ℕ). ((a ++ b) ++ c) ++ x) k in
+    text_all i4 i5 t (((a ++ b) ++ c) ++ d) f4 e5 ∙ ap (λ (x : List ℕ). (((a ++ b) ++ c) ++ d) ++ x) l

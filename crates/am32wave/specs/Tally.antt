@@ -75,20 +75,25 @@ with_tally c n = record {
   crossings = more c.crossings (is_crossing n);
 }
 
+-- ---- the summary, line by line
+
+-- good frames, and bad ones by the number of edges and the polarity
+abbrev pub frames : Tally → List ℕ
+frames c =
+    codes "good frames " ++ decimal c.good ++ codes "\nbad frames: number of edges " ++ decimal c.bad_count ++ codes ", polarity " ++ decimal c.bad_polarity
+
+-- bad frames by the span, the width of a bit and the checksum
+abbrev pub bad_frames : Tally → List ℕ
+bad_frames c = codes ", span " ++ decimal c.bad_span ++ codes ", width of a bit " ++ decimal c.bad_width ++ codes ", checksum " ++ decimal c.bad_check
+
+abbrev pub detections_and_armings : Tally → List ℕ
+detections_and_armings c = codes "\ndetected " ++ decimal c.detected ++ codes ", nothing " ++ decimal c.nothing ++ codes "\narmed " ++ decimal c.armed
+
+abbrev pub losses : Tally → List ℕ
+losses c = codes "\nlost: timeout " ++ decimal c.timeout ++ codes ", stuck " ++ decimal c.stuck ++ codes ", fuse " ++ decimal c.fuse
+
+abbrev pub commutations : Tally → List ℕ
+commutations c = codes "\ncommutations " ++ decimal c.commutations ++ codes "\ncrossings " ++ decimal c.crossings ++ codes "\n"
+
 abbrev pub summary : Tally → List ℕ
-summary c =
-    codes "good frames " ++ decimal c.good
-    ++ codes "\nbad frames: number of edges " ++ decimal c.bad_count
-    ++ codes ", polarity " ++ decimal c.bad_polarity
-    ++ codes ", span " ++ decimal c.bad_span
-    ++ codes ", width of a bit " ++ decimal c.bad_width
-    ++ codes ", checksum " ++ decimal c.bad_check
-    ++ codes "\ndetected " ++ decimal c.detected
-    ++ codes ", nothing " ++ decimal c.nothing
-    ++ codes "\narmed " ++ decimal c.armed
-    ++ codes "\nlost: timeout " ++ decimal c.timeout
-    ++ codes ", stuck " ++ decimal c.stuck
-    ++ codes ", fuse " ++ decimal c.fuse
-    ++ codes "\ncommutations " ++ decimal c.commutations
-    ++ codes "\ncrossings " ++ decimal c.crossings
-    ++ codes "\n"
+summary c = frames c ++ bad_frames c ++ detections_and_armings c ++ losses c ++ commutations c

@@ -41,10 +41,14 @@ head =
     ++ values first_id (picture []) wires
     ++ codes "$end\n"
 
+-- the stamp of a tick, where another one stood before
+abbrev pub stamp_if_new : ℕ → ℕ → List ℕ
+stamp_if_new before t = if t == before then [] else stamp_text t
+
 -- a note's part, by the notes before it: the stamp of its tick, where that is a later one, and then what the note changes
 abbrev pub part : List Note → Note → List ℕ
 part before n =
-    (if time_of n == last_time before then [] else stamp_text (time_of n))
+    stamp_if_new (last_time before) (time_of n)
     ++ changes first_id (picture before) (picture (before ++ n ∷ [])) wires
 
 -- the parts of these notes, which stand behind those

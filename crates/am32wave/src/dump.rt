@@ -2,9 +2,9 @@
 ghost use Rattle.std.specs.Prelude.{◌≡◌, ◌≤◌, ◌+◌, ◌∷◌, ◌++◌, [], List, All, length};
 ghost use Rattle.arrayvec.specs.ArrayVec.{array_vec_len};
 ghost use Rattle.esc_base.specs.declared.note.Note.{Note as ANote};
-ghost use Rattle.esc_base.specs.Range.{InRange};
+ghost use Rattle.esc_base.specs.Range.{InRange, IsWord};
 ghost use Rattle.am32wave.specs.Pieces.{text, Fits};
-ghost use Rattle.am32wave.specs.Wave.{declarations, values, changes, first_id, head, part};
+ghost use Rattle.am32wave.specs.Wave.{declarations, values, changes, first_id, head, stamp_if_new, part};
 ghost use Rattle.am32wave.specs.After.{IsDumpAfter as IsAfter};
 
 use crate::journal::time_of;
@@ -64,6 +64,19 @@ fn push_values(wires: &[Wire], picture: &Picture, page: &mut Page)
             width: wire.width(),
             value: wire.value(picture),
         });
+    }
+}
+
+/// The stamp of a tick that isn't the one before.
+fn push_stamp(before: Tick, t: Tick, page: &mut Page)
+    requires word { IsWord t.0 }
+    requires empty { page.old.items ≡ [] }
+    ensures text { text page.new.items ≡ stamp_if_new before.0 t.0 }
+    ensures fits { All Fits page.new.items }
+    ensures len { array_vec_len page.new ≤ 1 }
+{
+    if t != before {
+        page.push(Piece::Stamp(t));
     }
 }
 
@@ -128,9 +141,7 @@ impl Dump {
         ensures goes_on { (notes : List ANote) → IsAfter self.old notes → IsAfter self.new (notes ++ note.now ∷ []) }
     {
         let time = time_of(note);
-        if time != self.time {
-            page.push(Piece::Stamp(time));
-        }
+        push_stamp(self.time, time, page);
         let after = self.picture.after(note);
         push_changes(&WIRES, &self.picture, &after, page);
         self.picture = after;

@@ -1,6 +1,5 @@
 //! A journal in words, a line for each note, and a summary.
-ghost use Rattle.std.specs.Prelude.{◌≡◌, ◌≤◌, ◌+◌, ◌∷◌, ◌++◌, [], List, All, length};
-ghost use Rattle.arrayvec.specs.ArrayVec.{array_vec_len};
+ghost use Rattle.std.specs.Prelude.{◌≡◌, ◌≤◌, ◌+◌, ◌∷◌, ◌++◌, [], List, All};
 ghost use Rattle.esc_base.specs.declared.note.Note.{Note as ANote};
 ghost use Rattle.esc_base.specs.Range.{InRange};
 ghost use Rattle.am32wave.specs.Pieces.{text, Fits};
@@ -10,7 +9,7 @@ ghost use Rattle.am32wave.specs.After.{IsToldAfter as IsAfter};
 
 use crate::journal::time_of;
 use crate::picture::Handlers;
-use crate::pieces::{Page, Piece};
+use crate::pieces::{Page, Piece, push_all};
 use crate::sentence::sentence;
 use crate::tally::Tally;
 use esc_base::Note;
@@ -29,15 +28,6 @@ fn indent(depth: u32) -> &'static str
         5 => "          ",
         6 => "            ",
         _ => "              ",
-    }
-}
-
-fn push_all(pieces: &[Piece], page: &mut Page)
-    requires room { array_vec_len page.old + length pieces.now ≤ 128 }
-    ensures { page.new.items ≡ page.old.items ++ pieces.now }
-{
-    for piece in pieces {
-        page.push(*piece);
     }
 }
 
@@ -84,6 +74,6 @@ impl Explanation {
         ensures fits { All Fits page.new.items }
         ensures summary { (notes : List ANote) → IsAfter self.now notes → text page.new.items ≡ summary (tally notes) }
     {
-        push_all(&self.tally.summary(), page);
+        self.tally.summary(page);
     }
 }

@@ -1,7 +1,8 @@
 //! What is written, as pieces of text.
-ghost use Rattle.std.specs.Prelude.{◌≡◌, ◌≤◌, ◌<◌, false, All, OnOk, OnErr, decimal};
+ghost use Rattle.std.specs.Prelude.{◌≡◌, ◌≤◌, ◌<◌, ◌+◌, ◌++◌, length, false, All, OnOk, OnErr, decimal};
 ghost use Rattle.std.specs.Fmt.{digit_glyph};
 ghost use Rattle.std.specs.Io.KnownBytes.{append_known};
+ghost use Rattle.arrayvec.specs.ArrayVec.{array_vec_len};
 ghost use Rattle.esc_base.specs.Outside.{Rose, AppendsFront};
 ghost use Rattle.esc_base.specs.Range.{IsWord};
 ghost use Rattle.trace_text.specs.Text.{hex, bits};
@@ -41,6 +42,16 @@ impl Default for Piece {
 
 /// The pieces that are written at once: a note's, the head's or the end's.
 pub type Page = ArrayVec<Piece, 128>;
+
+/// Puts pieces behind those of a page.
+pub fn push_all(pieces: &[Piece], page: &mut Page)
+    requires room { array_vec_len page.old + length pieces.now ≤ 128 }
+    ensures { page.new.items ≡ page.old.items ++ pieces.now }
+{
+    for piece in pieces {
+        page.push(*piece);
+    }
+}
 
 /// The whole microseconds of a tick, and three digits behind the point: whole nanoseconds, rounded down.
 fn time_text(t: Tick) -> Line

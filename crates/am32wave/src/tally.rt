@@ -1,9 +1,9 @@
 //! How many notes of each sort a journal has.
 ghost use Rattle.std.specs.Prelude.{◌≡◌, [], All};
 ghost use Rattle.am32wave.specs.Pieces.{text, Fits};
-ghost use Rattle.am32wave.specs.Tally.{tally, more, with_tally, summary};
+ghost use Rattle.am32wave.specs.Tally.{tally, more, with_tally, frames, bad_frames, detections_and_armings, losses, commutations, summary};
 
-use crate::pieces::Piece;
+use crate::pieces::{Page, Piece, push_all};
 use esc_base::Note;
 
 /// The counts of a summary. A journal has fewer than 2^32 notes.
@@ -77,9 +77,9 @@ impl Tally {
         }
     }
 
-    /// The summary that stands at the end.
-    pub fn summary(&self) -> [Piece; 29]
-        ensures text { text result ≡ summary self.now }
+    /// Good frames, and bad ones by the number of edges and the polarity.
+    fn frames(&self) -> [Piece; 6]
+        ensures text { text result ≡ frames self.now }
         ensures fits { All Fits result }
     {
         [
@@ -89,29 +89,75 @@ impl Tally {
             Piece::Number(self.bad_count),
             Piece::Text(", polarity "),
             Piece::Number(self.bad_polarity),
+        ]
+    }
+
+    /// Bad frames by the span, the width of a bit and the checksum.
+    fn bad_frames(&self) -> [Piece; 6]
+        ensures text { text result ≡ bad_frames self.now }
+        ensures fits { All Fits result }
+    {
+        [
             Piece::Text(", span "),
             Piece::Number(self.bad_span),
             Piece::Text(", width of a bit "),
             Piece::Number(self.bad_width),
             Piece::Text(", checksum "),
             Piece::Number(self.bad_check),
+        ]
+    }
+
+    fn detections_and_armings(&self) -> [Piece; 6]
+        ensures text { text result ≡ detections_and_armings self.now }
+        ensures fits { All Fits result }
+    {
+        [
             Piece::Text("\ndetected "),
             Piece::Number(self.detected),
             Piece::Text(", nothing "),
             Piece::Number(self.nothing),
             Piece::Text("\narmed "),
             Piece::Number(self.armed),
+        ]
+    }
+
+    fn losses(&self) -> [Piece; 6]
+        ensures text { text result ≡ losses self.now }
+        ensures fits { All Fits result }
+    {
+        [
             Piece::Text("\nlost: timeout "),
             Piece::Number(self.timeout),
             Piece::Text(", stuck "),
             Piece::Number(self.stuck),
             Piece::Text(", fuse "),
             Piece::Number(self.fuse),
+        ]
+    }
+
+    fn commutations(&self) -> [Piece; 5]
+        ensures text { text result ≡ commutations self.now }
+        ensures fits { All Fits result }
+    {
+        [
             Piece::Text("\ncommutations "),
             Piece::Number(self.commutations),
             Piece::Text("\ncrossings "),
             Piece::Number(self.crossings),
             Piece::Text("\n"),
         ]
+    }
+
+    /// The summary that stands at the end.
+    pub fn summary(&self, page: &mut Page)
+        requires empty { page.old.items ≡ [] }
+        ensures text { text page.new.items ≡ summary self.now }
+        ensures fits { All Fits page.new.items }
+    {
+        push_all(&self.frames(), page);
+        push_all(&self.bad_frames(), page);
+        push_all(&self.detections_and_armings(), page);
+        push_all(&self.losses(), page);
+        push_all(&self.commutations(), page);
     }
 }
