@@ -8,3 +8,4 @@ pub mod Explained
 pub mod Reading
 pub mod After
 pub mod Status
+pub mod Shown

@@ -1,7 +1,10 @@
 //! A journal, read note by note from a source.
 ghost use Rattle.esc_base.specs.Journal.{time_of};
-ghost use Rattle.std.specs.Prelude.{◌≡◌};
+ghost use Rattle.std.specs.Prelude.{◌≡◌, ◌≤◌, ◌+◌, [], ℕ, List, Option, IfOk, IfErr};
+ghost use Rattle.esc_base.specs.Outside.{Rose};
+ghost use Rattle.am32wave.specs.Reading.{IsEnded, Stops, Says, OnFault};
 
+use crate::reader::Journal;
 use esc_base::{Note, Source, Tick};
 use trace_text::{Held, note_read};
 
@@ -37,14 +40,6 @@ pub enum Item {
     Refused(Refusal),
 }
 
-/// Reads a journal from a source, in constant memory.
-#[derive(Drop)]
-pub struct Journal {
-    held: Held,
-    line: u64,
-    time: Tick,
-}
-
 /// When a note was made.
 pub fn time_of(note: &Note) -> Tick
     ensures { result.0 ≡ time_of note.now }
@@ -76,8 +71,14 @@ pub fn time_of(note: &Note) -> Tick
 }
 
 impl Journal {
+    ghost use Rattle.trace_text.specs.Ahead.{unread, ahead};
+
     /// A reader before the first line.
-    pub fn new() -> Journal {
+    pub fn new() -> Journal
+        ensures unread { unread result.held ≡ [] }
+        ensures line { result.line ≡ 0 }
+        ensures time { result.time.0 ≡ 0 }
+    {
         Journal {
             held: Held::new(),
             line: 0,
@@ -86,12 +87,23 @@ impl Journal {
     }
 
     /// How many lines were read.
-    pub fn line(&self) -> u64 {
+    pub fn line(&self) -> u64
+        ensures line { result ≡ self.now.line }
+        ensures few { result ≤ 4294967295 }
+    {
         self.line
     }
 
     /// The length of the next line, which is then held with its line feed.
-    fn find_line<S: Source>(&mut self, src: &mut S) -> Result<usize, Item> {
+    fn find_line<S: Source>(&mut self, src: &mut S) -> Result<usize, Item>
+        ensures ahead { ahead self.new.held (S.left src.new) ≡ ahead self.old.held (S.left src.old) }
+        ensures line { self.new.line ≡ self.old.line }
+        ensures time { self.new.time ≡ self.old.time }
+        ensures found { IfOk result (λ n. IsEnded n (unread self.new.held)) }
+        ensures stops { IfErr result (λ item. Stops item self.old.line self.old.time.0 (ahead self.old.held (S.left src.old)) (S.left src.new)) }
+        ensures no_fewer { S.faults src.old ≤ S.faults src.new }
+        ensures fault { IfErr result (λ item. OnFault item (Rose (S.faults src.old) (S.faults src.new))) }
+    {
         loop {
             if let Some(n) = self.held.line_feed(LONGEST_LINE + 1) {
                 return Ok(n);
@@ -109,12 +121,16 @@ impl Journal {
     }
 
     /// Reads the line of `n` bytes that is held with its line feed.
-    fn read_line(&mut self, n: usize) -> Item {
+    fn read_line(&mut self, n: usize) -> Item
+        requires { IsEnded n (unread self.old.held) }
+        ensures says { (left : Option (List ℕ)) → Says result self.old self.new (ahead self.old.held left) (ahead self.new.held left) left }
+        ensures no_fault { OnFault result ⊥ }
+    {
         let Some(note) = note_read(self.held.front(n + 1)) else {
             return Item::Refused(Refusal::NotANote);
         };
         let time = time_of(&note);
-        if time < self.time {
+        if time.0 < self.time.0 {
             return Item::Refused(Refusal::TimeBack);
         }
         if self.line == MOST_LINES {
@@ -127,7 +143,11 @@ impl Journal {
     }
 
     /// The next line's note, the end of the journal, or why there is none.
-    pub fn next<S: Source>(&mut self, src: &mut S) -> Item {
+    pub fn next<S: Source>(&mut self, src: &mut S) -> Item
+        ensures says { Says result self.old self.new (ahead self.old.held (S.left src.old)) (ahead self.new.held (S.left src.new)) (S.left src.new) }
+        ensures no_fewer { S.faults src.old ≤ S.faults src.new }
+        ensures fault { OnFault result (Rose (S.faults src.old) (S.faults src.new)) }
+    {
         match self.find_line(src) {
             Ok(n) => self.read_line(n),
             Err(item) => item,

@@ -7,6 +7,7 @@ mod journal;
 mod picture;
 mod pieces;
 mod pipe;
+mod reader;
 mod run;
 mod sentence;
 mod status;
