@@ -9,3 +9,4 @@ pub mod Reading
 pub mod After
 pub mod Status
 pub mod Shown
+pub mod Laws

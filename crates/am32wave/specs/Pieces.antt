@@ -20,6 +20,10 @@ time_text t = decimal (t / 48) ++ 46 ∷ three_digits (t % 48 * 1000 / 48) ++ co
 abbrev pub stamp : ℕ → ℕ
 stamp t = t * 62500 / 3
 
+-- the tick of a stamp
+abbrev pub tick_of : ℕ → ℕ
+tick_of s = (3 * s + 2) / 62500
+
 abbrev pub stamp_text : ℕ → List ℕ
 stamp_text t = 35 ∷ decimal (stamp t) ++ 10 ∷ []
 

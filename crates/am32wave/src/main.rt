@@ -4,6 +4,7 @@
 mod dump;
 mod explain;
 mod journal;
+mod laws;
 mod picture;
 mod pieces;
 mod pipe;
@@ -18,6 +19,7 @@ mod usage;
 mod wire;
 
 use esc_base::{InSource, OutSink, Sink, Source};
+pub use laws::gates_follow_notes;
 use pipe::PipeEnd;
 use run::{Form, wave_main};
 use status::{Status, status_text};

@@ -6,7 +6,7 @@ ghost use Rattle.arrayvec.specs.ArrayVec.{array_vec_len};
 ghost use Rattle.esc_base.specs.Outside.{Rose, AppendsFront};
 ghost use Rattle.esc_base.specs.Range.{IsWord};
 ghost use Rattle.trace_text.specs.Text.{hex, bits};
-ghost use Rattle.am32wave.specs.Pieces.{time_text, stamp, stamp_text, declaration, change, piece_text, text, Fits};
+ghost use Rattle.am32wave.specs.Pieces.{time_text, stamp, tick_of, stamp_text, declaration, change, piece_text, text, Fits};
 
 use crate::wire::Wire;
 use arrayvec::ArrayVec;
@@ -103,10 +103,11 @@ fn bits_text(b: u32) -> Line
     line
 }
 
-/// The stamp of a tick: the whole picoseconds up to it. A tick of 48 MHz is 62500 / 3 of them.
+/// The stamp of a tick: the whole picoseconds up to it, of which three ticks of 48 MHz are 62500. It tells the tick.
 pub fn stamp(t: Tick) -> u64
     requires { IsWord t.0 }
-    ensures { result ≡ stamp t.0 }
+    ensures stamp { result ≡ stamp t.0 }
+    ensures tells { tick_of result ≡ t.0 }
 {
     t.0 * 62500 / 3
 }
