@@ -1,6 +1,5 @@
 -- Where a note's line stands in a text, and where none does.
-use Rattle.std.proofs.Common.{◌≡◌, ◌≢◌, ◌≤◌, ◌<◌, ℕ, zero, suc, ◌+◌, ◌/◌, ◌%◌, Bool, true, false, ◌==◌, min, List, [], ◌∷◌, ◌++◌, length, take, drop, get_or, position, Option, Some, None, refl, sym, ◌∙◌, ap, subst, arith, append_assoc, length-append}
-use Rattle.std.specs.List.{All}
+use Rattle.std.proofs.Common.{◌≡◌, ◌≤◌, ◌<◌, ℕ, zero, suc, ◌+◌, ◌/◌, ◌%◌, false, ◌==◌, min, List, [], ◌∷◌, ◌++◌, length, take, drop, get_or, position, Option, Some, None, refl, sym, ◌∙◌, ap, subst, arith, append_assoc, length-append}
 use Rattle.std.specs.Io.KnownBytes.{prepend_known, IsAtEnd}
 use Rattle.std.proofs.lemmas.List.Elements.{All-head, All-tail, All-cons, All-nil}
 use Rattle.std.specs.List.{sum_by}
@@ -15,7 +14,7 @@ use Rattle.esc_base.specs.declared.note.Note.{Note}
 use Rattle.esc_base.specs.Range.{InRange}
 use Rattle.trace_text.specs.Ahead.{NoLineFeed}
 use Rattle.esc_base.specs.declared.note.Note.TheVariants as note
-use Rattle.trace_text.specs.Text.{spaced, bits, note_fields, note_bytes, Text}
+use Rattle.trace_text.specs.Text.{spaced, bits, note_fields, note_bytes}
 use Rattle.trace_text.proofs.NoteBack.{NoFeed, note_front, no_feed_front}
 use Rattle.trace_text.proofs.OneText.{one_text}
 use Rattle.trace_text.proofs.Digits.{length_decimal_most}
@@ -23,7 +22,7 @@ use Rattle.trace_text.proofs.Spacing.{no_bits, bits_suc}
 use Rattle.trace_text.proofs.Fields.{no_place}
 use Rattle.trace_text.proofs.Cut.{no_feed_before}
 use Rattle.trace_text.proofs.Taking.{prepend_both}
-use Rattle.am32wave.specs.Reading.{IsEnded, NoteAhead, IsNoNote, IsBack, IsCutOff, OnlyPart}
+use Rattle.am32wave.specs.Reading.{IsEnded, NoteAhead, IsNoNote, IsCutOff, OnlyPart}
 
 -- ---- line feeds
 
@@ -86,14 +85,17 @@ small : (n : ℕ) → n < 4294967296 → length (decimal n) ≤ 10
 small n lt = length_decimal_most n (omega arith)
 
 front_short : (n : Note) → InRange n → length (note_front n) ≤ 45
-front_short (note.Up t r) h = let e = length-spaced (note_fields (note.Up t r)) in let a = small t.0 (omega arith) in let b = small r (omega arith) in omega arith
+front_short (note.Up t r) h =
+    let e = length-spaced (note_fields (note.Up t r)) in let a = small t.0 (omega arith) in let b = small r (omega arith) in omega arith
 front_short (note.Enter t k) h = let e = length-spaced (note_fields (note.Enter t k)) in let a = small t.0 h.0 in let b = small k (omega arith) in omega arith
 front_short (note.Leave t k) h = let e = length-spaced (note_fields (note.Leave t k)) in let a = small t.0 h.0 in let b = small k (omega arith) in omega arith
 front_short (note.Gate t hi lo) h =
-    let e = length-spaced (note_fields (note.Gate t hi lo)) in let a = small t.0 h.0 in let b = small hi (omega arith) in let d = small lo (omega arith) in omega arith
+    let e = length-spaced (note_fields (note.Gate t hi lo)) in
+    let a = small t.0 h.0 in let b = small hi (omega arith) in let d = small lo (omega arith) in omega arith
 front_short (note.Window t m) h = let e = length-spaced (note_fields (note.Window t m)) in let a = small t.0 h.0 in let b = small m (omega arith) in omega arith
 front_short (note.Good t v q) h =
-    let e = length-spaced (note_fields (note.Good t v q)) in let a = small t.0 h.0 in let b = small v (omega arith) in let d = small q (omega arith) in omega arith
+    let e = length-spaced (note_fields (note.Good t v q)) in
+    let a = small t.0 h.0 in let b = small v (omega arith) in let d = small q (omega arith) in omega arith
 front_short (note.Detected t m) h =
     let e = length-spaced (note_fields (note.Detected t m)) in let a = small t.0 h.0 in let b = small m (omega arith) in omega arith
 front_short (note.Nothing t) h = let e = length-spaced (note_fields (note.Nothing t)) in let a = small t.0 h in omega arith
@@ -103,7 +105,8 @@ front_short (note.Control t n s d) h =
     let a = small t.0 h.0 in let b = small n h.1.0 in let c = small s (omega arith) in let f = small d (omega arith) in omega arith
 front_short (note.Armed t) h = let e = length-spaced (note_fields (note.Armed t)) in let a = small t.0 h in omega arith
 front_short (note.Lost t c) h = let e = length-spaced (note_fields (note.Lost t c)) in let a = small t.0 h.0 in let b = small c (omega arith) in omega arith
-front_short (note.Command t c) h = let e = length-spaced (note_fields (note.Command t c)) in let a = small t.0 h.0 in let b = small c (omega arith) in omega arith
+front_short (note.Command t c) h =
+    let e = length-spaced (note_fields (note.Command t c)) in let a = small t.0 h.0 in let b = small c (omega arith) in omega arith
 front_short (note.Saved t r) h = let e = length-spaced (note_fields (note.Saved t r)) in let a = small t.0 h.0 in let b = small r (omega arith) in omega arith
 front_short (note.Step t s) h = let e = length-spaced (note_fields (note.Step t s)) in let a = small t.0 h.0 in let b = small s (omega arith) in omega arith
 front_short (note.Cross t) h = let e = length-spaced (note_fields (note.Cross t)) in let a = small t.0 h in omega arith
@@ -153,7 +156,8 @@ cut_ahead held rest n h =
 -- a note whose line stands first has the line that is held
 line_held : (held rest more : List ℕ) (n : ℕ) (m : Note) → IsEnded n held → InRange m → held ++ rest ≡ note_bytes m ++ more → note_bytes m ≡ take (n + 1) held
 line_held held rest more n m h k e =
-    let s = same_front (take n held) (note_front m) (drop (n + 1) held ++ rest) more h.one (front_feedless m k) (sym (cut_ahead held rest n h) ∙ e ∙ line_then m more) in
+    let s = same_front (take n held) (note_front m) (drop (n + 1) held ++ rest) more h.one (front_feedless m k)
+    (sym (cut_ahead held rest n h) ∙ e ∙ line_then m more) in
     ap (λ (front : List ℕ). front ++ 10 ∷ []) (sym s.0) ∙ sym h.ends
 
 nothing_held : (held rest : List ℕ) → 0 < length held → held ++ rest ≡ [] → ⊥
@@ -176,7 +180,8 @@ too_long held (Some rest) h lt = record {
       let short = front_short m k in
       let len = length-take 46 held in
       no_end_within (take 46 held) (drop 46 held ++ rest) (note_front m) more h (omega arith)
-      (sym (append_assoc (take 46 held) (drop 46 held) rest) ∙ ap (λ (bytes : List ℕ). bytes ++ rest) (take-append-drop 46 held) ∙ same_Some _ _ e ∙ line_then m more);
+      (sym (append_assoc (take 46 held) (drop 46 held) rest) ∙ ap (λ (bytes : List ℕ). bytes ++ rest) (take-append-drop 46 held)
+      ∙ same_Some _ _ e ∙ line_then m more);
 }
 
 -- a note's line was read, and what is held then stands behind it
@@ -213,7 +218,8 @@ at_end (Some rest) text e h = rw (e, h) refl
 pub ended : (held : List ℕ) (left text : Option (List ℕ)) → text ≡ prepend_known held left → length held ≡ 0 → IsAtEnd left → IsAtEnd text
 ended held left text e none end = at_end left text (e ∙ ap (λ (bytes : List ℕ). prepend_known bytes left) (empty held none)) end
 
-pub part_only : (held : List ℕ) (left text : Option (List ℕ)) → text ≡ prepend_known held left → NoLineFeed (take 46 held) → length held ≤ 45 → OnlyPart text left
+pub part_only : (held : List ℕ) (left text : Option (List ℕ)) → text ≡ prepend_known held left → NoLineFeed (take 46 held) → length held ≤ 45
+    → OnlyPart text left
 part_only held left text e h le = record { bytes = held; is_front = e; no_line = whole_short held h le }
 
 -- bytes without a line feed, with nothing behind them, hold no note's line

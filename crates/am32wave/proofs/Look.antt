@@ -4,9 +4,7 @@ use Rattle.std.specs.List.{count_by}
 use Rattle.std.proofs.lemmas.List.Sums.{sum_by-append}
 use Rattle.esc_base.specs.declared.note.Note.{Note}
 use Rattle.esc_base.specs.Journal.{time_of}
-use Rattle.am32wave.specs.declared.picture.Heard.{Heard}
 use Rattle.am32wave.specs.declared.picture.Heard.TheVariants as heard
-use Rattle.am32wave.specs.declared.tally.Tally.{Tally}
 use Rattle.am32wave.specs.Picture.{newest, count, high_told, low_told, sector_told, is_crossing, period_told, drive, with_drive, armed_told, demand_told, marks_told, cause_told, command_told, is_loss, is_command, is_save, control, with_control, heard_told, mode_told, value_told, telemetry_told, reply_told, is_reply, signal, with_signal, open_told, handlers, with_handlers, depth, picture, with_note, last_time}
 use Rattle.am32wave.specs.declared.picture.Picture.{Picture}
 use Rattle.am32wave.specs.declared.wire.Wire.{Wire}
@@ -15,7 +13,7 @@ use Rattle.am32wave.specs.Pieces.{time_text}
 use Rattle.am32wave.specs.Sentence.{words}
 use Rattle.am32wave.specs.Explained.{indent, depth_round, line}
 use Rattle.am32wave.specs.Wave.{changes, first_id, stamp_if_new}
-use Rattle.am32wave.specs.Tally.{is_good, is_bad, is_detected, is_nothing, is_armed, is_lost, is_commutation, tally, with_tally, more}
+use Rattle.am32wave.specs.Tally.{is_good, is_bad, is_detected, is_nothing, is_armed, is_lost, is_commutation, tally, with_tally}
 
 newest_more : {A : Type 0} (tells : Note → Option A) (first : A) (notes : List Note) (n : Note)
     → newest tells first (notes ++ n ∷ []) ≡ unwrap_or (tells n) (newest tells first notes)
@@ -28,9 +26,11 @@ count_by_more is notes n = sum_by-append (λ x. if is x then 1 else 0) notes (n 
 count_as : (is : Note → Bool) (notes : List Note) (n : Note) (b : Bool) → is n ≡ b
     → count is (notes ++ n ∷ []) ≡ (if b then (count is notes + 1) % 4294967296 else count is notes)
 count_as is notes n true e =
-    let c : count_by is (notes ++ n ∷ []) ≡ count_by is notes + 1 = count_by_more is notes n ∙ ap (λ (b : Bool). count_by is notes + (if b then 1 else 0)) e in omega arith
+    let c : count_by is (notes ++ n ∷ []) ≡ count_by is notes + 1 = count_by_more is notes n
+    ∙ ap (λ (b : Bool). count_by is notes + (if b then 1 else 0)) e in omega arith
 count_as is notes n false e =
-    let c : count_by is (notes ++ n ∷ []) ≡ count_by is notes + 0 = count_by_more is notes n ∙ ap (λ (b : Bool). count_by is notes + (if b then 1 else 0)) e in omega arith
+    let c : count_by is (notes ++ n ∷ []) ≡ count_by is notes + 0 = count_by_more is notes n
+    ∙ ap (λ (b : Bool). count_by is notes + (if b then 1 else 0)) e in omega arith
 
 pub count_more : (is : Note → Bool) (notes : List Note) (n : Note)
     → count is (notes ++ n ∷ []) ≡ (if is n then (count is notes + 1) % 4294967296 else count is notes)

@@ -1,5 +1,5 @@
 -- One piece more, and one wire more.
-use Rattle.std.proofs.Common.{◌≡◌, ◌≢◌, ◌≤◌, ◌<◌, ℕ, ◌+◌, Bool, true, false, ◌==◌, if◌then◌else◌, List, [], ◌∷◌, ◌++◌, All, Option, Some, None, Result, Ok, Err, OnErr, length, take, drop, get_or, add-one, drop-cons, refl, sym, ◌∙◌, ap, subst, append_assoc, append-nil, arith}
+use Rattle.std.proofs.Common.{◌≡◌, ◌≢◌, ◌≤◌, ◌<◌, ℕ, ◌+◌, Bool, true, false, ◌==◌, if◌then◌else◌, List, [], ◌∷◌, ◌++◌, Option, Some, None, Result, Ok, Err, OnErr, length, take, drop, get_or, add-one, drop-cons, refl, sym, ◌∙◌, ap, append_assoc, append-nil, arith}
 use Rattle.std.proofs.lemmas.List.Concat.{flat_map-append}
 use Rattle.std.proofs.lemmas.List.{take-append-drop}
 use Rattle.std.proofs.Math.ListN.{drop_of_length-le}
@@ -42,7 +42,8 @@ pub declared : (items new : List Piece) (id : ℕ) (ws : List Wire) (i : ℕ) (d
     → new ≡ items ++ piece.Declaration (id + i) (get_or ws i d) ∷ [] → text items ++ declarations (id + i) (drop i ws) ≡ whole
     → text new ++ declarations (id + (i + 1)) (drop (i + 1) ws) ≡ whole
 declared items new id ws i d whole lt e g =
-    moved items new (piece.Declaration (id + i) (get_or ws i d)) (declaration (id + i) (get_or ws i d)) (declarations (id + (i + 1)) (drop (i + 1) ws)) whole e refl
+    moved items new (piece.Declaration (id + i) (get_or ws i d)) (declaration (id + i) (get_or ws i d))
+    (declarations (id + (i + 1)) (drop (i + 1) ws)) whole e refl
     (rw (← declarations_at id ws i d lt) g)
 
 values_cons : (id : ℕ) (p : Picture) (w : Wire) (ws : List Wire) → values id p (w ∷ ws) ≡ change id (width w) (value w p) ++ values (id + 1) p ws
@@ -120,13 +121,15 @@ append_known-twice (Some bs) xs ys = ap (λ (x : List ℕ). Some x) (sym (append
 append_known-twice None xs ys = refl
 
 -- a front of what comes behind, and more behind that
-pub front_behind : (x y z : Option (List ℕ)) (done bytes rest whole : List ℕ) → y ≡ append_known x done → AppendsFront y bytes z → done ++ (bytes ++ rest) ≡ whole
+pub front_behind : (x y z : Option (List ℕ)) (done bytes rest whole : List ℕ) → y ≡ append_known x done → AppendsFront y bytes z
+    → done ++ (bytes ++ rest) ≡ whole
     → AppendsFront x whole z
 front_behind x y z done bytes rest whole e f w = record {
   front = done ++ f.front;
   rest = f.rest ++ rest;
   is_front =
-      append_assoc done f.front (f.rest ++ rest) ∙ ap (λ (b : List ℕ). done ++ b) (sym (append_assoc f.front f.rest rest) ∙ ap (λ (b : List ℕ). b ++ rest) f.is_front)
+      append_assoc done f.front (f.rest ++ rest)
+      ∙ ap (λ (b : List ℕ). done ++ b) (sym (append_assoc f.front f.rest rest) ∙ ap (λ (b : List ℕ). b ++ rest) f.is_front)
       ∙ w;
   appended = f.appended ∙ ap (λ (o : Option (List ℕ)). append_known o f.front) e ∙ sym (append_known-twice x done f.front);
 }

@@ -1,15 +1,15 @@
 -- A journal is read and shown note by note.
-use Rattle.std.proofs.Common.{◌≡◌, ◌≤◌, ◌<◌, ℕ, ◌+◌, List, [], ◌∷◌, ◌++◌, length, Option, Some, None, Result, Ok, Err, OnErr, OnOk, refl, sym, ◌∙◌, ap, subst, append_assoc, append-nil, length-append, arith}
+use Rattle.std.proofs.Common.{◌≡◌, ◌≤◌, ◌<◌, ℕ, ◌+◌, List, [], ◌∷◌, ◌++◌, length, Option, Some, None, Result, Ok, Err, OnOk, refl, sym, ◌∙◌, ap, subst, append_assoc, append-nil, length-append, arith}
 use Rattle.std.specs.List.{All}
 use Rattle.std.specs.Io.KnownBytes.{prepend_known, append_known, IsAtEnd}
 use Rattle.std.proofs.lemmas.Option.{same_Some}
 use Rattle.std.proofs.lemmas.List.Concat.{flat_map-append}
-use Rattle.std.proofs.lemmas.List.Elements.{All-nil, All-cons, All-push, All-weaker, All-head, All-tail}
+use Rattle.std.proofs.lemmas.List.Elements.{All-nil, All-push, All-weaker, All-head, All-tail}
 use Rattle.esc_base.specs.declared.note.Note.{Note}
 use Rattle.esc_base.specs.Journal.{time_of, Each, IsLater, Journal}
 use Rattle.esc_base.specs.Outside.{AppendsFront}
 use Rattle.esc_base.specs.Range.{InRange}
-use Rattle.trace_text.specs.Ahead.{unread, ahead, NoLineFeed}
+use Rattle.trace_text.specs.Ahead.{unread, ahead}
 use Rattle.trace_text.specs.Text.{note_bytes, Text}
 use Rattle.trace_text.proofs.Taking.{prepend_both}
 use Rattle.am32wave.specs.declared.reader.Journal.{Journal as Reader}
@@ -18,13 +18,12 @@ use Rattle.am32wave.specs.declared.journal.Refusal.TheVariants as refusal
 use Rattle.am32wave.specs.declared.run.Form.{Form}
 use Rattle.am32wave.specs.declared.run.Form.TheVariants as form
 use Rattle.am32wave.specs.declared.run.Report.{Report}
-use Rattle.am32wave.specs.declared.run.Report.TheVariants as report
 use Rattle.am32wave.specs.declared.status.Status.{Status}
 use Rattle.am32wave.specs.declared.status.Status.TheVariants as status
 use Rattle.am32wave.specs.Picture.{newest, last_time}
 use Rattle.am32wave.specs.Wave.{head, part, parts, wave}
-use Rattle.am32wave.specs.Explained.{line, lines, explained}
-use Rattle.am32wave.specs.Reading.{NoteAhead, IsNoNote, IsBack, IsCutOff, IsTooMany, Refuses, PassesLine, OnlyPart, HasRead, most_lines}
+use Rattle.am32wave.specs.Explained.{line, lines}
+use Rattle.am32wave.specs.Reading.{NoteAhead, IsCutOff, Refuses, PassesLine, OnlyPart, HasRead, most_lines}
 use Rattle.am32wave.specs.Shown.{head_text, part_text, end_text, begun, shown, form_of, IsAfter, IsDone, IsRefused, IsReadFault, IsWriteFault, Shown, IsDoneOrFault, IsJournal}
 use Rattle.am32wave.proofs.Look.{last_time_more}
 use Rattle.am32wave.proofs.Lines.{same_line, no_line_within}
@@ -278,7 +277,8 @@ line_passes refusal.TimeBack lines time m more h le lt r =
 line_passes refusal.NoEnd lines time m more h le lt r = not_cut_off m more h r
 line_passes refusal.TooMany lines time m more h le lt r = let all = r.all in omega arith
 
-known_rest : (read text : List ℕ) (behind : Option (List ℕ)) → Some text ≡ prepend_known read behind → (bytes : List ℕ) × (behind ≡ Some bytes) × (text ≡ read ++ bytes)
+known_rest : (read text : List ℕ) (behind : Option (List ℕ)) → Some text ≡ prepend_known read behind
+    → (bytes : List ℕ) × (behind ≡ Some bytes) × (text ≡ read ++ bytes)
 known_rest read text None e = absurd (cc)
 known_rest read text (Some bytes) e = (bytes, refl, same_Some _ _ e)
 

@@ -10,5 +10,9 @@ use Rattle.am32wave.specs.Wires.{value}
 
 -- a leg's wires show what a note's gate word says of its switches, and what they showed before where the note has none
 pub record GatesFollow (before : List Note) (n : Note) (x : Leg) : Type 0 where
-  pub high : value (wire.High x) (picture (before ++ n ∷ [])) ≡ unwrap_or (option_map (λ hi. bit_of (is_on hi x)) (high_told n)) (value (wire.High x) (picture before))
-  pub low : value (wire.Low x) (picture (before ++ n ∷ [])) ≡ unwrap_or (option_map (λ lo. bit_of (is_on lo x)) (low_told n)) (value (wire.Low x) (picture before))
+  pub high :
+      value (wire.High x) (picture (before ++ n ∷ []))
+      ≡ unwrap_or (option_map (λ hi. bit_of (is_on hi x)) (high_told n)) (value (wire.High x) (picture before))
+  pub low :
+      value (wire.Low x) (picture (before ++ n ∷ []))
+      ≡ unwrap_or (option_map (λ lo. bit_of (is_on lo x)) (low_told n)) (value (wire.Low x) (picture before))

@@ -1,6 +1,5 @@
 -- The text of each piece.
 use Rattle.std.specs.Prelude.{ℕ, ◌*◌, ◌/◌, ◌+◌, ◌%◌, ◌==◌, ◌≤◌, ◌<◌, if◌then◌else◌, List, [], ◌∷◌, ◌++◌, flat_map, codes, decimal}
-use Rattle.esc_base.specs.declared.tick.Tick.{Tick}
 use Rattle.esc_base.specs.Range.{IsWord}
 use Rattle.trace_text.specs.Text.{hex, bits}
 use Rattle.am32wave.specs.declared.pieces.Piece.{Piece}

@@ -1,5 +1,5 @@
 -- What was read and written, by the status with which the program ends.
-use Rattle.std.specs.Prelude.{◌≡◌, ℕ, ◌+◌, ◌≤◌, List, [], ◌∷◌, ◌++◌, length, All, Option, Some}
+use Rattle.std.specs.Prelude.{◌≡◌, ℕ, ◌+◌, ◌≤◌, List, [], length, All, Option}
 use Rattle.std.specs.Io.KnownBytes.{append_known, IsAtEnd}
 use Rattle.esc_base.specs.declared.note.Note.{Note}
 use Rattle.esc_base.specs.Journal.{Journal}
@@ -14,7 +14,7 @@ use Rattle.am32wave.specs.declared.run.Report.TheVariants as report
 use Rattle.am32wave.specs.declared.status.Status.{Status}
 use Rattle.am32wave.specs.declared.status.Status.TheVariants as status
 use Rattle.am32wave.specs.Picture.{last_time}
-use Rattle.am32wave.specs.Wave.{head, part, parts, wave}
+use Rattle.am32wave.specs.Wave.{head, part, wave}
 use Rattle.am32wave.specs.Explained.{line, lines, explained}
 use Rattle.am32wave.specs.Tally.{tally, summary}
 use Rattle.am32wave.specs.Reading.{Refuses, OnlyPart, HasRead, most_lines}

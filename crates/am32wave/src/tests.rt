@@ -73,8 +73,32 @@ fn changes(alloc: Global, dump: &str, name: &str) -> Result<String, Fail> {
 }
 
 /// A sector's start, chopping and a stop, with what goes on around them.
-const DRIVE: &str =
-    "U 0 0\nW 0 0\nI 2230 3\nF 2298 D 2\nW 2300 2\nO 2302 3\nI 2400 2\nK 2404 1 0 20\nA 2404\nI 2408 6\nQ 2412 1\nG 2414 0 2\nG 2416 1 2\nO 2418 6\nO 2420 2\nZ 2500\nG 2503 0 2\nF 2600 B 4\nQ 2700 2\nG 2702 4 2\nR 2800 4240 000000000000000000101\nX 2801 0\nG 2802 0 0\nQ 2803 6\n";
+const DRIVE: &str = "\
+U 0 0
+W 0 0
+I 2230 3
+F 2298 D 2
+W 2300 2
+O 2302 3
+I 2400 2
+K 2404 1 0 20
+A 2404
+I 2408 6
+Q 2412 1
+G 2414 0 2
+G 2416 1 2
+O 2418 6
+O 2420 2
+Z 2500
+G 2503 0 2
+F 2600 B 4
+Q 2700 2
+G 2702 4 2
+R 2800 4240 000000000000000000101
+X 2801 0
+G 2802 0 0
+Q 2803 6
+";
 
 /// Each wire's changes, read from the lines of DRIVE by hand.
 static WIRES: [(&str, &str); 24] = [
@@ -131,21 +155,21 @@ fn each_change_stands_at_its_tick(rt: HostRuntime) -> Result<(), Fail> {
 #[test]
 fn a_dump_is_in_the_plain_subset(rt: HostRuntime) -> Result<(), Fail> {
     let (_, dump) = ran(rt.alloc(), Form::Wave, DRIVE, 4096, &[], &[])?;
-    let mut declared = 0;
-    let mut stamps = 0;
+    let mut declared: u32 = 0;
+    let mut stamps: u32 = 0;
     let mut last = 0;
     for line in dump.lines() {
         if line.starts_with('$') {
             let is_known = line.ends_with("$end") || line == "$dumpvars";
             assert!(rt; is_known, "{line}");
             if line.starts_with("$var wire ") {
-                declared += 1;
+                declared = declared.saturating_add(1);
             }
         } else if let Some(stamp) = line.strip_prefix('#') {
             let stamp = stamp.parse::<u64>().unwrap_or(0);
-            assert!(rt; stamps == 0 || last < stamp, "{line}");
+            assert!(rt; stamps == 0 || last < stamp, "behind {last}");
             last = stamp;
-            stamps += 1;
+            stamps = stamps.saturating_add(1);
         } else {
             let first = line.as_bytes().first();
             let is_change = matches!(first, Some(b'0' | b'1' | b'b'));
@@ -159,8 +183,35 @@ fn a_dump_is_in_the_plain_subset(rt: HostRuntime) -> Result<(), Fail> {
 }
 
 /// A journal with each kind of note, and what it says.
-const NOTES: &str =
-    "U 0 1\nW 0 0\nI 2230 3\nF 2298 D 2\nO 2302 3\nI 2400 0\nI 2401 2\nK 2404 1 5 20\nA 2404\nO 2408 2\nF 2412 G 1046 1\nF 2424 N\nF 2436 B 5\nM 2448 12\nP 2496 1\nG 2544 1 6\nQ 2592 6\nZ 2640\nV 2688 none\nV 2688 815\nR 2736 4176 000000000000000000101\nB 2784 30 0f\nS 2832 2e\nL 2880 ff\nX 4800 2\nO 4801 0\nY 4294967295 1 22 1\n";
+const NOTES: &str = "\
+U 0 1
+W 0 0
+I 2230 3
+F 2298 D 2
+O 2302 3
+I 2400 0
+I 2401 2
+K 2404 1 5 20
+A 2404
+O 2408 2
+F 2412 G 1046 1
+F 2424 N
+F 2436 B 5
+M 2448 12
+P 2496 1
+G 2544 1 6
+Q 2592 6
+Z 2640
+V 2688 none
+V 2688 815
+R 2736 4176 000000000000000000101
+B 2784 30 0f
+S 2832 2e
+L 2880 ff
+X 4800 2
+O 4801 0
+Y 4294967295 1 22 1
+";
 
 const EXPLAINED: &str = "\
 0.000 us  start with default settings: the block has no marker

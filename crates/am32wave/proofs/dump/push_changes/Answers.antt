@@ -21,7 +21,8 @@ loop-i-preserved c =
           }
       | else-value w ↦
           record {
-            text = unchanged c.loop-i.page.items c.if-value.page.items 33 c.args.before.now c.args.after.now list c.loop-i.i _ c.value-value.result c.value.result _
+            text = unchanged c.loop-i.page.items c.if-value.page.items 33 c.args.before.now c.args.after.now list c.loop-i.i _
+                c.value-value.result c.value.result _
                 c.loop-i-test.true c.value-value.ensures c.value.ensures (same _ _ w.if-value.false) (ap (λ p. p.items) w.page-is) inv.text;
             fits = rw w.page-is inv.fits;
             len = let e = ap (λ p. array_vec_len p) w.page-is in omega arith;

@@ -1,4 +1,4 @@
-use Rattle.std.proofs.Common.{◌≡◌, ◌≤◌, ◌+◌, ◌++◌, drop, All}
+use Rattle.std.proofs.Common.{◌≡◌, ◌+◌, ◌++◌, drop, All}
 use Rattle.arrayvec.specs.ArrayVec.{array_vec_len}
 use Rattle.am32wave.specs.Pieces.{text, Fits}
 use Rattle.am32wave.specs.Wave.{values}

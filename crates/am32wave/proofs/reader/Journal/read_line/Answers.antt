@@ -1,5 +1,5 @@
 use Rattle.std.proofs.Common.{refl, sym, ◌∙◌, arith}
-use Rattle.trace_text.specs.Ahead.{unread, ahead}
+use Rattle.trace_text.specs.Ahead.{unread}
 use Rattle.am32wave.proofs.Lines.{no_note, passed}
 use Rattle.am32wave.proofs.reader.Journal.read_line.Goals as goal
 
@@ -31,7 +31,8 @@ returns-then-self-eq-MOST_LINES-clause-says c left = (
 
 pub returns-clause-says : goal.returns-clause-says
 returns-clause-says c left = record {
-  ahead = passed (unread c.args.self.now.held) (unread c.skip.new.self) c.args.n c.in-Some.note left c.in-Some.ensures.found.0 (c.in-Some.ensures.found.1 ∙ c.front.ensures) c.skip.ensures;
+  ahead = passed (unread c.args.self.now.held) (unread c.skip.new.self) c.args.n c.in-Some.note left
+      c.in-Some.ensures.found.0 (c.in-Some.ensures.found.1 ∙ c.front.ensures) c.skip.ensures;
   later = let e = c.time_of-time.ensures in omega arith;
   time = c.time_of-time.ensures;
   line = refl;

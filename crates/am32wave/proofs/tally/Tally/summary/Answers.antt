@@ -1,4 +1,3 @@
-use Rattle.std.proofs.Common.{rules}
 use Rattle.am32wave.proofs.Parts.{pages_of}
 use Rattle.am32wave.proofs.tally.Tally.summary.Goals as goal
 
