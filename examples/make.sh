@@ -164,6 +164,28 @@ sample timeout <<'EOF'
     end(36080000)
 EOF
 
+# Armed as above. Throttle starts the drive: COMM turns on the pair of sector 1, and PWM chops. Without a zero crossing each
+# later sector is forced, 5 ms after the one before. Stalls keep the journal short.
+sample first_sectors <<'EOF'
+    zeros(); stall(130000, 11900000); good(12040000, 1000)
+    stall(12050000, 230000); stall(12290000, 230000); end(12526000)
+EOF
+
+# The same without an end: the 60th forced sector in a row sets the stuck mark, and the next control tick loses control.
+# All switches are off when it returns.
+sample stuck <<'EOF'
+    zeros(); stall(130000, 11900000); good(12040000, 1000)
+    for (i = 0; i <= 60; i++) stall(12044000 + i * 240100, 240050)
+    end(26698000)
+EOF
+
+# The stalls end so that PWM is entered just before the next sector is due: 2 ticks before the first one, so that COMM
+# enters before PWM has raised the mask, and 8 ticks before the second one, so that it waits for the mask to fall.
+sample comm_enters_pwm <<'EOF'
+    zeros(); stall(130000, 11900000); good(12040000, 1000)
+    stall(12050000, 233218); stall(12290000, 233220); end(12526000)
+EOF
+
 # Armed as above. Command 21 acts at the sixth equal frame in a row and not at the seventh; command 1 acts at once.
 sample command <<'EOF'
     zeros(); stall(130000, 11900000)

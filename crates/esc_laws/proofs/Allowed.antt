@@ -266,7 +266,7 @@ above_none One k = All-nil (λ j. (kind_number j ≡ 0) × (0 < k))
 
 said_at : (loaded : Loaded) (nest : Nest) (t u : ℕ) (rest : List Note) → t ≤ u → Said loaded nest two_edges t rest → Said loaded nest two_edges u rest
 said_at loaded nest t u rest le s =
-    record { in_time = s.in_time; windowed = s.windowed; nested = s.nested; past = λ k d l. (let a = s.past k d l in omega arith) }
+    record { in_time = s.in_time; windowed = s.windowed; dead_safe = s.dead_safe; driven = s.driven; commutated = s.commutated; nested = s.nested; waits = s.waits; past = λ k d l. (let a = s.past k d l in omega arith) }
 
 sees_nothing : (allowed : InputKind) (servo : Servo) (t : ℕ)
     → nothing t ≡ verdict_note t (judged (mode_of 0) (burst (line two_edges).edges 0 (mode_of 0)) allowed servo)
@@ -282,7 +282,7 @@ answers loaded = record { closed_at = 4200; closes = refl; waits = omega arith; 
 rules_1 : (loaded : Loaded) (nest : Nest)
     → WindowRule loaded two_edges (opening loaded ++ ([])) (enters 2400 2) × NestRule nest (opening loaded ++ ([])) (enters 2400 2)
 unfolding place
-rules_1 loaded nest = (tt, (tt, above_none nest 2))
+rules_1 loaded nest = (tt, (tt, above_none nest 2, tt))
 
 rules_2 : (loaded : Loaded) (nest : Nest)
     → WindowRule loaded two_edges (opening loaded ++ (enters 2400 2 ∷ [])) (ticks 2402 1 0 0)
@@ -300,7 +300,7 @@ rules_4 : (loaded : Loaded) (nest : Nest)
     → WindowRule loaded two_edges (opening loaded ++ (enters 2400 2 ∷ ticks 2402 1 0 0 ∷ leaves 2402 2 ∷ [])) (enters 4200 3)
     × NestRule nest (opening loaded ++ (enters 2400 2 ∷ ticks 2402 1 0 0 ∷ leaves 2402 2 ∷ [])) (enters 4200 3)
 unfolding place
-rules_4 loaded nest = (tt, (tt, above_none nest 3))
+rules_4 loaded nest = (tt, (tt, above_none nest 3, tt))
 
 rules_5 : (loaded : Loaded) (nest : Nest)
     → WindowRule loaded two_edges (opening loaded ++ (enters 2400 2 ∷ ticks 2402 1 0 0 ∷ leaves 2402 2 ∷ enters 4200 3 ∷ [])) (nothing 4202)
@@ -316,22 +316,20 @@ rules_6 loaded nest = (λ e. refl, (refl, inl refl))
 
 one_said : (loaded : Loaded) (nest : Nest) → Said loaded nest two_edges 2400 (enters 2400 2 ∷ [])
 one_said loaded nest =
-    said_push loaded nest two_edges 2400 [] (enters 2400 2) (start_said loaded nest two_edges 2400) refl (rules_1 loaded nest).0 (rules_1 loaded nest).1
+    said_push loaded nest two_edges 2400 [] (enters 2400 2) (start_said loaded nest two_edges 2400) refl (record { window = (rules_1 loaded nest).0; safe = tt; driven = tt; turns = tt; nesting = (rules_1 loaded nest).1; waits = tt })
 
 all_said : (loaded : Loaded) (nest : Nest) → Said loaded nest two_edges 4202 tick_and_verdict
 all_said loaded nest =
     let s2 = said_push loaded nest two_edges 2402 (enters 2400 2 ∷ []) (ticks 2402 1 0 0)
-    (said_at loaded nest 2400 2402 (enters 2400 2 ∷ []) (omega arith) (one_said loaded nest)) refl (rules_2 loaded nest).0 (rules_2 loaded nest).1 in
-    let s3 = said_push loaded nest two_edges 2402 (enters 2400 2 ∷ ticks 2402 1 0 0 ∷ []) (leaves 2402 2) s2 refl (rules_3 loaded nest).0
-    (rules_3 loaded nest).1 in
+    (said_at loaded nest 2400 2402 (enters 2400 2 ∷ []) (omega arith) (one_said loaded nest)) refl (record { window = (rules_2 loaded nest).0; safe = tt; driven = tt; turns = tt; nesting = (rules_2 loaded nest).1; waits = tt }) in
+    let s3 = said_push loaded nest two_edges 2402 (enters 2400 2 ∷ ticks 2402 1 0 0 ∷ []) (leaves 2402 2) s2 refl (record { window = (rules_3 loaded nest).0; safe = tt; driven = λ e d. (refl, refl); turns = tt; nesting = (rules_3 loaded nest).1; waits = tt }) in
     let s4 = said_push loaded nest two_edges 4200 (enters 2400 2 ∷ ticks 2402 1 0 0 ∷ leaves 2402 2 ∷ []) (enters 4200 3)
-    (said_at loaded nest 2402 4200 (enters 2400 2 ∷ ticks 2402 1 0 0 ∷ leaves 2402 2 ∷ []) (omega arith) s3) refl (rules_4 loaded nest).0
-    (rules_4 loaded nest).1 in
+    (said_at loaded nest 2402 4200 (enters 2400 2 ∷ ticks 2402 1 0 0 ∷ leaves 2402 2 ∷ []) (omega arith) s3) refl (record { window = (rules_4 loaded nest).0; safe = tt; driven = tt; turns = tt; nesting = (rules_4 loaded nest).1; waits = tt }) in
     let s5 = said_push loaded nest two_edges 4202 (enters 2400 2 ∷ ticks 2402 1 0 0 ∷ leaves 2402 2 ∷ enters 4200 3 ∷ []) (nothing 4202)
     (said_at loaded nest 4200 4202 (enters 2400 2 ∷ ticks 2402 1 0 0 ∷ leaves 2402 2 ∷ enters 4200 3 ∷ []) (omega arith) s4) refl
-    (rules_5 loaded nest).0 (rules_5 loaded nest).1 in
+    (record { window = (rules_5 loaded nest).0; safe = tt; driven = tt; turns = tt; nesting = (rules_5 loaded nest).1; waits = tt }) in
     said_push loaded nest two_edges 4202 (enters 2400 2 ∷ ticks 2402 1 0 0 ∷ leaves 2402 2 ∷ enters 4200 3 ∷ nothing 4202 ∷ []) (leaves 4202 3) s5 refl
-    (rules_6 loaded nest).0 (rules_6 loaded nest).1
+    (record { window = (rules_6 loaded nest).0; safe = tt; driven = λ e. cc; turns = tt; nesting = (rules_6 loaded nest).1; waits = tt })
 
 one_controlled : (loaded : Loaded) → Controlled (opening loaded ++ enters 2400 2 ∷ [])
 one_controlled loaded =
@@ -401,6 +399,9 @@ tick_enters loaded nest =
       in_time = (one_said loaded nest).in_time;
       windowed = (one_said loaded nest).windowed;
       controlled = one_controlled loaded;
+      dead_safe = (one_said loaded nest).dead_safe;
+      driven = (one_said loaded nest).driven;
+      commutated = (one_said loaded nest).commutated;
       nested = (one_said loaded nest).nested;
       log = one;
       steps_are = refl;
@@ -420,6 +421,9 @@ window_judged loaded nest =
       in_time = (all_said loaded nest).in_time;
       windowed = (all_said loaded nest).windowed;
       controlled = all_controlled loaded;
+      dead_safe = (all_said loaded nest).dead_safe;
+      driven = (all_said loaded nest).driven;
+      commutated = (all_said loaded nest).commutated;
       nested = (all_said loaded nest).nested;
       log = four;
       steps_are = refl;

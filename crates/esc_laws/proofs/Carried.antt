@@ -28,24 +28,29 @@ use Rattle.esc_core.specs.Firmware.{new_core, entered_core, core_step}
 use Rattle.esc_core.specs.Stepped.{IsStepped}
 use Rattle.esc_core.proofs.Bounds.{core_step-goes}
 use Rattle.esc_laws.specs.Seen.{sees}
-use Rattle.esc_laws.specs.Steps.{Turned, opening, journal, notes_in, open_in, past_stall, free, after, steps_since, entered_at, EachStep, StepFits, Awaits, Below, OpenFew}
+use Rattle.esc_laws.specs.Steps.{Turned, stall_end, opening, journal, notes_in, open_in, past_stall, free, after, steps_since, entered_at, EachStep, StepFits, Awaits, Below, OpenFew}
+use Rattle.commutation.specs.Commutated.{Commutated, TurnRule}
+use Rattle.gate_driver.specs.DeadSafe.{DeadSafe, IsSafe}
 use Rattle.esc_laws.specs.Windowed.{WindowRule, Windowed}
+use Rattle.esc_laws.specs.Driven.{IsDriven, Driven}
+use Rattle.esc_laws.specs.Saves.{forward_at}
 use Rattle.esc_laws.specs.Nested.{NestRule, NestedAfter}
-use Rattle.esc_laws.specs.Tied.{Keeps}
+use Rattle.esc_laws.specs.Tied.{Keeps, WordTold}
 use Rattle.esc_laws.specs.Legal.{Legal, LegalFront}
-use Rattle.esc_laws.specs.Logged.{first_bank, stall_end, Logged, CoreTurn, turned}
-use Rattle.esc_laws.specs.World.{world, after_event, enters}
-use Rattle.esc_laws.specs.Rooms.{Ground, Tie}
+use Rattle.esc_laws.specs.Logged.{first_bank, Logged, CoreTurn, turned}
+use Rattle.esc_laws.specs.World.{Made, made, world, after_event, enters}
+use Rattle.esc_laws.specs.Rooms.{Past, Ground, Tie}
 use Rattle.esc_laws.proofs.Pushes.{All-later, journal-push, notes-push}
-use Rattle.esc_laws.proofs.Stalls.{past_later, past_more, past_ends, after_grows, uses_before, reached_grows, free_less, none_free}
+use Rattle.esc_laws.proofs.Stalls.{past_later as stall_later, past_more, past_ends, after_grows, uses_before, reached_grows, free_less, none_free}
 use Rattle.esc_laws.proofs.Growth.{sees_before}
 use Rattle.esc_laws.proofs.StepGrowth.{fits_grow}
 use Rattle.esc_laws.proofs.Laws.{law}
 use Rattle.esc_laws.proofs.Stages.{later_ground, event_ground, event_tie}
+use Rattle.esc_laws.proofs.Entries.{unheld_idle}
 use Rattle.esc_laws.proofs.OwnTurns.{steady, own_are}
 use Rattle.esc_laws.proofs.Stepping.{sees_due, entry_turn, own_turn, left_is, stepped_by}
 use Rattle.esc_laws.proofs.Start.{logged_start}
-use Rattle.esc_laws.proofs.Events.{keeps_later, marks_later, patient_later, event_time, patient_grows, marks_grow, keeps_grow}
+use Rattle.esc_laws.proofs.Events.{keeps_later, marks_later, patient_later, event_time, told_grows, patient_grows, marks_grow, keeps_grow}
 
 pub start_logged : (loaded : Loaded) (nest : Nest) (cost : ℕ) → Logged loaded nest cost [] 0 (new_core loaded.settings) first_bank [] []
 start_logged loaded nest cost = logged_start loaded nest cost
@@ -97,6 +102,7 @@ time_logged loaded nest cost trace next c b stack log t later le small l = recor
   keeps = keeps_later c b stack t l.keeps;
   sorted = l.sorted;
   marks = marks_later loaded nest trace b stack log t later l.marks;
+  gates = record { hi_is = l.gates.hi_is; lo_is = l.gates.lo_is; hi_free = l.gates.hi_free; lo_free = l.gates.lo_free };
   ground = later_ground (world loaded nest trace c b log) t later small l.ground;
   ties = λ k. (law k).later (world loaded nest trace c b log) t later small l.ground l.ties;
   patient = patient_later loaded nest trace c b stack log t later l.patient;
@@ -105,13 +111,16 @@ time_logged loaded nest cost trace next c b stack log t later le small l = recor
   reached_by = l.reached_by;
   fits = l.fits;
   past = l.past;
-  cap_past = l.cap_past;
+  made_past = l.made_past;
   awaits = l.awaits;
   time = le;
   put_off = λ u from. l.put_off u (omega arith);
   stalls = l.stalls;
   at_next = l.at_next;
 }
+
+past_later : (m : Made) (t u : ℕ) → t ≤ u → Past m t → Past m u
+past_later m t u le p = record { cap = (let a = p.cap in omega arith); comm = (let a = p.comm in omega arith) }
 
 none_open : (stack : List Kind) (due : Kind → Bool) → is_idle stack due ≡ true → (stack ≡ []) × (highest due ≡ None)
 none_open [] due idle = (refl, none_of (highest due) idle)
@@ -138,10 +147,10 @@ none_before (Some d) b k t u is le from below = is.none_before k u from (let m =
 
 -- while nothing is due nothing is seen due
 none_seen : (loaded : Loaded) (nest : Nest) (trace : List Event) (c : Brain) (b : Bank) (log : List Turned) (t u : ℕ) (k : Kind)
-    → Keeps c b [] → Ground (world loaded nest trace c b log) → ((j : Kind) → Tie j (world loaded nest trace c b log))
+    → Keeps c b [] → Ground (world loaded nest trace c b log) → ((j : Kind) → Tie j (world loaded nest trace c b log)) → WordTold c b (reverse (journal loaded log))
     → highest (due_now c.orders.save_asked b) ≡ None → ((j : Kind) (v : ℕ) → b.time < v → v < t → becomes_due b j v ≡ false) → b.time ≤ u → u < t
     → t < 2147483648 → sees trace (journal loaded log) u k ≡ false
-none_seen loaded nest trace c b log t u k keeps g ties none quiet from below small = by_seen (sees trace (journal loaded log) u k) refl
+none_seen loaded nest trace c b log t u k keeps g ties told none quiet from below small = by_seen (sees trace (journal loaded log) u k) refl
   where
     shut_now : due_now c.orders.save_asked (advanced b u) k ≡ false
     shut_now = elim (cases_lt b.time u) [
@@ -156,7 +165,8 @@ none_seen loaded nest trace c b log t u k keeps g ties none quiet from below sma
         let d =
         sees_due loaded nest trace c (advanced b u) [] log (keeps_later c b [] u keeps)
         (later_ground (world loaded nest trace c b log) u from (omega arith) g)
-        (λ j. (law j).later (world loaded nest trace c b log) u from (omega arith) g ties) k (rw e refl) in
+        (λ j. (law j).later (world loaded nest trace c b log) u from (omega arith) g ties) (record { hi_is = told.hi_is; lo_is = told.lo_is; hi_free = told.hi_free; lo_free = told.lo_free })
+        (unheld_idle c b keeps) k (rw e refl) in
         absurd (let z : true ≡ false = sym d ∙ shut_now in cc)
     by_seen false e = e
 
@@ -172,6 +182,7 @@ quiet_logged loaded nest cost trace c b stack log t idle quiet later small l =
       keeps = keeps_later c b stack t l.keeps;
       sorted = l.sorted;
       marks = marks_later loaded nest trace b stack log t later l.marks;
+      gates = record { hi_is = l.gates.hi_is; lo_is = l.gates.lo_is; hi_free = l.gates.hi_free; lo_free = l.gates.lo_free };
       ground = later_ground (world loaded nest trace c b log) t later small l.ground;
       ties = λ k. (law k).later (world loaded nest trace c b log) t later small l.ground l.ties;
       patient = patient_later loaded nest trace c b stack log t later l.patient;
@@ -180,12 +191,12 @@ quiet_logged loaded nest cost trace c b stack log t idle quiet later small l =
       reached_by = l.reached_by;
       fits = l.fits;
       past = (let p = l.past in omega arith);
-      cap_past = (let p = l.cap_past in omega arith);
+      made_past = past_later (made log) b.time t later l.made_past;
       awaits = record {
         open_step = λ o. absurd (o open_none);
         idle = λ o u from below f k. elim (cases_lt u b.time) [
           | inl early ↦ l.awaits.idle o u from early f k
-          | inr on ↦ none_seen loaded nest trace c b log t u k keeps l.ground l.ties rest.1 quiet on below small
+          | inr on ↦ none_seen loaded nest trace c b log t u k keeps l.ground l.ties l.gates rest.1 quiet on below small
         ];
       };
       time = omega arith;
@@ -211,7 +222,7 @@ module _ (loaded : Loaded) (nest : Nest) (cost : ℕ) (trace : List Event) (e : 
   next_is o = ap (λ (t : ℕ). past_stall t e) (l.at_next o) ∙ sym (after_grows cost trace e log)
 
   after_past : (u : ℕ) → after cost (trace ++ e ∷ []) log ≤ u → after cost trace log ≤ u
-  after_past u le = let g = after_grows cost trace e log in let p = past_later e (after cost trace log) in omega arith
+  after_past u le = let g = after_grows cost trace e log in let p = stall_later e (after cost trace log) in omega arith
 
   none_now : (u : ℕ) → b.time ≤ u → u < past_stall next e → after cost (trace ++ e ∷ []) log ≤ u → free (trace ++ e ∷ []) u ≢ u
   none_now u from soon past f = elim (cases_lt u next) [
@@ -233,11 +244,12 @@ module _ (loaded : Loaded) (nest : Nest) (cost : ℕ) (trace : List Event) (e : 
   pub event_logged : Logged loaded nest cost (trace ++ e ∷ []) (past_stall next e) c (after_event b e) stack log
   event_logged =
       let before : Below (tick_of e) log = rw at below in
-      let later : next ≤ past_stall next e = past_later e next in
+      let later : next ≤ past_stall next e = stall_later e next in
       record {
         keeps = keeps_grow e c b stack l.keeps;
         sorted = l.sorted;
         marks = marks_grow loaded nest trace e b stack log at l.marks;
+        gates = told_grows e c b (reverse (journal loaded log)) l.gates;
         ground = event_ground (world loaded nest trace c b log) e at l.ground;
         ties = λ k. event_tie k (world loaded nest trace c b log) e at l.ground l.ties;
         patient = patient_grows loaded nest trace e c b stack log at before l.patient;
@@ -247,7 +259,7 @@ module _ (loaded : Loaded) (nest : Nest) (cost : ℕ) (trace : List Event) (e : 
             rw (uses_before cost trace e (steps_since k log) (entered_at k log) (l.reached_by k o (tick_of e) before)) (l.reached_by k o t b);
         fits = fits_grow loaded nest cost trace e log before l.fits;
         past = rw (after_grows cost trace e log) (past_more e (after cost trace log) next l.past);
-        cap_past = (let p = l.cap_past in omega arith);
+        made_past = past_later (made log) next (past_stall next e) later l.made_past;
         awaits = awaits_grow;
         time = (let t = l.time in let s = event_time b e in omega arith);
         put_off = λ u from. none_now u (let s = event_time b e in omega arith);
@@ -278,6 +290,9 @@ legal_logged loaded nest cost trace next c b stack log until le below range l = 
   in_time = l.marks.in_time;
   windowed = l.marks.windowed;
   controlled = in_order (journal loaded log) l.ground.control.controlled;
+  dead_safe = l.marks.dead_safe;
+  driven = l.marks.driven;
+  commutated = l.marks.commutated;
   nested = l.marks.nested;
   log = log;
   steps_are = refl;
@@ -319,6 +334,13 @@ front_logged loaded nest cost trace next c b stack log broken front left_out spl
           (subst (λ (ns : List Note). Windowed loaded trace ns) whole l.marks.windowed);
       controlled = each_front (λ before n. FitsControl (reverse before) n) [] (journal loaded log ++ front) left_out
           (subst (λ (ns : List Note). Controlled ns) whole (in_order (journal loaded (log ++ broken ∷ [])) l.ground.control.controlled));
+      dead_safe = each_front (λ before n. IsSafe (reverse before) n) [] (journal loaded log ++ front) left_out
+          (subst (λ (ns : List Note). DeadSafe ns) whole l.marks.dead_safe);
+      driven = each_front (λ before n. IsDriven (reverse before) n) [] (journal loaded log ++ front) left_out
+          (subst (λ (ns : List Note). Driven ns) whole l.marks.driven);
+      commutated = each_front (λ before n. TurnRule loaded.settings.advance (forward_at loaded.settings) (reverse before) n) []
+          (journal loaded log ++ front) left_out
+          (subst (λ (ns : List Note). Commutated loaded.settings.advance (forward_at loaded.settings) ns) whole l.marks.commutated);
       nested = each_front (NestRule nest) (opening loaded) (notes_in log ++ front) left_out
           (subst (λ (ns : List Note). NestedAfter nest (opening loaded) ns) tail l.marks.nested);
       fits = l.fits;

@@ -14,10 +14,15 @@ pub mod Dues
 pub mod Lines
 pub mod RoomSteps
 pub mod Returns
+pub mod DriveFacts
+pub mod CommFacts
+pub mod TickFacts
 pub mod Law
 pub mod MainRoom
 pub mod TickRoom
 pub mod CapRoom
+pub mod PwmRoom
+pub mod CommRoom
 pub mod Laws
 pub mod Stages
 pub mod Turns

@@ -149,9 +149,9 @@ windows_refuse = record {
 -- ---- nesting
 
 nest_fits : (nest : Nest) (loaded : Loaded) (notes after : List Note) (n : Note) → NestedAfter nest (opening loaded) (notes ++ n ∷ after)
-    → NestRuleAt nest (placed (reverse (opening loaded ++ notes))) n
+    → NestRuleAt nest (placed (reverse (opening loaded ++ notes))) (reverse (opening loaded ++ notes)) n
 nest_fits nest loaded notes after n whole =
-    subst (λ (p : Place). NestRuleAt nest p n) (sym (placed-is (opening loaded ++ notes))) (each_at (NestRule nest) (opening loaded) notes n after whole)
+    subst (λ (p : Place). NestRuleAt nest p (reverse (opening loaded ++ notes)) n) (sym (placed-is (opening loaded ++ notes))) (each_at (NestRule nest) (opening loaded) notes n after whole)
 
 -- no kind enters above itself or a higher one
 not_above : (nest : Nest) (j : Kind) (k : ℕ) → 0 < kind_number j → k ≤ kind_number j → IsAboveAll nest (j ∷ []) k → ⊥
@@ -179,8 +179,6 @@ nesting_refuses = record {
       (nest_fits One loaded (enters 2400 2 ∷ []) after (enters 2402 3) h).1).0 in absurd (omega arith));
   uart_enters = λ nest loaded after h. (nest_fits nest loaded [] after (enters 2400 1) h).0;
   cmp_enters = λ nest loaded after h. (nest_fits nest loaded [] after (enters 2400 4) h).0;
-  pwm_enters = λ nest loaded after h. (nest_fits nest loaded [] after (enters 2400 5) h).0;
-  comm_enters = λ nest loaded after h. (nest_fits nest loaded [] after (enters 2400 6) h).0;
   window_in_tick = λ nest loaded after h. (let e = nest_fits nest loaded (enters 2400 2 ∷ []) after (window 2402 0) h in absurd (cc));
   verdict_where_none_is_open = λ nest loaded after h. (let e = nest_fits nest loaded [] after (nothing 5000) h in absurd (cc));
   act_in_main = λ nest loaded after h. (let e = nest_fits nest loaded (enters 2400 0 ∷ []) after (acts 2402 3) h in absurd (cc));

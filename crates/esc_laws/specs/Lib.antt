@@ -1,10 +1,11 @@
 -- the laws, which end in `Legal`, and what a journal says of the flash
 pub mod Place
-pub mod Gates
 pub mod Rested
 pub mod Windowed
 pub mod HeardWhole
 pub mod RestOpens
+pub mod Driven
+pub mod Calls
 pub mod Nested
 pub mod Seen
 pub mod Steps
@@ -15,6 +16,7 @@ pub mod Refused
 pub mod Allowed
 -- the machinery that proves a run legal
 pub mod Tied
+pub mod DriveTied
 pub mod World
 pub mod Rooms
 pub mod Logged

@@ -166,8 +166,6 @@ pub record NestingRefuses : Type 0 where
   -- kinds that aren't built don't enter
   pub uart_enters : (nest : Nest) → Unnested nest (enters 2400 1 ∷ [])
   pub cmp_enters : (nest : Nest) → Unnested nest (enters 2400 4 ∷ [])
-  pub pwm_enters : (nest : Nest) → Unnested nest (enters 2400 5 ∷ [])
-  pub comm_enters : (nest : Nest) → Unnested nest (enters 2400 6 ∷ [])
   -- W, F and M stand in CAP; K, A and X in TICK; P in MAIN
   pub window_in_tick : (nest : Nest) → Unnested nest (enters 2400 2 ∷ window 2402 0 ∷ [])
   pub verdict_where_none_is_open : (nest : Nest) → Unnested nest (nothing 5000 ∷ [])

@@ -53,7 +53,7 @@ impl Held {
         self.at = 0;
     }
 
-    /// Takes more bytes behind those that are held, and answers whether there were any.
+    /// Takes more bytes after those that are held, and answers whether there were any.
     pub fn fill<S: Source>(&mut self, src: &mut S) -> Result<bool, Failed>
         requires { length (unread self.old) < 16384 }
         ensures ahead { ahead self.new (S.left src.new) ≡ ahead self.old (S.left src.old) }

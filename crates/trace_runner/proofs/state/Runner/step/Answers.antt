@@ -1,6 +1,6 @@
 use Rattle.std.proofs.Common.{◌≡◌, ◌<◌, ◌≤◌, ◌+◌, List, [], ◌∷◌, length, subst, sym, ◌∙◌, append-nil, arith}
 use Rattle.esc_base.specs.declared.note.Note.{Note}
-use Rattle.esc_base.specs.Flash.{Told, told}
+use Rattle.esc_base.specs.Flash.{Told}
 use Rattle.esc_laws.specs.Steps.{Turned}
 use Rattle.esc_laws.specs.Logged.{CoreTurn, turned}
 use Rattle.trace_runner.specs.declared.state.Runner.{Runner}
@@ -14,8 +14,8 @@ pub returns-clause-run : goal.returns-clause-run
 returns-clause-run g c =
     let r : Runner = c.args.self.now in
     let own : List Note = c.step_into.new.notes.items in
-    let flash : Told = (told g.D.FlashDev.bytes g.D.FlashDev.faults c.args.dev.now) in
-    let flash' : Told = (told g.D.FlashDev.bytes g.D.FlashDev.faults c.step_into.new.dev) in
+    let flash : Told = (g.D.FlashDev.told c.args.dev.now) in
+    let flash' : Told = (g.D.FlashDev.told c.step_into.new.dev) in
     let t : CoreTurn r.machine.nest r.machine.firmware r.machine.open_kinds r.regs flash own c.step_into.new.self.firmware
     c.step_into.new.self.open_kinds c.step_into.new.regs flash' =
     c.step_into.ensures.turn in
