@@ -30,9 +30,6 @@ by_recursion : (bytes : List ℕ) → NoFeed bytes → NoLineFeed bytes
 by_recursion [] h = tt
 by_recursion (b ∷ bytes) h = (All-head (λ c. (c == 10) ≡ false) b bytes h, by_recursion bytes (All-tail (λ c. (c == 10) ≡ false) b bytes h))
 
-is_feed : (b : ℕ) → b ≡ 10 → (b == 10) ≡ false → ⊥
-is_feed b e f = absurd (cc)
-
 -- bytes without a line feed don't reach as far as a line's end
 no_end_within : (xs ys front more : List ℕ) → NoLineFeed xs → length front < length xs → xs ++ ys ≡ front ++ 10 ∷ more → ⊥
 no_end_within [] ys front more h lt e = absurd (omega arith)

@@ -116,7 +116,7 @@ no_changes id p q ws i le = rw (drop_of_length-le ws le) refl
 
 -- ---- written pieces
 
-append_known-twice : (o : Option (List ℕ)) (xs ys : List ℕ) → append_known o (xs ++ ys) ≡ append_known (append_known o xs) ys
+pub append_known-twice : (o : Option (List ℕ)) (xs ys : List ℕ) → append_known o (xs ++ ys) ≡ append_known (append_known o xs) ys
 append_known-twice (Some bs) xs ys = ap (λ (x : List ℕ). Some x) (sym (append_assoc bs xs ys))
 append_known-twice None xs ys = refl
 

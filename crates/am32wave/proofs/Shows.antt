@@ -1,5 +1,5 @@
 -- A journal is read and shown note by note.
-use Rattle.std.proofs.Common.{◌≡◌, ◌≤◌, ◌<◌, ℕ, ◌+◌, List, [], ◌∷◌, ◌++◌, length, Option, Some, None, Result, Ok, Err, OnOk, refl, sym, ◌∙◌, ap, subst, append_assoc, append-nil, length-append, arith}
+use Rattle.std.proofs.Common.{◌≡◌, ◌≤◌, ◌<◌, ℕ, List, [], ◌∷◌, ◌++◌, length, Option, Some, None, refl, sym, ◌∙◌, ap, subst, append_assoc, append-nil, length-append, arith}
 use Rattle.std.specs.List.{All}
 use Rattle.std.specs.Io.KnownBytes.{prepend_known, append_known, IsAtEnd}
 use Rattle.std.proofs.lemmas.Option.{same_Some}
@@ -9,7 +9,7 @@ use Rattle.esc_base.specs.declared.note.Note.{Note}
 use Rattle.esc_base.specs.Journal.{time_of, Each, IsLater, Journal}
 use Rattle.esc_base.specs.Outside.{AppendsFront}
 use Rattle.esc_base.specs.Range.{InRange}
-use Rattle.trace_text.specs.Ahead.{unread, ahead}
+use Rattle.trace_text.specs.Ahead.{ahead}
 use Rattle.trace_text.specs.Text.{note_bytes, Text}
 use Rattle.trace_text.proofs.Taking.{prepend_both}
 use Rattle.am32wave.specs.declared.reader.Journal.{Journal as Reader}
@@ -23,11 +23,11 @@ use Rattle.am32wave.specs.declared.status.Status.TheVariants as status
 use Rattle.am32wave.specs.Picture.{newest, last_time}
 use Rattle.am32wave.specs.Wave.{head, part, parts, wave}
 use Rattle.am32wave.specs.Explained.{line, lines}
-use Rattle.am32wave.specs.Reading.{NoteAhead, IsCutOff, Refuses, PassesLine, OnlyPart, HasRead, most_lines}
-use Rattle.am32wave.specs.Shown.{head_text, part_text, end_text, begun, shown, form_of, IsAfter, IsDone, IsRefused, IsReadFault, IsWriteFault, Shown, IsDoneOrFault, IsJournal}
+use Rattle.am32wave.specs.Reading.{NoteAhead, IsCutOff, Refuses, PassesLine, HasRead, most_lines}
+use Rattle.am32wave.specs.Shown.{head_text, part_text, end_text, begun, shown, form_of, IsAfter, IsDone, IsRefused, IsWriteFault, Shown, IsDoneOrFault, IsJournal}
 use Rattle.am32wave.proofs.Look.{last_time_more}
 use Rattle.am32wave.proofs.Lines.{same_line, no_line_within}
-use Rattle.am32wave.proofs.Parts.{front_behind}
+use Rattle.am32wave.proofs.Parts.{append_known-twice, front_behind}
 
 -- ---- one note more
 
@@ -66,10 +66,6 @@ each_push Fits before (m ∷ notes) n h k =
 Text-push : (notes : List Note) (n : Note) → Text (notes ++ n ∷ []) ≡ Text notes ++ note_bytes n
 Text-push notes n = flat_map-append note_bytes notes (n ∷ []) ∙ ap (λ (x : List ℕ). Text notes ++ x) (append-nil (note_bytes n))
 
-append_known-twice : (o : Option (List ℕ)) (xs ys : List ℕ) → append_known o (xs ++ ys) ≡ append_known (append_known o xs) ys
-append_known-twice (Some bs) xs ys = ap (λ (x : List ℕ). Some x) (sym (append_assoc bs xs ys))
-append_known-twice None xs ys = refl
-
 -- ---- the run so far
 
 pub record SoFar (f : Form) (j : Reader) (r : Report) (left_first left given_first given : Option (List ℕ)) : Type 0 where
@@ -81,23 +77,6 @@ pub record SoFar (f : Form) (j : Reader) (r : Report) (left_first left given_fir
   pub form : form_of r ≡ f
   pub stands : IsAfter r notes
   pub given_is : given ≡ append_known given_first (begun f notes)
-
-nothing_before : (left : Option (List ℕ)) (held : List ℕ) → held ≡ [] → left ≡ prepend_known (Text []) (prepend_known held left)
-nothing_before None held e = refl
-nothing_before (Some rest) held e = rw e refl
-
-pub first : (f : Form) (j : Reader) (r : Report) (left given_first given : Option (List ℕ)) (bytes : List ℕ) → unread j.held ≡ [] → j.line ≡ 0 → j.time.0 ≡ 0
-    → form_of r ≡ f → IsAfter r [] → bytes ≡ head_text (form_of r) → given ≡ append_known given_first bytes → SoFar f j r left left given_first given
-first f j r left given_first given bytes none line time is after text e = record {
-  notes = [];
-  read = record { is = nothing_before left (unread j.held) none; in_range = All-nil InRange; ordered = tt };
-  below = All-nil (λ n. time_of n ≤ j.time.0);
-  newest = sym time;
-  line = line;
-  form = is;
-  stands = after;
-  given_is = e ∙ ap (append_known given_first) (text ∙ ap head_text is ∙ sym (begun_none f));
-}
 
 read_more : (j j' : Reader) (left_first left left' : Option (List ℕ)) (notes : List Note) (n : Note) → HasRead left_first (ahead j.held left) notes
     → All (λ m. time_of m ≤ j.time.0) notes → PassesLine n j j' (ahead j.held left) (ahead j'.held left')
@@ -152,22 +131,6 @@ done f j r left_first left given_first given given' bytes s end text e = record 
       ∙ ap (λ (o : Option (List ℕ)). append_known o (end_text f s.notes)) s.given_is
       ∙ sym (append_known-twice given_first (begun f s.notes) (end_text f s.notes)) ∙ ap (append_known given_first) (shown_is f s.notes);
 }
-
-pub refused : (f : Form) (j : Reader) (r : Report) (left_first left given_first given : Option (List ℕ)) (line : ℕ) (kind : Refusal)
-    → (s : SoFar f j r left_first left given_first given) → Refuses kind j.line j.time.0 (ahead j.held left) → line ≡ j.line + 1
-    → IsRefused f line kind left_first given_first given
-refused f j r left_first left given_first given line kind s h e = record {
-  notes = s.notes;
-  behind = ahead j.held left;
-  read = s.read;
-  line = e ∙ ap (λ (k : ℕ). k + 1) s.line;
-  cause = rw (← s.line, s.newest) h;
-  wrote = s.given_is;
-}
-
-pub faulted : (f : Form) (j : Reader) (r : Report) (left_first left left' given_first given : Option (List ℕ))
-    → (s : SoFar f j r left_first left given_first given) → OnlyPart (ahead j.held left) left' → IsReadFault f left_first left' given_first given
-faulted f j r left_first left left' given_first given s h = record { notes = s.notes; behind = ahead j.held left; read = s.read; part = h; wrote = s.given_is }
 
 none_read : (left : Option (List ℕ)) → left ≡ prepend_known (Text []) left
 none_read None = refl
@@ -306,7 +269,3 @@ done_or_fault f status.Usage left left_after before after text e j h = h
 done_or_fault f status.ReadFault left left_after before after text e j h = tt
 done_or_fault f status.WriteFault left left_after before after text e j h = tt
 done_or_fault f status.NoMemory left left_after before after text e j h = h
-
-pub on_ok : {T E P : Type 0} (r : Result T E) → P → OnOk r P
-on_ok (Ok x) p = p
-on_ok (Err x) p = tt
