@@ -41,7 +41,17 @@ fn the_first_sector_is_1_and_the_next_is_forced(rt: HostRuntime) -> Result<(), F
     Ok(())
 }
 
-/// Stalls stand over all of the 61 sectors but their ends, so that the journal is short.
+fn count_lines(lines: &str) -> u32 {
+    let mut count = 0u32;
+    for _ in lines.split_inclusive('\n') {
+        count = count.saturating_add(1);
+    }
+    count
+}
+
+/// Stalls stand over all of the 61 sectors but their ends, so that the journal is short. The last one ends at 26410950: COMM sets
+/// the sector in its fourth step after its entry and the stuck mark in its tenth, PWM chops, and TICK asks control in its second
+/// step.
 #[test]
 fn sixty_forced_sectors_end_the_drive(rt: HostRuntime) -> Result<(), Fail> {
     let mut trace = throttled(rt.alloc())?;
@@ -49,53 +59,33 @@ fn sixty_forced_sectors_end_the_drive(rt: HostRuntime) -> Result<(), Fail> {
         let at = 12005000 + n * 240100;
         write!(&mut trace, "{at} J 240050\n")?;
     }
-    trace.push_str("26660000 END\n")?;
+    trace.push_str("26411000 END\n")?;
     let journal = journal_of(rt.alloc(), trace.as_str())?;
-    let mut sectors = 0u32;
-    let mut control = "";
-    let mut lost = "";
-    for line in journal.as_str().split_inclusive('\n') {
-        if line.starts_with("Q ") && lost.is_empty() {
-            sectors = sectors.saturating_add(1);
-        } else if line.starts_with("K ") && lost.is_empty() {
-            control = line;
-        } else if line.starts_with("X ") {
-            lost = line;
-        }
-    }
-    assert_eq!(rt; sectors, 61);
-    assert!(rt; control.ends_with(" 1 0\n"), "{control}");
-    assert!(rt; lost.ends_with(" 1\n"), "{lost}");
+    let sectors = lines_of(rt.alloc(), b"Q", journal.as_str())?;
+    assert_eq!(rt; count_lines(sectors.as_str()), 61);
+    let control = lines_of(rt.alloc(), b"QKX", journal.as_str())?;
+    assert!(rt;
+        control
+            .as_str()
+            .ends_with("Q 26410958 1\nK 26410994 11004 1 0\nX 26410994 1\n"),
+        "{control}"
+    );
     Ok(())
 }
 
-/// Two stalls reach beyond half a second without a frame, while the motor is driven. The control tick that loses control has
-/// all switches off before it returns.
+/// Two stalls reach beyond half a second without a frame, while the motor is driven. At the end of the second one a sector change
+/// is due, then a chop, and then the control tick: its low switch, that of leg A, goes off before it returns.
 #[test]
 fn a_timeout_turns_all_switches_off(rt: HostRuntime) -> Result<(), Fail> {
     let mut trace = throttled(rt.alloc())?;
-    trace.push_str("12010000 J 12000000\n24010010 J 12100000\n36112000 END\n")?;
+    trace.push_str("12010000 J 12000000\n24010100 J 12100000\n36110200 END\n")?;
     let journal = journal_of(rt.alloc(), trace.as_str())?;
-    let mut word = "";
-    let mut driven = "";
-    let mut lost = "";
-    let mut at_return = "";
-    for line in journal.as_str().split_inclusive('\n') {
-        if line.starts_with("G ") {
-            word = line;
-        } else if line.starts_with("X ") {
-            lost = line;
-            driven = word;
-        } else if line.starts_with("O ")
-            && line.ends_with(" 2\n")
-            && !lost.is_empty()
-            && at_return.is_empty()
-        {
-            at_return = word;
-        }
-    }
-    assert!(rt; lost.ends_with(" 0\n"), "{lost}");
-    assert!(rt; !driven.is_empty() && !driven.ends_with(" 0 0\n"), "{driven}");
-    assert!(rt; at_return.ends_with(" 0 0\n"), "{at_return}");
+    let end = lines_of(rt.alloc(), b"GKXO", journal.as_str())?;
+    assert!(rt;
+        end.as_str().ends_with(
+            "G 36110106 0 0\nG 36110110 0 1\nO 36110118 6\nO 36110134 5\nK 36110140 15045 0 0\nX 36110140 0\nG 36110144 0 0\nO 36110152 2\n"
+        ),
+        "{end}"
+    );
     Ok(())
 }

@@ -231,7 +231,12 @@ fn settings_say_what_servo_pulses_mean(rt: HostRuntime) -> Result<(), Fail> {
 
 /// Adds equal DShot600 frames from a tick on, one each 2400 ticks: each bit is 80 ticks, a zero is high for 30 of them and
 /// a one for 60.
-pub(crate) fn push_frames(trace: &mut String, first: u32, word: u16, count: u8) -> Result<(), Fail> {
+pub(crate) fn push_frames(
+    trace: &mut String,
+    first: u32,
+    word: u16,
+    count: u8,
+) -> Result<(), Fail> {
     for n in 0..count {
         push_frame(trace, first as u64 + n as u64 * 2400, word)?;
     }

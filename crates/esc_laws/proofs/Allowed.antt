@@ -6,8 +6,9 @@ use Rattle.std.proofs.lemmas.List.Elements.{All-nil, All-cons, All-push}
 use Rattle.esc_base.specs.declared.kind.Kind.{Kind}
 use Rattle.esc_base.specs.declared.kind.Kind.TheVariants as kind
 use Rattle.esc_base.specs.declared.note.Note.{Note}
+use Rattle.esc_base.specs.declared.note.Note.TheVariants as note
 use Rattle.esc_base.specs.Journal.{time_of}
-use Rattle.esc_base.specs.Numbers.{kind_number, mode_of}
+use Rattle.esc_base.specs.Numbers.{kind_number, mode_of, as_tick}
 use Rattle.esc_base.specs.Range.{InRange}
 use Rattle.esc_base.specs.Trace.{line}
 use Rattle.edge_capture.specs.Burst.{burst}
@@ -25,17 +26,45 @@ use Rattle.esc_laws.specs.Place.{place}
 use Rattle.esc_laws.specs.Seen.{sees}
 use Rattle.esc_laws.specs.Windowed.{verdict_note, Answers, WindowRule}
 use Rattle.esc_laws.specs.Nested.{IsAboveAll, NestRule}
-use Rattle.esc_laws.specs.Steps.{Turned, opening, journal, open_in, free, after, uses, own_steps, steps_since, entered_at, called, is_entry, StepFits, OpenFew}
+use Rattle.esc_laws.specs.Steps.{Turned, opening, load_number, journal, open_in, free, after, uses, own_steps, steps_since, entered_at, called, is_entry, StepFits, OpenFew}
 use Rattle.esc_laws.specs.Legal.{Legal}
+use Rattle.esc_laws.specs.Chopped.{disturbs}
 use Rattle.esc_laws.specs.Refused.{enters, leaves, nothing, ticks, entry, own, two_edges}
 use Rattle.esc_laws.specs.Allowed.{tick_and_verdict, SomeAreLegal}
 use Rattle.esc_laws.proofs.Notes.{Said, said_push}
 use Rattle.esc_laws.proofs.Start.{first_in_range, logged_start, start_said}
-use Rattle.esc_laws.proofs.Carried.{legal_logged}
+use Rattle.esc_laws.proofs.Carried.{legal_chopped}
+use Rattle.esc_laws.proofs.ChopFront.{chopped_none}
+
+-- no Q stands in them, and no step of COMM
+none_opening : (loaded : Loaded) → All (λ n. disturbs n ≡ false) (opening loaded)
+none_opening loaded = All-cons (λ n. disturbs n ≡ false) (note.Up (as_tick 0) (load_number loaded.fault)) (note.Window (as_tick 0) 0 ∷ []) refl
+    (All-cons (λ n. disturbs n ≡ false) (note.Window (as_tick 0) 0) [] refl (All-nil (λ n. disturbs n ≡ false)))
+
+none_one : (loaded : Loaded) → All (λ n. disturbs n ≡ false) (opening loaded ++ enters 2400 2 ∷ [])
+none_one loaded = All-push (λ n. disturbs n ≡ false) (opening loaded) (enters 2400 2) (none_opening loaded) refl
+
+none_all : (loaded : Loaded) → All (λ n. disturbs n ≡ false) (opening loaded ++ tick_and_verdict)
+none_all loaded =
+    let start : List Note = opening loaded ++ enters 2400 2 ∷ [] in
+    let k : List Note = start ++ ticks 2402 1 0 0 ∷ [] in
+    let o : List Note = k ++ leaves 2402 2 ∷ [] in
+    let i : List Note = o ++ enters 4200 3 ∷ [] in
+    let f : List Note = i ++ nothing 4202 ∷ [] in
+    let quiet : Note → Type 0 = λ n. disturbs n ≡ false in
+    All-push quiet f (leaves 4202 3)
+    (All-push quiet i (nothing 4202)
+    (All-push quiet o (enters 4200 3)
+    (All-push quiet k (leaves 2402 2)
+    (All-push quiet start (ticks 2402 1 0 0) (none_one loaded) refl)
+    refl)
+    refl)
+    refl)
+    refl
 
 no_time : (loaded : Loaded) (nest : Nest) (cost : ℕ) → Legal loaded nest cost [] 0 (opening loaded)
-no_time loaded nest cost = legal_logged loaded nest cost [] 0 _ _ [] [] 0 (omega arith) (All-nil (λ (e : Turned). e.tick < 0))
-    (first_in_range loaded.fault) (logged_start loaded nest cost)
+no_time loaded nest cost = legal_chopped loaded nest cost [] 0 _ _ [] [] 0 (omega arith) (All-nil (λ (e : Turned). e.tick < 0))
+    (first_in_range loaded.fault) (λ full. chopped_none cost [] 0 (opening loaded) (none_opening loaded)) (logged_start loaded nest cost)
 
 -- ---- the steps
 
@@ -402,6 +431,7 @@ tick_enters loaded nest =
       dead_safe = (one_said loaded nest).dead_safe;
       driven = (one_said loaded nest).driven;
       commutated = (one_said loaded nest).commutated;
+      chopped = λ full. chopped_none 2 two_edges 2401 (opening loaded ++ enters 2400 2 ∷ []) (none_one loaded);
       nested = (one_said loaded nest).nested;
       log = one;
       steps_are = refl;
@@ -424,6 +454,7 @@ window_judged loaded nest =
       dead_safe = (all_said loaded nest).dead_safe;
       driven = (all_said loaded nest).driven;
       commutated = (all_said loaded nest).commutated;
+      chopped = λ full. chopped_none 2 two_edges 4203 (opening loaded ++ tick_and_verdict) (none_all loaded);
       nested = (all_said loaded nest).nested;
       log = four;
       steps_are = refl;

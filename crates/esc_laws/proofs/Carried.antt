@@ -7,7 +7,7 @@ use Rattle.esc_base.specs.declared.kind.Kind.TheVariants as kind
 use Rattle.esc_base.specs.declared.event.Event.{Event}
 use Rattle.esc_base.specs.declared.note.Note.{Note}
 use Rattle.esc_base.specs.Flash.{Told}
-use Rattle.esc_base.specs.Journal.{IsLater, Journal}
+use Rattle.esc_base.specs.Journal.{Each, IsLater, Journal, time_of}
 use Rattle.esc_base.specs.Range.{InRange}
 use Rattle.esc_base.specs.Trace.{tick_of}
 use Rattle.settings_block.specs.declared.stored.Loaded.{Loaded}
@@ -16,6 +16,7 @@ use Rattle.timer_regs.specs.Effects.{advanced, after_entry, is_due}
 use Rattle.timer_regs.specs.NextDue.{IsNextDue, becomes_due}
 use Rattle.timer_regs.proofs.Advance.{advanced-now}
 use Rattle.interrupt_machine.specs.declared.nest.Nest.{Nest}
+use Rattle.interrupt_machine.specs.declared.nest.Nest.TheVariants.{Full}
 use Rattle.interrupt_machine.specs.declared.firmware.Did.{Did}
 use Rattle.interrupt_machine.specs.Open.{due_now, highest, is_idle, is_open, next_entry}
 use Rattle.interrupt_machine.specs.Turn.{own_notes, open_after}
@@ -39,7 +40,9 @@ use Rattle.esc_laws.specs.Tied.{Keeps, WordTold}
 use Rattle.esc_laws.specs.Legal.{Legal, LegalFront}
 use Rattle.esc_laws.specs.Logged.{first_bank, Logged, CoreTurn, turned}
 use Rattle.esc_laws.specs.World.{Made, made, world, after_event, enters}
-use Rattle.esc_laws.specs.Rooms.{Past, Ground, Tie}
+use Rattle.esc_laws.specs.Rooms.{Past, Ground, Tie, TurnWaits}
+use Rattle.esc_laws.specs.Chopped.{Chopped}
+use Rattle.esc_laws.specs.ChopSteps.{ChopFits}
 use Rattle.esc_laws.proofs.Pushes.{All-later, journal-push, notes-push}
 use Rattle.esc_laws.proofs.Stalls.{past_later as stall_later, past_more, past_ends, after_grows, uses_before, reached_grows, free_less, none_free}
 use Rattle.esc_laws.proofs.Growth.{sees_before}
@@ -50,6 +53,9 @@ use Rattle.esc_laws.proofs.Entries.{unheld_idle}
 use Rattle.esc_laws.proofs.OwnTurns.{steady, own_are}
 use Rattle.esc_laws.proofs.Stepping.{sees_due, entry_turn, own_turn, left_is, stepped_by}
 use Rattle.esc_laws.proofs.Start.{logged_start}
+use Rattle.esc_laws.proofs.Notes.{all_front}
+use Rattle.esc_laws.proofs.ChopLegal.{chopped_log}
+use Rattle.esc_laws.proofs.ChopFront.{chopped_front}
 use Rattle.esc_laws.proofs.Events.{keeps_later, marks_later, patient_later, event_time, told_grows, patient_grows, marks_grow, keeps_grow}
 
 pub start_logged : (loaded : Loaded) (nest : Nest) (cost : ℕ) → Logged loaded nest cost [] 0 (new_core loaded.settings) first_bank [] []
@@ -110,6 +116,7 @@ time_logged loaded nest cost trace next c b stack log t later le small l = recor
   reached = l.reached;
   reached_by = l.reached_by;
   fits = l.fits;
+  drives = l.drives;
   past = l.past;
   made_past = l.made_past;
   awaits = l.awaits;
@@ -190,6 +197,7 @@ quiet_logged loaded nest cost trace c b stack log t idle quiet later small l =
       reached = l.reached;
       reached_by = l.reached_by;
       fits = l.fits;
+      drives = l.drives;
       past = (let p = l.past in omega arith);
       made_past = past_later (made log) b.time t later l.made_past;
       awaits = record {
@@ -258,6 +266,7 @@ module _ (loaded : Loaded) (nest : Nest) (cost : ℕ) (trace : List Event) (e : 
         reached_by = λ k o t b.
             rw (uses_before cost trace e (steps_since k log) (entered_at k log) (l.reached_by k o (tick_of e) before)) (l.reached_by k o t b);
         fits = fits_grow loaded nest cost trace e log before l.fits;
+        drives = l.drives;
         past = rw (after_grows cost trace e log) (past_more e (after cost trace log) next l.past);
         made_past = past_later (made log) next (past_stall next e) later l.made_past;
         awaits = awaits_grow;
@@ -278,12 +287,21 @@ few_open loaded nest cost trace next c b stack log l k o =
     let a = l.owes k inside in let left = l.keeps.live k inside in
     omega arith
 
--- a journal whose steps stand below T, and which awaits none below it, is legal up to T
-pub legal_logged : (loaded : Loaded) (nest : Nest) (cost : ℕ) (trace : List Event) (next : ℕ) (c : Brain) (b : Bank) (stack : List Kind) (log : List Turned)
+-- a log that awaits no step below T
+awaited : (loaded : Loaded) (nest : Nest) (cost : ℕ) (trace : List Event) (next : ℕ) (c : Brain) (b : Bank) (stack : List Kind) (log : List Turned)
     (until : ℕ)
-    → until ≤ next → Below until log → All InRange (journal loaded log) → Logged loaded nest cost trace next c b stack log
-    → Legal loaded nest cost trace until (journal loaded log)
-legal_logged loaded nest cost trace next c b stack log until le below range l = record {
+    → until ≤ next → Logged loaded nest cost trace next c b stack log → Awaits loaded cost trace until log
+awaited loaded nest cost trace next c b stack log until le l = record {
+  open_step = λ o. (let n = l.at_next (λ s. o (sym l.marks.stack_is ∙ s)) in omega arith);
+  idle = λ o t from soon. l.awaits.idle o t from (omega arith);
+}
+
+-- a journal whose steps stand below T, and which awaits none below it, is legal up to T
+pub legal_chopped : (loaded : Loaded) (nest : Nest) (cost : ℕ) (trace : List Event) (next : ℕ) (c : Brain) (b : Bank) (stack : List Kind) (log : List Turned)
+    (until : ℕ)
+    → until ≤ next → Below until log → All InRange (journal loaded log) → (nest ≡ Full → Chopped cost trace until (journal loaded log))
+    → Logged loaded nest cost trace next c b stack log → Legal loaded nest cost trace until (journal loaded log)
+legal_chopped loaded nest cost trace next c b stack log until le below range chopped l = record {
   rest = notes_in log;
   begins = refl;
   in_range = range;
@@ -293,34 +311,56 @@ legal_logged loaded nest cost trace next c b stack log until le below range l = 
   dead_safe = l.marks.dead_safe;
   driven = l.marks.driven;
   commutated = l.marks.commutated;
+  chopped = chopped;
   nested = l.marks.nested;
   log = log;
   steps_are = refl;
   fits = l.fits;
   below = below;
-  all_made = record {
-    open_step = λ o. (let n = l.at_next (λ s. o (sym l.marks.stack_is ∙ s)) in omega arith);
-    idle = λ o t from soon. l.awaits.idle o t from (omega arith);
-  };
+  all_made = awaited loaded nest cost trace next c b stack log until le l;
   open_few = few_open loaded nest cost trace next c b stack log l;
 }
+
+full_fits : (loaded : Loaded) (nest : Nest) (cost : ℕ) (trace : List Event) (log : List Turned) → nest ≡ Full
+    → EachStep (StepFits loaded nest cost trace) [] log → EachStep (StepFits loaded Full cost trace) [] log
+full_fits loaded nest cost trace log full fits = subst (λ (n : Nest). EachStep (StepFits loaded n cost trace) [] log) full fits
+
+pub legal_logged : (loaded : Loaded) (nest : Nest) (cost : ℕ) (trace : List Event) (next : ℕ) (c : Brain) (b : Bank) (stack : List Kind) (log : List Turned)
+    (until : ℕ)
+    → 1 ≤ cost → cost ≤ 16 → until ≤ next → Below until log → All InRange (journal loaded log) → Logged loaded nest cost trace next c b stack log
+    → Legal loaded nest cost trace until (journal loaded log)
+legal_logged loaded nest cost trace next c b stack log until some most le below range l =
+    legal_chopped loaded nest cost trace next c b stack log until le below range
+    (λ full. chopped_log loaded cost trace until log some most (full_fits loaded nest cost trace log full l.fits)
+    (awaited loaded nest cost trace next c b stack log until le l) l.drives l.marks.driven l.marks.waits range) l
 
 pub last_step : (P : List Turned → Turned → Type 0) (before log : List Turned) (e : Turned) → EachStep P before (log ++ e ∷ []) → P (before ++ log) e
 last_step P before [] e each = rw (append-nil before) each.0
 last_step P before (x ∷ log) e each = rw (← append_assoc before (x ∷ []) log) (last_step P (before ++ x ∷ []) log e each.1)
 
+front_steps : (P : List Turned → Turned → Type 0) (before log : List Turned) (e : Turned) → EachStep P before (log ++ e ∷ []) → EachStep P before log
+front_steps P before [] e each = tt
+front_steps P before (x ∷ log) e each = (each.0, front_steps P (before ++ x ∷ []) log e each.1)
+
 -- after a step whose notes were written in part
 pub front_logged : (loaded : Loaded) (nest : Nest) (cost : ℕ) (trace : List Event) (next : ℕ) (c : Brain) (b : Bank) (stack : List Kind) (log : List Turned)
     (broken : Turned) (front left_out : List Note)
-    → broken.notes ≡ front ++ left_out → Below broken.tick log → All InRange (journal loaded log ++ front) → OpenFew loaded log
+    → 1 ≤ cost → cost ≤ 16 → broken.notes ≡ front ++ left_out → Below broken.tick log → All InRange (journal loaded log ++ front) → OpenFew loaded log
     → Logged loaded nest cost trace next c b stack (log ++ broken ∷ [])
     → LegalFront loaded nest cost trace (journal loaded log ++ front)
-front_logged loaded nest cost trace next c b stack log broken front left_out split below range few l =
+front_logged loaded nest cost trace next c b stack log broken front left_out some most split below range few l =
     let whole : journal loaded (log ++ broken ∷ []) ≡ (journal loaded log ++ front) ++ left_out =
     journal-push loaded log broken ∙ ap (λ (ns : List Note). journal loaded log ++ ns) split ∙ sym (append_assoc (journal loaded log) front left_out) in
     let tail : notes_in (log ++ broken ∷ []) ≡ (notes_in log ++ front) ++ left_out =
     notes-push log broken ∙ ap (λ (ns : List Note). notes_in log ++ ns) split ∙ sym (append_assoc (notes_in log) front left_out) in
     let last = last_step (StepFits loaded nest cost trace) [] log broken l.fits in
+    let fits : EachStep (StepFits loaded nest cost trace) [] log = front_steps (StepFits loaded nest cost trace) [] log broken l.fits in
+    let made : Awaits loaded cost trace broken.tick log =
+    record { open_step = λ o. (let at = last.open_step o in omega arith); idle = λ o. last.idle o } in
+    let driven : Driven (journal loaded log ++ front) = each_front (λ before n. IsDriven (reverse before) n) [] (journal loaded log ++ front) left_out
+    (subst (λ (ns : List Note). Driven ns) whole l.marks.driven) in
+    let waits = each_front (λ before n. TurnWaits (reverse before) n) [] (journal loaded log ++ front) left_out
+    (subst (λ (ns : List Note). Each (λ before n. TurnWaits (reverse before) n) [] ns) whole l.marks.waits) in
     record {
       log = log;
       broken = broken;
@@ -336,18 +376,21 @@ front_logged loaded nest cost trace next c b stack log broken front left_out spl
           (subst (λ (ns : List Note). Controlled ns) whole (in_order (journal loaded (log ++ broken ∷ [])) l.ground.control.controlled));
       dead_safe = each_front (λ before n. IsSafe (reverse before) n) [] (journal loaded log ++ front) left_out
           (subst (λ (ns : List Note). DeadSafe ns) whole l.marks.dead_safe);
-      driven = each_front (λ before n. IsDriven (reverse before) n) [] (journal loaded log ++ front) left_out
-          (subst (λ (ns : List Note). Driven ns) whole l.marks.driven);
+      driven = driven;
       commutated = each_front (λ before n. TurnRule loaded.settings.advance (forward_at loaded.settings) (reverse before) n) []
           (journal loaded log ++ front) left_out
           (subst (λ (ns : List Note). Commutated loaded.settings.advance (forward_at loaded.settings) ns) whole l.marks.commutated);
+      chopped = λ full. chopped_front loaded nest cost trace broken.tick log front below fits
+          (all_front (λ n. time_of n ≡ broken.tick) front left_out (subst (λ (ns : List Note). All (λ n. time_of n ≡ broken.tick) ns) split last.at_tick))
+          (chopped_log loaded cost trace broken.tick log some most (full_fits loaded nest cost trace log full fits) made
+          (front_steps (ChopFits loaded) [] log broken l.drives)
+          (each_front (λ before n. IsDriven (reverse before) n) [] (journal loaded log) front driven)
+          (each_front (λ before n. TurnWaits (reverse before) n) [] (journal loaded log) front waits)
+          (all_front InRange (journal loaded log) front range));
       nested = each_front (NestRule nest) (opening loaded) (notes_in log ++ front) left_out
           (subst (λ (ns : List Note). NestedAfter nest (opening loaded) ns) tail l.marks.nested);
       fits = l.fits;
       below = below;
-      all_made = record {
-        open_step = λ o. (let at = last.open_step o in omega arith);
-        idle = λ o. last.idle o;
-      };
+      all_made = made;
       open_few = few;
     }

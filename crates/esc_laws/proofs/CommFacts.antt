@@ -165,7 +165,7 @@ comm_gates w outer place at s i off_times dead pair = record {
     dead_time = dead;
     driven = (λ z. absurd (let l = i.drives in omega arith), rw (← (i.ties kind.Comm).sector_is) pair);
   };
-  drive = record { low = λ o. absurd (o refl); high = λ o. absurd (o refl); chops = λ is. cc; back = λ is. cc };
+  drive = record { low = λ o. absurd (o refl); high = λ o. absurd (o refl); chops = λ is. cc; back = λ is. cc; silent = λ is. cc };
 }
 
 -- ---- waiting

@@ -48,6 +48,10 @@ above_all One (i ∷ outer) k s a m =
     All-cons (λ j. (kind_number j ≡ 0) × (0 < kind_number k)) i outer main
     (rw (alone i outer main.0 s.0) (All-nil (λ j. (kind_number j ≡ 0) × (0 < kind_number k))))
 
+pub entry_above_kinds : (nest : Nest) (stack : List Kind) (due : Kind → Bool) (k : Kind) → IsStack stack → next_entry nest stack due ≡ Some k
+    → All (λ j. kind_number j < kind_number k) stack
+entry_above_kinds nest stack due k s e = less_all stack k s (entry_above nest stack due k e)
+
 entry_may : (nest : Nest) (stack : List Kind) (due : Kind → Bool) (k : Kind) → next_entry nest stack due ≡ Some k → may_enter nest (innermost stack) k ≡ true
 entry_may nest stack due k e =
     let same : enters_above nest (innermost stack) (Some k) ≡ Some k = rw (entry_highest nest stack due k e) at e in

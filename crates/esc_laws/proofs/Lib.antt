@@ -17,6 +17,19 @@ pub mod Returns
 pub mod DriveFacts
 pub mod CommFacts
 pub mod TickFacts
+pub mod ChopCalm
+pub mod ChopPushes
+pub mod ChopPlaced
+pub mod ChopFresh
+pub mod ChopHigh
+pub mod ChopLow
+pub mod ChopSettled
+pub mod ChopTheorem
+pub mod ChopBack
+pub mod ChopCalls
+pub mod ChopBridge
+pub mod ChopFront
+pub mod ChopLegal
 pub mod Law
 pub mod MainRoom
 pub mod TickRoom
@@ -27,6 +40,7 @@ pub mod Laws
 pub mod Stages
 pub mod Turns
 pub mod Entries
+pub mod ChopSteps
 pub mod OwnTurns
 pub mod Stepping
 pub mod Events
@@ -34,5 +48,9 @@ pub mod Start
 pub mod Carried
 pub mod FlashSteps
 pub mod Refused
+pub mod RefusedDrive
+pub mod UpTo
+pub mod RefusedChops
+pub mod DutyKept
 pub mod RefusedSteps
 pub mod Allowed

@@ -1,5 +1,5 @@
 -- PWM's room.
-use Rattle.std.proofs.Common.{◌≡◌, ◌≢◌, ◌≤◌, ◌<◌, ◌+◌, ◌%◌, ◌⊎◌, inl, inr, ℕ, Bool, true, false, not, ◌&&◌, ◌||◌, ◌==◌, nat_lt, bit_and, bit_or, if◌then◌else◌, List, ◌∷◌, Option, Some, None, refl, sym, ◌∙◌, ap, subst, arith}
+use Rattle.std.proofs.Common.{◌≡◌, ◌≢◌, ◌≤◌, ◌<◌, ◌+◌, ◌%◌, ◌⊎◌, inl, inr, ℕ, Bool, true, false, not, ◌&&◌, ◌||◌, ◌==◌, nat_lt, bit_and, bit_or, if◌then◌else◌, List, [], ◌∷◌, Option, Some, None, refl, sym, ◌∙◌, ap, subst, arith}
 use Rattle.std.specs.Int.Bits.{and_zero_r}
 use Rattle.std.proofs.lemmas.Bool.{cases_lt, cases_Bool, and_parts, lt-ltb, ltb-true, le-ltb, or_left, or_right}
 use Rattle.std.proofs.lemmas.Bool.Decides.{nat_tests}
@@ -90,11 +90,11 @@ tick_beside : (place place' : PwmAt) (w : World) (hi : ℕ) → w.core.pwm_at �
 tick_beside place place' w hi e ne t = (t.0, t.1, t.2, t.3, λ z. absurd (ne (sym e ∙ (t.4 z).pwm_shut)))
 
 still_gates : (w : World) (s : Stepped) → s.core.drive.gates ≡ w.core.drive.gates → (accessed w.bank s.access).hi ≡ w.bank.hi
-    → (accessed w.bank s.access).lo ≡ w.bank.lo → w.made.pwm_own ≢ 4 → (s.over ≡ true → 4 ≤ w.made.pwm_own) → GatesKeep kind.Pwm w s
-still_gates w s e hi lo early back = record {
+    → (accessed w.bank s.access).lo ≡ w.bank.lo → w.made.pwm_own ≢ 4 → (s.over ≡ true → 4 ≤ w.made.pwm_own) → s.notes ≡ [] → GatesKeep kind.Pwm w s
+still_gates w s e hi lo early back silent = record {
   off_times = e ∙ gates_same w.core.drive.gates w.bank (accessed w.bank s.access) hi lo;
   fits = λ told moved. absurd (moved hi lo);
-  drive = record { low = λ o d. lo; high = λ o p d. hi; chops = λ is own. absurd (early own); back = λ is over. back over };
+  drive = record { low = λ o d. lo; high = λ o p d. hi; chops = λ is own. absurd (early own); back = λ is over. back over; silent = λ is. silent };
 }
 
 -- ---- the write
@@ -156,9 +156,9 @@ chops_so leg w outer after i h =
 
 -- a write that changes the word of high switches
 write_word : (leg : Option Leg) (w : World) (outer : List Kind) (s : Stepped) (after : Bank) → Writes leg w outer → s.core.drive.gates ≡ gates_after w.core.drive.gates w.bank after
-    → after ≡ accessed w.bank s.access → s.over ≡ false → after.lo ≡ w.bank.lo → InPair w.bank.sector after.hi w.bank.lo → KeepsDeadTime w.bank s.core.drive.gates after
+    → after ≡ accessed w.bank s.access → s.over ≡ false → s.notes ≡ [] → after.lo ≡ w.bank.lo → InPair w.bank.sector after.hi w.bank.lo → KeepsDeadTime w.bank s.core.drive.gates after
     → HasChopped leg w.core.drive.gates w.bank after → GatesKeep kind.Pwm w s
-write_word leg w outer s after i off_times same over lo pair dead h = record {
+write_word leg w outer s after i off_times same over silent lo pair dead h = record {
   off_times = subst (λ (b : Bank). s.core.drive.gates ≡ gates_after w.core.drive.gates w.bank b) same off_times;
   fits = λ told moved. subst (λ (b : Bank). GateFits w b s.core.drive.gates) same (record {
     nest = rw (ap innermost i.on) tt;
@@ -173,6 +173,7 @@ write_word leg w outer s after i off_times same over lo pair dead h = record {
     high = λ o p d. absurd (p refl i.own);
     chops = λ is own. subst (λ (b : Bank). Chops w b) same (chops_so leg w outer after i h);
     back = λ is e. (let z : false ≡ true = sym over ∙ e in cc);
+    silent = λ is. silent;
   };
 }
 
@@ -193,7 +194,7 @@ on_places None x w outer e i =
       low = d.pair.low;
     } in
     record {
-      gates = write_word (Some x) w outer _ after i refl refl refl refl pair
+      gates = write_word (Some x) w outer _ after i refl refl refl refl refl pair
           (high_on_keeps g (gates_after g w.bank after) w.bank after x refl refl refl e (pair_apart w.bank.sector w.bank.hi w.bank.lo d.sectors d.pair))
           (λ none. or_on w.bank.hi x);
       fits = λ told. tt;
@@ -211,7 +212,7 @@ on_places (Some until) x w outer e i =
     let t : Ties w = i.ties in
     let d = t kind.Comm in
     record {
-      gates = write_word (Some x) w outer _ w.bank i (gates_same w.core.drive.gates w.bank w.bank refl refl) refl refl refl d.pair
+      gates = write_word (Some x) w outer _ w.bank i (gates_same w.core.drive.gates w.bank w.bank refl refl) refl refl refl refl d.pair
           (same_keeps w.core.drive.gates w.bank w.bank refl refl (pair_apart w.bank.sector w.bank.hi w.bank.lo d.sectors d.pair))
           (λ none. (let z : Some until ≡ None = sym e ∙ none in cc));
       fits = λ told. tt;
@@ -239,7 +240,7 @@ write_places None w outer i =
       low = d.pair.low;
     } in
     record {
-      gates = write_word None w outer _ after i refl refl refl refl pair
+      gates = write_word None w outer _ after i refl refl refl refl refl pair
           (high_off_keeps (gates_after g w.bank after) w.bank after 0 refl refl (pair_apart w.bank.sector w.bank.hi w.bank.lo d.sectors d.pair))
           (and_zero_r w.bank.hi);
       fits = λ told. tt;
@@ -276,7 +277,7 @@ steps : (place : PwmAt) (w : World) (outer : List Kind) → Ground w → Ties w 
     → StepKeeps kind.Pwm outer w (pwm_step place w.core w.bank)
 steps pwm.Shut w outer g t e shut duty i on left = absurd (omega arith)
 steps (pwm.Run chop.Raise) w outer g t e shut duty i on left = record {
-  gates = still_gates w _ refl refl refl (λ own. omega arith) (λ over. cc);
+  gates = still_gates w _ refl refl refl (λ own. omega arith) (λ over. cc) refl;
   fits = λ told. tt;
   ground = g;
   tie = λ told. (rw i refl, (t kind.Pwm).1);
@@ -288,7 +289,7 @@ steps (pwm.Run chop.Raise) w outer g t e shut duty i on left = record {
   stack_is = on;
 }
 steps (pwm.Run chop.Position) w outer g t e shut duty i on left = record {
-  gates = still_gates w _ refl refl refl (λ own. omega arith) (λ over. cc);
+  gates = still_gates w _ refl refl refl (λ own. omega arith) (λ over. cc) refl;
   fits = λ told. tt;
   ground = g;
   tie = λ told. (rw i (refl, refl), (t kind.Pwm).1);
@@ -300,7 +301,7 @@ steps (pwm.Run chop.Position) w outer g t e shut duty i on left = record {
   stack_is = on;
 }
 steps (pwm.Run (chop.Duty position)) w outer g t e shut duty i on left = record {
-  gates = still_gates w _ refl refl refl (λ own. (let o = i.0 in omega arith)) (λ over. cc);
+  gates = still_gates w _ refl refl refl (λ own. (let o = i.0 in omega arith)) (λ over. cc) refl;
   fits = λ told. tt;
   ground = g;
   tie = λ told. (rw i.0 (refl, rw (duty, i.1) refl), (t kind.Pwm).1);
@@ -312,7 +313,7 @@ steps (pwm.Run (chop.Duty position)) w outer g t e shut duty i on left = record 
   stack_is = on;
 }
 steps (pwm.Run (chop.Sector below)) w outer g t e shut duty i on left = record {
-  gates = still_gates w _ refl refl refl (λ own. (let o = i.0 in omega arith)) (λ over. cc);
+  gates = still_gates w _ refl refl refl (λ own. (let o = i.0 in omega arith)) (λ over. cc) refl;
   fits = λ told. tt;
   ground = g;
   tie = λ told. (rw i.0 (refl, ap (λ (v : Bool). chopped_leg v w.bank.sector) i.1), (t kind.Pwm).1);
@@ -335,7 +336,7 @@ steps (pwm.Run (chop.Write leg)) w outer g t e shut duty i on left =
       shut = shut;
     })
 steps (pwm.Run chop.Lower) w outer g t e shut duty i on left = record {
-  gates = still_gates w _ refl refl refl (λ own. omega arith) (λ over. cc);
+  gates = still_gates w _ refl refl refl (λ own. omega arith) (λ over. cc) refl;
   fits = λ told. tt;
   ground = g;
   tie = λ told. (rw i refl, (t kind.Pwm).1);
@@ -348,7 +349,7 @@ steps (pwm.Run chop.Lower) w outer g t e shut duty i on left = record {
 }
 steps (pwm.Run chop.Over) w outer g t e shut duty i on left = absurd i
 steps pwm.Back w outer g t e shut duty i on left = record {
-  gates = still_gates w _ refl refl refl (λ own. omega arith) (λ over. omega arith);
+  gates = still_gates w _ refl refl refl (λ own. omega arith) (λ over. omega arith) refl;
   fits = λ told. (
     record {
       at = refl;

@@ -32,7 +32,7 @@ pub quiet_gates : (k : Kind) (w : World) (s : Stepped) → k ≢ kind.Pwm → s.
 quiet_gates k w s ne e hi lo = record {
   off_times = e ∙ gates_same w.core.drive.gates w.bank (accessed w.bank s.access) hi lo;
   fits = λ told moved. absurd (moved hi lo);
-  drive = record { low = λ o d. lo; high = λ o p d. hi; chops = λ is own. absurd (ne is); back = λ is over. absurd (ne is) };
+  drive = record { low = λ o d. lo; high = λ o p d. hi; chops = λ is own. absurd (ne is); back = λ is over. absurd (ne is); silent = λ is. absurd (ne is) };
 }
 
 pub inside : (stack : List Kind) (k : Kind) (outer : List Kind) → stack ≡ k ∷ outer → innermost stack ≡ Some k

@@ -39,7 +39,7 @@ use Rattle.esc_laws.specs.Steps.{opening, is_entry, ReturnsLast}
 use Rattle.esc_laws.specs.Saves.{is_save, forward_at}
 use Rattle.esc_laws.specs.Tied.{WordTold}
 use Rattle.esc_laws.specs.World.{Made, made_next, World, placed, so_far, onto, noted, enters, after_enter, after_step, step_notes, all_notes, gated, counted, open_left, at_time, after_event, after_outside}
-use Rattle.esc_laws.specs.Rooms.{Above, HoldsAlone, Past, Ground, Tie, Ties, owner, TurnWaits, AllFit, WordMoves, GatesKeep, StepTold, StepKeeps}
+use Rattle.esc_laws.specs.Rooms.{Above, HoldsAlone, Past, Ground, Tie, Ties, owner, TurnWaits, AllFit, WordMoves, DriveKeeps, GatesKeep, StepTold, StepKeeps}
 use Rattle.esc_laws.proofs.Pushes.{All-later, place-push}
 use Rattle.esc_laws.proofs.Notes.{Said, NoteFits, said_push}
 use Rattle.esc_laws.proofs.Facts.{access_time}
@@ -240,6 +240,7 @@ pub step_made : (k : Kind) (answers : List Answer) (loaded : Loaded) (nest : Nes
     (open_left k outer (kind_step k answers (counted_down c b) b))
     × All (IsOwn k b.time) (all_notes b k (kind_step k answers (counted_down c b) b))
     × ReturnsLast k (all_notes b k (kind_step k answers (counted_down c b) b))
+    × DriveKeeps k (counted (world_of loaded nest trace c b made rest)) (kind_step k answers (counted_down c b) b)
 step_made k answers loaded nest trace c b made rest outer i past above alone left =
     let s : Stepped = kind_step k answers (counted_down c b) b in
     let after : Bank = accessed b s.access in
@@ -258,6 +259,7 @@ step_made k answers loaded nest trace c b made rest outer i past above alone lef
         kept_stood k w rest outer s refl i.said ties (told_same k w s plain.gates was same) plain,
         all_own k w (step_notes b.time k s) (plain.fits (told_same k w s plain.gates was same)),
         returns_last k outer w s on (told_same k w s plain.gates was same) plain,
+        plain.gates.drive,
       )
       | inr other ↦ (
           let told : StepKeeps k outer (gated w after) s =
@@ -275,6 +277,7 @@ step_made k answers loaded nest trace c b made rest outer i past above alone lef
                 (append_assoc rest (g ∷ []) (step_notes b.time k s)) stood,
             All-cons (IsOwn k b.time) g (step_notes b.time k s) (refl, refl, λ e. cc) (all_own k (gated w after) (step_notes b.time k s) (told.fits by.1)),
             returns_last k outer (gated w after) s on by.1 told,
+            plain.gates.drive,
           ))
     ]
 

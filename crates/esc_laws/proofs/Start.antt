@@ -227,6 +227,7 @@ logged_start loaded nest cost =
       reached = λ k o. cc;
       reached_by = λ k o. cc;
       fits = tt;
+      drives = tt;
       past = omega arith;
       made_past = rw made-none (record { cap = omega arith; comm = omega arith });
       awaits = record { open_step = λ o. omega arith; idle = λ o t from below f k. absurd (omega arith) };

@@ -6,6 +6,7 @@ use Rattle.esc_base.specs.declared.kind.Kind.{Kind}
 use Rattle.esc_base.specs.declared.kind.Kind.TheVariants as kind
 use Rattle.esc_base.specs.declared.event.Event.{Event}
 use Rattle.esc_base.specs.declared.note.Note.{Note}
+use Rattle.esc_base.specs.Numbers.{kind_number}
 use Rattle.esc_base.specs.Journal.{time_of}
 use Rattle.settings_block.specs.declared.stored.Loaded.{Loaded}
 use Rattle.timer_regs.specs.Bank.{Bank}
@@ -26,18 +27,19 @@ use Rattle.esc_core.specs.Firmware.{left_of, need_of, entered_core, kind_step, c
 use Rattle.esc_core.proofs.Bounds.{Bounds, need_some, mask_down, goes_bounds}
 use Rattle.esc_laws.specs.Place.{Place}
 use Rattle.esc_laws.specs.Seen.{sees, sees_at}
-use Rattle.esc_laws.specs.Steps.{Turned, notes_in, journal, after, uses, is_of, is_entry, ReturnsLast, own_steps, steps_since, entered_at, called, StepFits, Below}
+use Rattle.esc_laws.specs.Steps.{Turned, opening, notes_in, journal, after, uses, is_of, is_entry, ReturnsLast, own_steps, steps_since, entered_at, called, StepFits, Below}
 use Rattle.esc_laws.specs.Tied.{Keeps, WordTold}
 use Rattle.esc_laws.specs.World.{made, world, enters, all_notes, open_left}
 use Rattle.esc_laws.specs.Rooms.{Ground, Tie}
 use Rattle.esc_laws.specs.Logged.{Logged}
-use Rattle.esc_laws.proofs.Pushes.{own-push, made-push, since-push}
+use Rattle.esc_laws.proofs.Pushes.{notes-push, own-push, made-push, since-push}
 use Rattle.esc_laws.proofs.Stalls.{free_ended}
 use Rattle.esc_laws.proofs.Facts.{of_self, of_other, some_open, outer_open, left_open, access_time}
 use Rattle.esc_laws.proofs.Laws.{law}
 use Rattle.esc_laws.proofs.Stages.{IsOwn, placed-is, enter_time, enter_stood, step_made}
-use Rattle.esc_laws.proofs.Entries.{unheld_down, holds_alone, entered_others, entered_most, entry_above_all, keeps_entry}
+use Rattle.esc_laws.proofs.Entries.{entry_above_kinds, unheld_down, holds_alone, entered_others, entered_most, entry_above_all, keeps_entry}
 use Rattle.esc_laws.proofs.OwnTurns.{steady, keeps_own}
+use Rattle.esc_laws.proofs.ChopSteps.{entry_chops, own_chops}
 use Rattle.esc_laws.proofs.Turns.{reached_on, reached_new, by_on, by_new, stood, logged_after}
 
 -- ---- what is seen due, and isn't open, is due
@@ -150,6 +152,8 @@ entry_turn loaded nest cost trace c b stack log k some l down chosen =
       reached = entry_reached cost trace b stack log k l.at_next l.reached;
       reached_by = entry_by cost trace b stack log k l.at_next l.reached;
       fits = entry_fits loaded nest cost trace c b stack log k l down chosen;
+      drive = entry_chops loaded log b.time k (subst (λ (st : List Kind). All (λ j. kind_number j < kind_number k) st) l.marks.stack_is
+          (entry_above_kinds nest stack (due_now c.orders.save_asked b) k l.sorted chosen));
     })
 
 -- ---- an own step
@@ -237,6 +241,9 @@ own_turn loaded nest cost trace c b outer log k answers some l none =
       reached_by = λ j o t below.
           by_on cost trace log (own_of b.time k notes) j t refl (l.at_next (λ e. cc)) (l.reached j (left_open s.over k j outer o)) below;
       fits = own_fits loaded nest cost trace c b outer log k notes l step.1 step.2;
+      drive = own_chops loaded nest trace c b s log k l.gates
+          (subst (λ (ns : List Note). WordTold s.core b' (reverse (opening loaded ++ ns))) (sym (notes-push log (own_of b.time k notes))) step.0.gates)
+          (l.ties kind.Comm).sector_is step.3;
     })
 
 -- the open kinds after it, by what the handler did

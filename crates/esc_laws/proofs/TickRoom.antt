@@ -345,6 +345,7 @@ off_gates w outer place s i zero off_times dead high low = record {
     high = λ o p l. absurd (omega arith);
     chops = λ is. cc;
     back = λ is. cc;
+    silent = λ is. cc;
   };
 }
 

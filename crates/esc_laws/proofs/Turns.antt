@@ -17,6 +17,7 @@ use Rattle.esc_core.specs.Firmware.{left_of}
 use Rattle.esc_laws.specs.Seen.{sees}
 use Rattle.esc_laws.specs.Steps.{Turned, stall_end, notes_in, journal, open_in, next_step, after, uses, is_of, own_steps, steps_since, entered_at, called, StepFits, Below}
 use Rattle.esc_laws.specs.Tied.{Keeps}
+use Rattle.esc_laws.specs.ChopSteps.{ChopFits}
 use Rattle.esc_laws.specs.World.{Made, made_next, made}
 use Rattle.esc_laws.specs.Rooms.{Past}
 use Rattle.esc_laws.specs.Logged.{Logged}
@@ -93,6 +94,7 @@ pub record Given (loaded : Loaded) (nest : Nest) (cost : ℕ) (trace : List Even
   pub patient : Patient nest c'.hold b'.masked stack' (sees trace (journal loaded (log ++ e ∷ [])) b.time)
       (λ k. counted_by loaded nest trace b.time stack stack' log e k)
   pub owes : (k : Kind) → is_open stack' k ≡ true → own_steps k (log ++ e ∷ []) + left_of c' k ≤ most k
+  pub drive : ChopFits loaded log e
   pub reached : (k : Kind) → is_open stack' k ≡ true
       → after cost trace (log ++ e ∷ []) ≡ uses cost trace (steps_since k (log ++ e ∷ []) + 1) (entered_at k (log ++ e ∷ []))
   pub reached_by : (k : Kind) → is_open stack' k ≡ true → (t : ℕ) → Below t (log ++ e ∷ [])
@@ -151,6 +153,7 @@ logged_after loaded nest cost trace c c' b b' stack stack' log e some at l g =
       fits = step-push (StepFits loaded nest cost trace) [] log e l.fits
           (g.fits
           (patient_most nest c'.hold b'.masked stack' (sees trace (journal loaded (log ++ e ∷ [])) b.time) (called loaded nest trace (log ++ e ∷ [])) patient));
+      drives = step-push (ChopFits loaded) [] log e l.drives g.drive;
       past = rw next (omega arith);
       made_past = rw (made-push log e) (past_soon e.kind e.enters e.tick (made log) (omega arith)
           (record { cap = (let p = l.made_past.cap in omega arith); comm = (let p = l.made_past.comm in omega arith) }));

@@ -29,6 +29,7 @@ use Rattle.esc_laws.specs.Nested.{NestedAfter}
 use Rattle.esc_laws.specs.Seen.{sees}
 use Rattle.esc_laws.specs.Steps.{Turned, stall_end, opening, notes_in, journal, open_in, free, after, uses, own_steps, steps_since, entered_at, called, EachStep, StepFits, Awaits, Below}
 use Rattle.esc_laws.specs.Tied.{Keeps, WordTold}
+use Rattle.esc_laws.specs.ChopSteps.{ChopFits}
 use Rattle.esc_laws.specs.World.{made, world}
 use Rattle.esc_laws.specs.Rooms.{Past, Ground, Tie, TurnWaits}
 
@@ -63,6 +64,7 @@ pub record Logged (loaded : Loaded) (nest : Nest) (cost : ℕ) (trace : List Eve
   -- and the newest step of the log stands where `next_step` leads from the entry
   pub reached_by : (k : Kind) → is_open stack k ≡ true → (t : ℕ) → Below t log → uses cost trace (steps_since k log) (entered_at k log) < t
   pub fits : EachStep (StepFits loaded nest cost trace) [] log
+  pub drives : EachStep (ChopFits loaded) [] log
   pub past : after cost trace log ≤ next
   pub made_past : Past (made log) next
   pub awaits : Awaits loaded cost trace next log

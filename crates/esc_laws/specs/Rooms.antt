@@ -193,12 +193,13 @@ pub record Chops (w : World) (after : Bank) : Type 0 where
   pub off : demand_at w.back ≤ w.made.sampled % 2000 → after.hi ≡ 0
 
 -- While there is a demand, only COMM writes the low switches, and besides it only PWM's fifth own step the high ones. PWM
--- doesn't return before that step.
+-- doesn't return before that step, and has no note of its own but its return.
 pub record DriveKeeps (k : Kind) (w : World) (s : Stepped) : Type 0 where
   pub low : k ≢ kind.Comm → 0 < demand_at w.back → (accessed w.bank s.access).lo ≡ w.bank.lo
   pub high : k ≢ kind.Comm → (k ≡ kind.Pwm → w.made.pwm_own ≢ 4) → 0 < demand_at w.back → (accessed w.bank s.access).hi ≡ w.bank.hi
   pub chops : k ≡ kind.Pwm → w.made.pwm_own ≡ 4 → Chops w (accessed w.bank s.access)
   pub back : k ≡ kind.Pwm → s.over ≡ true → 4 ≤ w.made.pwm_own
+  pub silent : k ≡ kind.Pwm → s.notes ≡ []
 
 -- what a step does to the gates: what the core keeps of them follows exactly, and a G fits where the word becomes another one
 pub record GatesKeep (k : Kind) (w : World) (s : Stepped) : Type 0 where

@@ -52,7 +52,7 @@ returns-clause-run g c =
           (LeftBelow o flash' r.machine.nest r.cost r.limit.0) c.as_slice.result.now _ _ (λ trace steps front rest last st split.
           step_breaks o r.machine.nest r.cost r.next.0 r.limit.0 trace r.machine.firmware c.step_into.new.self.firmware r.regs c.step_into.new.regs flash
           flash' r.machine.open_kinds c.step_into.new.self.open_kinds steps own front rest last
-          c.requires.now below r.cost_some small st.logged c.requires.busy t (below_next r.cost r.next.0 steps r.cost_some st.spaced)
+          c.requires.now below r.cost_some r.cost_most small st.logged c.requires.busy t (below_next r.cost r.next.0 steps r.cost_some st.spaced)
           (sym c.as_slice.ensures.value ∙ split)
           c.step_into.ensures.in_range st.in_range (g.met.D.FlashDev.whole c.args.dev.now) (g.met.D.FlashDev.whole c.step_into.new.dev) st.flash) broken);
       failed = c.put_notes.ensures.failed;
