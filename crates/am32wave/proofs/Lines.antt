@@ -4,6 +4,7 @@ use Rattle.std.specs.Io.KnownBytes.{prepend_known, IsAtEnd}
 use Rattle.std.proofs.lemmas.List.Elements.{All-head, All-tail, All-cons, All-nil}
 use Rattle.std.specs.List.{sum_by}
 use Rattle.std.specs.Fmt.{decimal}
+use Rattle.std.proofs.lemmas.Fmt.{length-decimal-le}
 use Rattle.std.proofs.lemmas.Option.{same_Some}
 use Rattle.std.proofs.lemmas.List.Concat.{length-flat_map}
 use Rattle.std.proofs.lemmas.List.{take-append-drop, take_more, get_or-take, take_all, length-take}
@@ -17,8 +18,7 @@ use Rattle.esc_base.specs.declared.note.Note.TheVariants as note
 use Rattle.trace_text.specs.Text.{spaced, bits, note_fields, note_bytes}
 use Rattle.trace_text.proofs.NoteBack.{NoFeed, note_front, no_feed_front}
 use Rattle.trace_text.proofs.OneText.{one_text}
-use Rattle.trace_text.proofs.Digits.{length_decimal_most}
-use Rattle.trace_text.proofs.Spacing.{no_bits, bits_suc}
+use Rattle.trace_text.proofs.Bits.{no_bits, bits_suc}
 use Rattle.trace_text.proofs.Fields.{no_place}
 use Rattle.trace_text.proofs.Cut.{no_feed_before}
 use Rattle.trace_text.proofs.Taking.{prepend_both}
@@ -79,7 +79,7 @@ length-spaced : (words : List (List ℕ)) → length (spaced words) ≡ sum_by (
 length-spaced words = length-flat_map (λ w. 32 ∷ w) words
 
 small : (n : ℕ) → n < 4294967296 → length (decimal n) ≤ 10
-small n lt = length_decimal_most n (omega arith)
+small n lt = length-decimal-le 10 n (omega arith) (omega arith) (omega arith)
 
 front_short : (n : Note) → InRange n → length (note_front n) ≤ 45
 front_short (note.Up t r) h =

@@ -12,7 +12,7 @@ use crate::wire::Wire;
 use arrayvec::ArrayVec;
 use esc_base::{Failed, Sink, Tick};
 use itoa::Buffer;
-use trace_text::{Line, push_bits, push_byte, push_number};
+use trace_text::Line;
 
 /// A piece of text.
 #[derive(Clone, Copy, Drop)]
@@ -58,15 +58,14 @@ fn time_text(t: Tick) -> Line
     requires { IsWord t.0 }
     ensures { result.bytes ≡ time_text t.0 }
 {
-    let mut digits = Buffer::new();
     let mut line = Line::new();
     let rest = t.0 % 48 * 1000 / 48;
-    line.push_str(digits.format(t.0 / 48));
-    push_byte(&mut line, b'.');
-    push_byte(&mut line, b'0' + (rest / 100) as u8);
-    push_byte(&mut line, b'0' + (rest / 10 % 10) as u8);
-    push_byte(&mut line, b'0' + (rest % 10) as u8);
-    line.push_str(" us");
+    line.push_number((t.0 / 48) as u32);
+    line.push_byte(b'.');
+    line.push_byte(b'0' + (rest / 100) as u8);
+    line.push_byte(b'0' + (rest / 10 % 10) as u8);
+    line.push_byte(b'0' + (rest % 10) as u8);
+    line.push_bytes(b" us");
     line
 }
 
@@ -74,14 +73,13 @@ fn number_text(n: u32) -> Line
     ensures { result.bytes ≡ decimal n }
 {
     let mut line = Line::new();
-    push_number(&mut line, n);
+    line.push_number(n);
     line
 }
 
 fn hex_digit(n: u8) -> u8
     requires { n < 16 }
-    ensures digit { result ≡ digit_glyph false n }
-    ensures ascii { result < 128 }
+    ensures { result ≡ digit_glyph false n }
 {
     if n < 10 { b'0' + n } else { b'a' + (n - 10) }
 }
@@ -90,8 +88,8 @@ fn byte_text(byte: u8) -> Line
     ensures { result.bytes ≡ hex byte }
 {
     let mut line = Line::new();
-    push_byte(&mut line, hex_digit(byte / 16));
-    push_byte(&mut line, hex_digit(byte % 16));
+    line.push_byte(hex_digit(byte / 16));
+    line.push_byte(hex_digit(byte % 16));
     line
 }
 
@@ -99,7 +97,7 @@ fn bits_text(b: u32) -> Line
     ensures { result.bytes ≡ bits 21 b }
 {
     let mut line = Line::new();
-    push_bits(&mut line, 21, b);
+    line.push_bits(21, b);
     line
 }
 
@@ -118,42 +116,40 @@ fn stamp_text(t: Tick) -> Line
 {
     let mut digits = Buffer::new();
     let mut line = Line::new();
-    push_byte(&mut line, b'#');
-    line.push_str(digits.format(stamp(t)));
-    push_byte(&mut line, b'\n');
+    line.push_byte(b'#');
+    line.push_bytes(digits.format(stamp(t)).as_bytes());
+    line.push_byte(b'\n');
     line
 }
 
 fn declaration_text(id: u8, wire: Wire) -> Line
-    requires { id < 128 }
     ensures { result.bytes ≡ declaration id wire }
 {
     let mut line = Line::new();
-    line.push_str("$var wire ");
-    push_number(&mut line, wire.width());
-    push_byte(&mut line, b' ');
-    push_byte(&mut line, id);
-    push_byte(&mut line, b' ');
-    line.push_str(wire.name());
-    line.push_str(" $end\n");
+    line.push_bytes(b"$var wire ");
+    line.push_number(wire.width());
+    line.push_byte(b' ');
+    line.push_byte(id);
+    line.push_byte(b' ');
+    line.push_bytes(wire.name().as_bytes());
+    line.push_bytes(b" $end\n");
     line
 }
 
 fn change_text(id: u8, width: u32, value: u32) -> Line
-    requires ascii { id < 128 }
-    requires most { width ≤ 32 }
+    requires { width ≤ 32 }
     ensures { result.bytes ≡ change id width value }
 {
     let mut line = Line::new();
     if width == 1 {
-        push_bits(&mut line, width, value);
+        line.push_bits(width, value);
     } else {
-        push_byte(&mut line, b'b');
-        push_bits(&mut line, width, value);
-        push_byte(&mut line, b' ');
+        line.push_byte(b'b');
+        line.push_bits(width, value);
+        line.push_byte(b' ');
     }
-    push_byte(&mut line, id);
-    push_byte(&mut line, b'\n');
+    line.push_byte(id);
+    line.push_byte(b'\n');
     line
 }
 
@@ -163,7 +159,7 @@ fn put_line<K: Sink>(line: &Line, out: &mut K) -> Result<(), Failed>
     ensures no_fewer { K.faults out.old ≤ K.faults out.new }
     ensures failed { OnErr result (Rose (K.faults out.old) (K.faults out.new)) }
 {
-    out.put(line.as_str().as_bytes())
+    out.put(line.as_bytes())
 }
 
 fn put_piece<K: Sink>(piece: Piece, out: &mut K) -> Result<(), Failed>

@@ -3,8 +3,11 @@ ghost use Rattle.am32wave.specs.Status.{status_bytes, refusal_name, exit_number}
 ghost use Rattle.am32wave.specs.declared.status.Status.TheVariants.{Refused as IsRefused};
 
 use crate::journal::Refusal;
+use arrayvec::ArrayString;
 use itoa::Buffer;
-use trace_text::Line;
+
+/// The line on standard error.
+type Line = ArrayString<64>;
 
 /// How the program ended.
 #[derive(Clone, Copy, Debug, PartialEq, Eq, Drop)]
