@@ -1,9 +1,9 @@
 //! What the lines of a script ask for.
 
 use crate::comparator::Beat;
-use crate::spoil::Spoil;
+use crate::frame_out::{Payload, Spoil};
 use arrayvec::ArrayVec;
-use esc_base::{Frame, Mode, Tick};
+use esc_base::{Mode, Tick};
 
 /// A line of a script.
 #[derive(Debug, Drop)]
@@ -18,13 +18,16 @@ pub enum Directive {
 #[derive(Debug, Drop)]
 pub enum Action {
     /// From here on frames are sent.
-    Send(Frame),
+    Send(Payload),
     /// From here on pulses of so many ticks are sent.
     Pulse(u64),
     /// No message begins any more.
     Off,
-    /// One frame is sent.
-    Frame { frame: Frame, spoil: Spoil },
+    /// One frame is sent, as it should be or not.
+    Frame {
+        payload: Payload,
+        spoil: Option<Spoil>,
+    },
     /// Something is wrong with the next frame.
     Spoil(Spoil),
     /// Noise for so many ticks.

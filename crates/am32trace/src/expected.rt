@@ -19,6 +19,7 @@ pub enum Expected {
     Edges,
     Sender,
     FreeLine,
+    QuietLine,
     Level,
     Motion,
     Bounces,
@@ -61,6 +62,7 @@ impl Expected {
             Expected::Edges => "1 to 31 edges",
             Expected::Sender => "frames that are sent: `throttle` or `command` above",
             Expected::FreeLine => "a free line: `off` above, and the frame before over",
+            Expected::QuietLine => "a time at which nothing is on the line",
             Expected::Level => "high or low",
             Expected::Motion => "high, low, or `every` and a time",
             Expected::Bounces => {

@@ -1,4 +1,5 @@
 //! A flight: the sender, the comparator and the serial line, whose events are written in the order of their times.
+ghost use Rattle.std.specs.Prelude.{◌≤◌};
 
 use crate::action::Action;
 use crate::comparator::Comparator;
@@ -6,7 +7,7 @@ use crate::expected::Expected;
 use crate::serial_line::SerialLine;
 use crate::signal_line::{Message, SignalLine};
 use esc_base::{Event, Mode, Sink, Tick};
-use trace_tools::{Unwritten, Writer};
+use trace_tools::{LAST_TICK, Unwritten, Writer, tick_of};
 
 /// Why a line can't be followed.
 #[derive(Clone, Copy, Debug, PartialEq, Eq, Drop)]
@@ -62,15 +63,6 @@ fn earlier(first: Option<Planned>, second: Option<Planned>) -> Option<Planned> {
         (Some(a), Some(b)) if tick_of(&b.event) < tick_of(&a.event) => second,
         (None, _) => second,
         (Some(_), _) => first,
-    }
-}
-
-fn tick_of(event: &Event) -> Tick {
-    match *event {
-        Event::Edge { t, level: _ }
-        | Event::Comp { t, level: _ }
-        | Event::Serial { t, byte: _ }
-        | Event::Stall { t, n: _ } => t,
     }
 }
 
@@ -158,6 +150,9 @@ impl Flight {
         if t < self.now {
             return Err(Fault::Expected(Expected::LaterTime));
         }
+        if t.0 > LAST_TICK {
+            return Err(Fault::Expected(Expected::EarlierTime));
+        }
         self.has_begun = true;
         self.now = t;
         self.run_until(t, out)?;
@@ -187,7 +182,9 @@ impl Flight {
     }
 
     /// What goes on from `t` on.
-    fn set(&mut self, t: Tick, action: Action) -> Result<(), Expected> {
+    fn set(&mut self, t: Tick, action: Action) -> Result<(), Expected>
+        requires { t.0 ≤ 1073741824 }
+    {
         match action {
             Action::Change(beat) => self.comparator.change(t, beat),
             Action::Serial(bytes) => {
@@ -200,27 +197,43 @@ impl Flight {
                 if self.signal.mode != Mode::Servo {
                     return Err(Expected::Pulses);
                 }
-                self.signal.repeat(t, Message::Pulse(width));
+                return self.repeat(t, Message::Pulse(width));
             }
             Action::Off => self.signal.stop(),
-            Action::Noise(ticks) => self.signal.make_noise(t, ticks),
+            Action::Noise(ticks) => {
+                if !self.signal.is_quiet() {
+                    return Err(Expected::QuietLine);
+                }
+                self.signal.make_noise(t, ticks);
+            }
             action => return self.set_frames(t, action),
         }
         Ok(())
     }
 
+    /// Sends a message again and again from `t` on.
+    fn repeat(&mut self, t: Tick, message: Message) -> Result<(), Expected> {
+        if !self.signal.repeats() && !self.signal.is_quiet() {
+            return Err(Expected::QuietLine);
+        }
+        self.signal.repeat(t, message);
+        Ok(())
+    }
+
     /// What frames are sent from `t` on.
-    fn set_frames(&mut self, t: Tick, action: Action) -> Result<(), Expected> {
+    fn set_frames(&mut self, t: Tick, action: Action) -> Result<(), Expected>
+        requires { t.0 ≤ 1073741824 }
+    {
         if !self.signal.has_frames() {
             return Err(Expected::Frames);
         }
         match action {
-            Action::Send(frame) => self.signal.repeat(t, Message::Frame(frame)),
-            Action::Frame { frame, spoil } => {
+            Action::Send(payload) => return self.repeat(t, Message::Frame(payload)),
+            Action::Frame { payload, spoil } => {
                 if !self.signal.is_free() {
                     return Err(Expected::FreeLine);
                 }
-                self.signal.send_frame(t, frame, spoil);
+                self.signal.send_frame(t, payload, spoil);
             }
             Action::Spoil(spoil) => {
                 if !self.signal.repeats() {

@@ -5,6 +5,7 @@ mod action;
 mod comparator;
 mod expected;
 mod flight;
+mod frame_edges;
 mod frame_out;
 mod noise;
 mod packet;
@@ -13,7 +14,6 @@ mod run;
 mod script;
 mod serial_line;
 mod signal_line;
-mod spoil;
 mod status;
 #[cfg(test)]
 mod tests;
@@ -30,12 +30,12 @@ use std::{env, io};
 use usage::usage_text;
 
 /// What the words behind the program's name ask for.
-enum Asked {
+enum Wish {
     Trace,
     Help,
 }
 
-fn asked(rt: &HostRuntime) -> Result<Asked, Status> {
+fn asked(rt: &HostRuntime) -> Result<Wish, Status> {
     let args = match env::args(rt) {
         Ok(args) => args,
         Err(e) if e.kind() == io::ErrorKind::InvalidData => return Err(Status::Usage),
@@ -43,8 +43,8 @@ fn asked(rt: &HostRuntime) -> Result<Asked, Status> {
     };
     let mut words = args.skip(1);
     match words.next() {
-        None => Ok(Asked::Trace),
-        Some(word) if word.as_str() == "--help" && words.next().is_none() => Ok(Asked::Help),
+        None => Ok(Wish::Trace),
+        Some(word) if word.as_str() == "--help" && words.next().is_none() => Ok(Wish::Help),
         Some(_) => Err(Status::Usage),
     }
 }
@@ -95,8 +95,8 @@ fn write_help(rt: &HostRuntime) -> Status {
 
 fn main(rt: HostRuntime) -> ExitCode {
     let status = match asked(&rt) {
-        Ok(Asked::Trace) => write_trace(&rt),
-        Ok(Asked::Help) => write_help(&rt),
+        Ok(Wish::Trace) => write_trace(&rt),
+        Ok(Wish::Help) => write_help(&rt),
         Err(status) => {
             tell(&rt, &status);
             status

@@ -4,13 +4,13 @@ ghost use Rattle.std.specs.Prelude.{◌≤◌, IfOk};
 use crate::action::{Action, Directive};
 use crate::comparator::Beat;
 use crate::expected::Expected;
+use crate::frame_out::{Payload, Spoil};
 use crate::packet::packet_bytes;
 use crate::serial_line::MOST_BYTES;
-use crate::spoil::Spoil;
 use arrayvec::ArrayVec;
 use esc_base::{Frame, Mode, Tick};
 use trace_text::number_in;
-use trace_tools::{LAST_TICK, Words, duration_in};
+use trace_tools::{Words, duration_in};
 
 /// What a line asks for; nothing where it is blank or a comment.
 pub fn directive(line: &[u8]) -> Result<Option<Directive>, Expected> {
@@ -22,9 +22,6 @@ pub fn directive(line: &[u8]) -> Result<Option<Directive>, Expected> {
         signal(&mut words)?
     } else {
         let t = duration_in(first).ok_or(Expected::Directive)?;
-        if t > LAST_TICK {
-            return Err(Expected::EarlierTime);
-        }
         let action = action(&mut words)?;
         Directive::At { t: Tick(t), action }
     };
@@ -53,6 +50,13 @@ fn number(words: &mut Words, low: u32, high: u32, expected: Expected) -> Result<
         None => Err(expected),
     }
 }
+
+/// Nothing is wrong yet.
+const RIGHT: Spoil = Spoil {
+    flipped: 0,
+    wide: None,
+    edges: 32,
+};
 
 // ---- the signal
 
@@ -106,9 +110,9 @@ fn action(words: &mut Words) -> Result<Action, Expected> {
         Some(b"pulse") => pulse(words),
         Some(b"off") => Ok(Action::Off),
         Some(b"frame") => frame(words),
-        Some(b"flip") => Ok(Action::Spoil(flip(words, Spoil::NONE)?)),
-        Some(b"wide") => Ok(Action::Spoil(wide(words, Spoil::NONE)?)),
-        Some(b"cut") => Ok(Action::Spoil(cut(words, Spoil::NONE)?)),
+        Some(b"flip") => Ok(Action::Spoil(flip(words, RIGHT)?)),
+        Some(b"wide") => Ok(Action::Spoil(wide(words, RIGHT)?)),
+        Some(b"cut") => Ok(Action::Spoil(cut(words, RIGHT)?)),
         Some(b"noise") => Ok(Action::Noise(time(words)?)),
         Some(b"line") => Ok(Action::Line(level(words)?)),
         Some(b"comparator") => comparator(words),
@@ -129,13 +133,17 @@ fn throttle(words: &mut Words) -> Result<Action, Expected> {
 }
 
 /// Frames with this value, with a telemetry request where the line says so.
-fn repeated(words: &mut Words, value: u16) -> Result<Action, Expected> {
+fn repeated(words: &mut Words, value: u16) -> Result<Action, Expected>
+    requires { value ≤ 2047 }
+{
     let telemetry = match words.next() {
         None => false,
         Some(b"telemetry") => true,
         Some(_) => return Err(Expected::LineEnd),
     };
-    Ok(Action::Send(Frame { value, telemetry }))
+    Ok(Action::Send(Payload {
+        frame: Frame { value, telemetry },
+    }))
 }
 
 fn pulse(words: &mut Words) -> Result<Action, Expected> {
@@ -149,20 +157,22 @@ fn pulse(words: &mut Words) -> Result<Action, Expected> {
 fn frame(words: &mut Words) -> Result<Action, Expected> {
     let value = number(words, 0, 2047, Expected::Value)? as u16;
     let mut telemetry = false;
-    let mut spoil = Spoil::NONE;
+    let mut spoil = None;
     // At most one of each, and each bit once.
     for _ in 0..20 {
         match words.next() {
             None => break,
             Some(b"telemetry") => telemetry = true,
-            Some(b"flip") => spoil = flip(words, spoil)?,
-            Some(b"wide") => spoil = wide(words, spoil)?,
-            Some(b"cut") => spoil = cut(words, spoil)?,
+            Some(b"flip") => spoil = Some(flip(words, spoil.unwrap_or(RIGHT))?),
+            Some(b"wide") => spoil = Some(wide(words, spoil.unwrap_or(RIGHT))?),
+            Some(b"cut") => spoil = Some(cut(words, spoil.unwrap_or(RIGHT))?),
             Some(_) => return Err(Expected::FrameWord),
         }
     }
-    let frame = Frame { value, telemetry };
-    Ok(Action::Frame { frame, spoil })
+    let payload = Payload {
+        frame: Frame { value, telemetry },
+    };
+    Ok(Action::Frame { payload, spoil })
 }
 
 fn flip(words: &mut Words, spoil: Spoil) -> Result<Spoil, Expected> {
@@ -174,7 +184,7 @@ fn flip(words: &mut Words, spoil: Spoil) -> Result<Spoil, Expected> {
 }
 
 fn wide(words: &mut Words, spoil: Spoil) -> Result<Spoil, Expected> {
-    let bit = number(words, 0, 15, Expected::Bit)? as u8;
+    let bit = number(words, 0, 15, Expected::Bit)?;
     Ok(Spoil {
         wide: Some(bit),
         ..spoil
@@ -211,7 +221,7 @@ fn beat(words: &mut Words) -> Result<Beat, Expected> {
         Some(_) => return Err(Expected::LineEnd),
     };
     let bounces = u64::from(bounces);
-    if every < 1 || 2 * bounces * apart >= every {
+    if every < 1 || bounces.saturating_mul(apart).saturating_mul(2) >= every {
         return Err(Expected::Bounces);
     }
     Ok(Beat {

@@ -1,16 +1,16 @@
 //! What the sender does to the signal line.
+ghost use Rattle.std.specs.Prelude.{◌≤◌};
 
-use crate::frame_out::FrameOut;
+use crate::frame_out::{FrameOut, Payload, Spoil};
 use crate::noise::Noise;
-use crate::spoil::Spoil;
 use edge_capture::mode_numbers;
-use esc_base::{Edge, Frame, Mode, Tick};
+use esc_base::{Edge, Mode, Tick};
+use trace_tools::LAST_TICK;
 
 /// What is sent again and again.
 #[derive(Clone, Copy, Debug, PartialEq, Eq, Drop)]
 pub enum Message {
-    /// A frame, with a value of at most 2047.
-    Frame(Frame),
+    Frame(Payload),
     /// A servo pulse of so many ticks.
     Pulse(u64),
 }
@@ -41,7 +41,7 @@ pub struct SignalLine {
     period: u64,
     repeated: Option<Repeated>,
     /// What is wrong with the next frame.
-    spoil: Spoil,
+    spoil: Option<Spoil>,
     sending: Sending,
 }
 
@@ -52,7 +52,7 @@ impl SignalLine {
             mode,
             period,
             repeated: None,
-            spoil: Spoil::NONE,
+            spoil: None,
             sending: Sending::Nothing,
         }
     }
@@ -70,6 +70,11 @@ impl SignalLine {
     /// Whether something is sent again and again.
     pub fn repeats(&self) -> bool {
         self.repeated.is_some()
+    }
+
+    /// Whether nothing is on the line.
+    pub fn is_quiet(&self) -> bool {
+        self.sending == Sending::Nothing
     }
 
     /// Whether nothing is on the line and nothing is sent again.
@@ -93,14 +98,14 @@ impl SignalLine {
 
     /// Something is wrong with the next frame.
     pub fn spoil_next(&mut self, spoil: Spoil) {
-        self.spoil = spoil;
+        self.spoil = Some(spoil);
     }
 
     /// Puts one frame on the line.
-    pub fn send_frame(&mut self, t: Tick, frame: Frame, spoil: Spoil) {
-        if frame.value <= 2047 {
-            self.sending = Sending::Frame(FrameOut::new(self.mode, t, frame, spoil));
-        }
+    pub fn send_frame(&mut self, t: Tick, payload: Payload, spoil: Option<Spoil>)
+        requires { t.0 ≤ 1073741824 }
+    {
+        self.sending = Sending::Frame(frame_at(self.mode, t, payload, spoil));
     }
 
     /// Puts noise on the line, in place of what is on it.
@@ -145,10 +150,10 @@ impl SignalLine {
             ..repeated
         });
         match repeated.message {
-            Message::Frame(frame) if frame.value <= 2047 => {
+            Message::Frame(payload) if start.0 <= LAST_TICK => {
                 let spoil = self.spoil;
-                self.spoil = Spoil::NONE;
-                after_edge(FrameOut::new(self.mode, start, frame, spoil))
+                self.spoil = None;
+                after_edge(frame_at(self.mode, start, payload, spoil))
             }
             Message::Frame(_) => Sending::Nothing,
             Message::Pulse(width) => Sending::Pulse(Tick(start.0.saturating_add(width))),
@@ -184,12 +189,19 @@ impl SignalLine {
     }
 }
 
-/// A frame once one edge more was sent.
+/// A frame that begins at `start`, as it should be or not.
+fn frame_at(mode: Mode, start: Tick, payload: Payload, spoil: Option<Spoil>) -> FrameOut
+    requires { start.0 ≤ 1073741824 }
+{
+    match spoil {
+        Some(spoil) => FrameOut::spoiled(mode, start, payload, spoil),
+        None => FrameOut::whole(mode, start, payload),
+    }
+}
+
+/// A frame once its next edge was sent.
 fn after_edge(frame: FrameOut) -> Sending {
-    let frame = FrameOut {
-        sent: frame.sent.saturating_add(1),
-        ..frame
-    };
+    let frame = frame.after();
     match frame.next() {
         Some(_) => Sending::Frame(frame),
         None => Sending::Nothing,
