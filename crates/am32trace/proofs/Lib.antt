@@ -1,1 +1,4 @@
 pub mod Edges
+pub mod Begun
+pub mod Flying
+pub mod Endings

@@ -1,5 +1,6 @@
 -- The edges of a frame on its way.
 use Rattle.std.specs.Prelude.{◌≡◌, ℕ, zero, suc, ◌+◌, ◌-◌, ◌/◌, ◌%◌, ◌^◌, Bool, true, false, not, ◌==◌, if◌then◌else◌, List, [], ◌∷◌, take, drop, Option, Some, None}
+use Rattle.esc_base.specs.declared.tick.Tick.{Tick}
 use Rattle.esc_base.specs.declared.signal.Edge.{Edge}
 use Rattle.esc_base.specs.declared.signal.Frame.{Frame}
 use Rattle.esc_base.specs.declared.signal.Mode.{Mode}
@@ -37,3 +38,7 @@ pub record IsSent (m : Mode) (s : ℕ) (frame : Frame) (edges : List Edge) : Typ
   pub word : ℕ
   pub exact : edges ≡ sent m s word
   pub heard : verdict_of m edges ≡ Good frame
+
+-- the edge that begins a message
+abbrev pub first_edge : Mode → Tick → Edge
+first_edge m t = record { t = t; level = not (numbers m).inverted }

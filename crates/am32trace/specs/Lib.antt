@@ -1,1 +1,4 @@
 pub mod Frames
+pub mod Line
+pub mod Flown
+pub mod Status

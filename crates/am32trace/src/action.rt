@@ -12,6 +12,8 @@ pub enum Directive {
     Signal { mode: Mode, period: u64 },
     /// What happens at a time.
     At { t: Tick, action: Action },
+    /// The trace ends at a time.
+    End { t: Tick },
 }
 
 /// What happens at a time.
@@ -42,6 +44,4 @@ pub enum Action {
     Serial(ArrayVec<u8, 263>),
     /// The core makes no step for so many ticks.
     Stall(u32),
-    /// The trace ends.
-    End,
 }

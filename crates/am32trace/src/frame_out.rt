@@ -19,6 +19,7 @@ pub struct Spoil {
     pub wide: Option<u32>,
     /// How many of the 32 edges are sent.
     pub edges: usize,
+    ghost some: { 1 ≤ edges },
 }
 
 /// What is left of a frame on the line.

@@ -22,12 +22,23 @@ pub fn directive(line: &[u8]) -> Result<Option<Directive>, Expected> {
         signal(&mut words)?
     } else {
         let t = duration_in(first).ok_or(Expected::Directive)?;
-        let action = action(&mut words)?;
-        Directive::At { t: Tick(t), action }
+        timed(Tick(t), &mut words)?
     };
     match words.next() {
         Some(_) => Err(Expected::LineEnd),
         None => Ok(Some(directive)),
+    }
+}
+
+/// What happens at `t`.
+fn timed(t: Tick, words: &mut Words) -> Result<Directive, Expected> {
+    match words.next() {
+        Some(b"end") => Ok(Directive::End { t }),
+        Some(word) => Ok(Directive::At {
+            t,
+            action: action(word, words)?,
+        }),
+        None => Err(Expected::Action),
     }
 }
 
@@ -40,7 +51,8 @@ fn time(words: &mut Words) -> Result<u64, Expected> {
 
 fn number(words: &mut Words, low: u32, high: u32, expected: Expected) -> Result<u32, Expected>
     requires { low ≤ high }
-    ensures { IfOk result (λ n. n ≤ high) }
+    ensures least { IfOk result (λ n. low ≤ n) }
+    ensures most { IfOk result (λ n. n ≤ high) }
 {
     let Some(word) = words.next() else {
         return Err(expected);
@@ -100,26 +112,25 @@ fn signal(words: &mut Words) -> Result<Directive, Expected> {
 
 // ---- what happens at a time
 
-fn action(words: &mut Words) -> Result<Action, Expected> {
-    match words.next() {
-        Some(b"throttle") => throttle(words),
-        Some(b"command") => {
+fn action(word: &[u8], words: &mut Words) -> Result<Action, Expected> {
+    match word {
+        b"throttle" => throttle(words),
+        b"command" => {
             let value = number(words, 1, 47, Expected::Command)? as u16;
             repeated(words, value)
         }
-        Some(b"pulse") => pulse(words),
-        Some(b"off") => Ok(Action::Off),
-        Some(b"frame") => frame(words),
-        Some(b"flip") => Ok(Action::Spoil(flip(words, RIGHT)?)),
-        Some(b"wide") => Ok(Action::Spoil(wide(words, RIGHT)?)),
-        Some(b"cut") => Ok(Action::Spoil(cut(words, RIGHT)?)),
-        Some(b"noise") => Ok(Action::Noise(time(words)?)),
-        Some(b"line") => Ok(Action::Line(level(words)?)),
-        Some(b"comparator") => comparator(words),
-        Some(b"serial") => Ok(Action::Serial(bytes(words, Expected::Bytes)?)),
-        Some(b"packet") => packet(words),
-        Some(b"stall") => stall(words),
-        Some(b"end") => Ok(Action::End),
+        b"pulse" => pulse(words),
+        b"off" => Ok(Action::Off),
+        b"frame" => frame(words),
+        b"flip" => Ok(Action::Spoil(flip(words, RIGHT)?)),
+        b"wide" => Ok(Action::Spoil(wide(words, RIGHT)?)),
+        b"cut" => Ok(Action::Spoil(cut(words, RIGHT)?)),
+        b"noise" => Ok(Action::Noise(time(words)?)),
+        b"line" => Ok(Action::Line(level(words)?)),
+        b"comparator" => comparator(words),
+        b"serial" => Ok(Action::Serial(bytes(words, Expected::Bytes)?)),
+        b"packet" => packet(words),
+        b"stall" => stall(words),
         _ => Err(Expected::Action),
     }
 }
@@ -179,21 +190,27 @@ fn flip(words: &mut Words, spoil: Spoil) -> Result<Spoil, Expected> {
     let bit = number(words, 0, 15, Expected::Bit)?;
     Ok(Spoil {
         flipped: spoil.flipped ^ (1 << (15 - bit)),
-        ..spoil
+        wide: spoil.wide,
+        edges: spoil.edges,
     })
 }
 
 fn wide(words: &mut Words, spoil: Spoil) -> Result<Spoil, Expected> {
     let bit = number(words, 0, 15, Expected::Bit)?;
     Ok(Spoil {
+        flipped: spoil.flipped,
         wide: Some(bit),
-        ..spoil
+        edges: spoil.edges,
     })
 }
 
 fn cut(words: &mut Words, spoil: Spoil) -> Result<Spoil, Expected> {
     let edges = number(words, 1, 31, Expected::Edges)? as usize;
-    Ok(Spoil { edges, ..spoil })
+    Ok(Spoil {
+        flipped: spoil.flipped,
+        wide: spoil.wide,
+        edges,
+    })
 }
 
 fn level(words: &mut Words) -> Result<bool, Expected> {

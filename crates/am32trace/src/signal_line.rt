@@ -1,11 +1,13 @@
 //! What the sender does to the signal line.
-ghost use Rattle.std.specs.Prelude.{◌≤◌};
+ghost use Rattle.std.specs.Prelude.{◌≡◌, ◌≤◌, [], true, drop, slice_get};
+ghost use Rattle.edge_capture.specs.Modes.{numbers};
+ghost use Rattle.am32trace.specs.Line.{left_of, pending, next_edge, next_message, Adds, Begins};
+ghost use Rattle.am32trace.specs.Frames.{rest_of, first_edge};
 
 use crate::frame_out::{FrameOut, Payload, Spoil};
 use crate::noise::Noise;
 use edge_capture::mode_numbers;
 use esc_base::{Edge, Mode, Tick};
-use trace_tools::LAST_TICK;
 
 /// What is sent again and again.
 #[derive(Clone, Copy, Debug, PartialEq, Eq, Drop)]
@@ -15,9 +17,9 @@ pub enum Message {
     Pulse(u64),
 }
 
-/// What is on the line, or rests of it.
+/// What is on the line, and isn't over.
 #[derive(Clone, Copy, Debug, PartialEq, Eq, Drop)]
-enum Sending {
+pub enum Sending {
     Nothing,
     Frame(FrameOut),
     /// A pulse that has risen, and falls at this tick.
@@ -27,9 +29,9 @@ enum Sending {
 
 /// A message, and when it is sent next.
 #[derive(Clone, Copy, Debug, PartialEq, Eq, Drop)]
-struct Repeated {
-    message: Message,
-    next: Tick,
+pub struct Repeated {
+    pub message: Message,
+    pub next: Tick,
 }
 
 /// A sender and its line.
@@ -38,16 +40,18 @@ pub struct SignalLine {
     /// A DShot mode, the servo mode, or the unknown one, where there is no signal.
     pub mode: Mode,
     /// From one message's begin to the next one's, in ticks.
-    period: u64,
-    repeated: Option<Repeated>,
+    pub period: u64,
+    pub repeated: Option<Repeated>,
     /// What is wrong with the next frame.
-    spoil: Option<Spoil>,
-    sending: Sending,
+    pub spoil: Option<Spoil>,
+    pub sending: Sending,
 }
 
 impl SignalLine {
     /// A line on which nothing is sent yet.
-    pub fn new(mode: Mode, period: u64) -> SignalLine {
+    pub fn new(mode: Mode, period: u64) -> SignalLine
+        ensures { pending result ≡ [] }
+    {
         SignalLine {
             mode,
             period,
@@ -58,7 +62,9 @@ impl SignalLine {
     }
 
     /// The level at which the line rests.
-    pub fn rest(&self) -> bool {
+    pub fn rest(&self) -> bool
+        ensures { result ≡ (numbers self.now.mode).inverted }
+    {
         mode_numbers(self.mode).inverted
     }
 
@@ -73,17 +79,19 @@ impl SignalLine {
     }
 
     /// Whether nothing is on the line.
-    pub fn is_quiet(&self) -> bool {
-        self.sending == Sending::Nothing
-    }
-
-    /// Whether nothing is on the line and nothing is sent again.
-    pub fn is_free(&self) -> bool {
-        self.repeated.is_none() && self.sending == Sending::Nothing
+    pub fn is_quiet(&self) -> bool
+        ensures { result ≡ true → pending self.now ≡ [] }
+    {
+        match self.sending {
+            Sending::Nothing => true,
+            Sending::Frame(_) | Sending::Pulse(_) | Sending::Noise(_) => false,
+        }
     }
 
     /// From `t` on this message is sent. If one is sent already, the new one follows at the same beat.
-    pub fn repeat(&mut self, t: Tick, message: Message) {
+    pub fn repeat(&mut self, t: Tick, message: Message)
+        ensures { pending self.new ≡ pending self.old }
+    {
         let next = match self.repeated {
             Some(before) => before.next,
             None => t,
@@ -92,29 +100,39 @@ impl SignalLine {
     }
 
     /// No message begins any more.
-    pub fn stop(&mut self) {
+    pub fn stop(&mut self)
+        ensures { pending self.new ≡ pending self.old }
+    {
         self.repeated = None;
     }
 
     /// Something is wrong with the next frame.
-    pub fn spoil_next(&mut self, spoil: Spoil) {
+    pub fn spoil_next(&mut self, spoil: Spoil)
+        ensures { pending self.new ≡ pending self.old }
+    {
         self.spoil = Some(spoil);
     }
 
     /// Puts one frame on the line.
     pub fn send_frame(&mut self, t: Tick, payload: Payload, spoil: Option<Spoil>)
-        requires { t.0 ≤ 1073741824 }
+        requires early { t.0 ≤ 1073741824 }
+        requires quiet { pending self.old ≡ [] }
+        ensures { Begins (pending self.old) (pending self.new) }
     {
         self.sending = Sending::Frame(frame_at(self.mode, t, payload, spoil));
     }
 
-    /// Puts noise on the line, in place of what is on it.
-    pub fn make_noise(&mut self, t: Tick, ticks: u64) {
+    /// Puts noise on the line.
+    pub fn make_noise(&mut self, t: Tick, ticks: u64)
+        ensures { pending self.new ≡ [] }
+    {
         self.sending = Sending::Noise(Noise::new(t, ticks, self.rest()));
     }
 
     /// The next edge, if there is one.
-    pub fn next(&self) -> Option<Edge> {
+    pub fn next(&self) -> Option<Edge>
+        ensures { result ≡ next_edge self.now }
+    {
         match self.sending {
             Sending::Nothing => match self.repeated {
                 Some(repeated) => Some(Edge {
@@ -130,38 +148,57 @@ impl SignalLine {
     }
 
     /// Goes on once the next edge was sent.
-    pub fn advance(&mut self) {
-        self.sending = match self.sending {
-            Sending::Nothing => self.begun(),
+    pub fn advance(&mut self, edge: Edge)
+        requires next { next_edge self.old ≡ Some edge }
+        requires early { edge.t.0 ≤ 1073741824 }
+        ensures { Adds edge (pending self.old) (pending self.new) }
+    {
+        let left = self.after_next(edge);
+        self.sending = left;
+    }
+
+    /// What is on the line behind its next edge.
+    fn after_next(&mut self, edge: Edge) -> Sending
+        requires next { next_edge self.old ≡ Some edge }
+        requires early { edge.t.0 ≤ 1073741824 }
+        ensures { Adds edge (pending self.old) (left_of result) }
+    {
+        match self.sending {
+            Sending::Nothing => self.begin(edge),
             Sending::Frame(frame) => after_edge(frame),
             Sending::Pulse(_) => Sending::Nothing,
             Sending::Noise(noise) => self.after_noise(noise),
-        };
+        }
     }
 
-    /// The next message, of which the first edge was sent.
-    fn begun(&mut self) -> Sending {
-        let Some(repeated) = self.repeated else {
-            return Sending::Nothing;
+    /// What is on the line behind the first edge of the next message.
+    fn begin(&mut self, edge: Edge) -> Sending
+        requires next { next_message self.old.mode self.old.repeated ≡ Some edge }
+        requires early { edge.t.0 ≤ 1073741824 }
+        ensures { Adds edge [] (left_of result) }
+    {
+        let message = match self.repeated {
+            Some(repeated) => repeated.message,
+            None => return Sending::Nothing,
         };
-        let start = repeated.next;
         self.repeated = Some(Repeated {
-            next: Tick(start.0.saturating_add(self.period)),
-            ..repeated
+            message,
+            next: Tick(edge.t.0.saturating_add(self.period)),
         });
-        match repeated.message {
-            Message::Frame(payload) if start.0 <= LAST_TICK => {
+        match message {
+            Message::Frame(payload) => {
                 let spoil = self.spoil;
                 self.spoil = None;
-                after_edge(frame_at(self.mode, start, payload, spoil))
+                after_edge(frame_at(self.mode, edge.t, payload, spoil))
             }
-            Message::Frame(_) => Sending::Nothing,
-            Message::Pulse(width) => Sending::Pulse(Tick(start.0.saturating_add(width))),
+            Message::Pulse(width) => Sending::Pulse(Tick(edge.t.0.saturating_add(width))),
         }
     }
 
     /// What is on the line behind the next edge of noise.
-    fn after_noise(&mut self, noise: Noise) -> Sending {
+    fn after_noise(&mut self, noise: Noise) -> Sending
+        ensures { left_of result ≡ [] }
+    {
         match noise.after() {
             Some(noise) => Sending::Noise(noise),
             None => {
@@ -192,6 +229,8 @@ impl SignalLine {
 /// A frame that begins at `start`, as it should be or not.
 fn frame_at(mode: Mode, start: Tick, payload: Payload, spoil: Option<Spoil>) -> FrameOut
     requires { start.0 ≤ 1073741824 }
+    ensures begins { slice_get (rest_of result) 0 ≡ Some (first_edge mode start) }
+    ensures sent { Begins [] (rest_of result) }
 {
     match spoil {
         Some(spoil) => FrameOut::spoiled(mode, start, payload, spoil),
@@ -200,7 +239,9 @@ fn frame_at(mode: Mode, start: Tick, payload: Payload, spoil: Option<Spoil>) -> 
 }
 
 /// A frame once its next edge was sent.
-fn after_edge(frame: FrameOut) -> Sending {
+fn after_edge(frame: FrameOut) -> Sending
+    ensures { left_of result ≡ drop 1 (rest_of frame) }
+{
     let frame = frame.after();
     match frame.next() {
         Some(_) => Sending::Frame(frame),

@@ -11,7 +11,7 @@ returns-then-self-eq0 c =
     let f = c.args.self.now in
     elim c.then-self-eq0.branch [
       | then-self-eq0-via-then-self-eq0 w ↦
-        let none = none_left (numbers f.mode).bit (numbers f.mode).inverted f.wide f.begins.0 f.word f.has_begun f.left f.edges w.if-self-eq0.true in rw none refl
+          let none = none_left (numbers f.mode).bit (numbers f.mode).inverted f.wide f.begins.0 f.word f.has_begun f.left f.edges w.if-self-eq0.true in rw none refl
       | then-self-eq0-via-else-self-eq0+then-self-eq0-2 w ↦ let none : f.edges ≡ 0 = w.if-self-eq0-2.true in rw none refl
     ]
 
