@@ -1,5 +1,6 @@
 //! Decimal numbers, and times with units as ticks.
-ghost use Rattle.std.specs.Prelude.{◌≡◌, ◌≤◌, ◌^◌};
+ghost use Rattle.std.specs.Prelude.{◌≡◌, ◌≤◌, ◌*◌, ◌^◌, IfSome};
+ghost use Rattle.trace_tools.specs.Nearest.{IsNearest};
 
 /// The greatest time of a trace, in ticks of 48 MHz: about 22.37 seconds.
 pub const LAST_TICK: u64 = 1073741824;
@@ -79,13 +80,16 @@ pub fn decimal_in(word: &[u8]) -> Option<Decimal> {
 
 impl Decimal {
     /// The nearest number of ticks of so many units of 10^`power` microseconds; halves are rounded up.
-    pub fn ticks(self, power: usize) -> Option<u64> {
+    pub fn ticks(self, power: usize) -> Option<u64>
+        ensures { IfSome result (λ t. IsNearest t (48 * self.units * 10 ^ power) (10 ^ self.decimals)) }
+    {
         if power > MOST_DECIMALS {
             return None;
         }
         if self.decimals < power {
             let us = self.units.checked_mul(power_of_ten(power - self.decimals))?;
-            return us.checked_mul(TICKS_PER_US);
+            let ticks = us.checked_mul(TICKS_PER_US)?;
+            return Some(ticks);
         }
         let parts = power_of_ten(self.decimals - power);
         Some((2 * TICKS_PER_US * self.units + parts) / (2 * parts))
