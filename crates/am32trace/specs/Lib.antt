@@ -2,3 +2,4 @@ pub mod Frames
 pub mod Line
 pub mod Flown
 pub mod Status
+pub mod Request
