@@ -2,24 +2,8 @@ use super::*;
 use esc_base::{MemSink, MemSource};
 use std::test::Fail;
 
-/// A script, the status with which it ends, and what it writes.
-#[derive(Drop)]
-struct Case {
-    script: &'static str,
-    status: Status,
-    trace: &'static str,
-}
-
 fn refused(line: u32, expected: Expected) -> Status {
     Status::Refused { line, expected }
-}
-
-fn done(script: &'static str, trace: &'static str) -> Case {
-    Case {
-        script,
-        status: Status::Done,
-        trace,
-    }
 }
 
 /// The status of a script, and what it wrote.
@@ -30,31 +14,33 @@ fn outcome(rt: &HostRuntime, script: &str, wanted: &str) -> Result<(Status, bool
     Ok((status, out.given() == wanted.as_bytes()))
 }
 
+/// Scripts, and what they write.
+static SCRIPTS: [(&str, &str); 5] = [
+    ("0us end", "0 END\n"),
+    (
+        "1us comparator high\n2us comparator every 1us\n4.5us end\n",
+        "48 C 1\n96 C 0\n144 C 1\n192 C 0\n216 END\n",
+    ),
+    (
+        "0t comparator every 100t bounce 1 3t\n107t end\n",
+        "0 C 1\n3 C 0\n6 C 1\n100 C 0\n103 C 1\n106 C 0\n107 END\n",
+    ),
+    (
+        "signal servo every 2.5ms\n1us pulse 1ms\n1200us off\n6ms end\n",
+        "48 E 1\n48048 E 0\n288000 END\n",
+    ),
+    (
+        "0us serial 2F aB\n1ms stall 1t\n2ms line high\n2ms end\n",
+        "0 S 2f\n25000 S ab\n48000 J 1\n96000 E 1\n96000 END\n",
+    ),
+];
+
 #[test]
 fn scripts_write_these_traces(rt: HostRuntime) -> Result<(), Fail> {
-    let cases = [
-        done("0us end", "0 END\n"),
-        done(
-            "1us comparator high\n2us comparator every 1us\n4.5us end\n",
-            "48 C 1\n96 C 0\n144 C 1\n192 C 0\n216 END\n",
-        ),
-        done(
-            "0t comparator every 100t bounce 1 3t\n107t end\n",
-            "0 C 1\n3 C 0\n6 C 1\n100 C 0\n103 C 1\n106 C 0\n107 END\n",
-        ),
-        done(
-            "signal servo every 2.5ms\n1us pulse 1ms\n1200us off\n6ms end\n",
-            "48 E 1\n48048 E 0\n288000 END\n",
-        ),
-        done(
-            "0us serial 2F aB\n1ms stall 1t\n2ms line high\n2ms end\n",
-            "0 S 2f\n25000 S ab\n48000 J 1\n96000 E 1\n96000 END\n",
-        ),
-    ];
-    for case in &cases {
-        let (status, same) = outcome(&rt, case.script, case.trace)?;
-        assert_eq!(rt; status, case.status, "{}", case.script);
-        assert!(rt; same, "{}", case.script);
+    for (script, trace) in &SCRIPTS {
+        let (status, same) = outcome(&rt, script, trace)?;
+        assert_eq!(rt; status, Status::Done, "{script}");
+        assert!(rt; same, "{script}");
     }
     Ok(())
 }

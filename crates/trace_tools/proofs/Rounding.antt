@@ -15,7 +15,7 @@ nearest_scaled t n d q some h =
     let below = mul-le-mul_left q more in
     record { not_above = omega arith; not_below = omega arith }
 
-nearest_div : (n d : ℕ) → 1 ≤ d → IsNearest ((2 * n + d) / (2 * d)) n d
+pub nearest_div : (n d : ℕ) → 1 ≤ d → IsNearest ((2 * n + d) / (2 * d)) n d
 nearest_div n d some = record { not_above = omega arith; not_below = omega arith }
 
 -- a power of ten as the product of two

@@ -13,7 +13,7 @@ mod words;
 mod writer;
 
 pub use line_reader::{LineFault, TextLines};
-pub use number::{Decimal, LAST_TICK, decimal_in, duration_in};
+pub use number::{Decimal, LAST_TICK, decimal_in, duration_in, power_of_ten};
 pub use put::tick_of;
 pub use words::Words;
 pub use writer::{Unwritten, Writer};

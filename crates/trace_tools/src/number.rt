@@ -15,7 +15,7 @@ const MOST_DECIMALS: usize = 15;
 const MOST_UNITS: u64 = 100_000_000_000_000_000;
 
 /// A power of ten, up to the fifteenth.
-fn power_of_ten(n: usize) -> u64
+pub fn power_of_ten(n: usize) -> u64
     requires { n ≤ 15 }
     ensures power { result ≡ 10 ^ n }
     ensures some { 1 ≤ result }
