@@ -1,5 +1,5 @@
 -- How a command begins, and what it has then done.
-use Rattle.std.proofs.Common.{◌≡◌, ◌≤◌, ℕ, List, Option, Some, None, refl}
+use Rattle.std.proofs.Common.{◌≡◌, ◌≤◌, ℕ, List, Option, Some, None, refl, subst, sym, ◌∙◌}
 use Rattle.std.specs.Prelude.{option_map, IsNone}
 use Rattle.esc_base.specs.Flash.{Told}
 use Rattle.settings_block.specs.declared.stored.Loaded.{Loaded}
@@ -19,10 +19,8 @@ pub set_out : {A : Type 0} (f : A → List ℕ) (image : Option A) (before attac
     → (IsNone image → attached.bytes ≡ before.bytes) → IsLoaded attached.bytes loaded
     → after.bytes ≡ attached.bytes → before.faults ≤ after.faults → IsOutset (option_map f image) before (record { loaded = loaded; flash = after })
 set_out f image before attached after loaded as_before is same no_fewer = record {
-  attached = attached;
-  as_before = λ e. as_before (no_image f image e);
-  loaded = is;
-  bytes_same = same;
+  as_before = λ e. same ∙ as_before (no_image f image e);
+  loaded = subst (λ (bytes : Option (List ℕ)). IsLoaded bytes loaded) (sym same) is;
   no_fewer = no_fewer;
 }
 

@@ -38,12 +38,10 @@ Reads None r = Unit {0}
 Reads (Some bytes) r = Read bytes ≡ r
 
 -- A run sets out with the settings that were loaded from the flash as it was attached. Without an image that is the flash as
--- it was before. The load left its bytes.
+-- it was before.
 pub record IsOutset (image : Option (List ℕ)) (before : Told) (o : Outset) : Type 0 where
-  pub attached : Told
-  pub as_before : image ≡ None → attached.bytes ≡ before.bytes
-  pub loaded : IsLoaded attached.bytes o.loaded
-  pub bytes_same : o.flash.bytes ≡ attached.bytes
+  pub as_before : image ≡ None → o.flash.bytes ≡ before.bytes
+  pub loaded : IsLoaded o.flash.bytes o.loaded
   pub no_fewer : before.faults ≤ o.flash.faults
 
 -- The text of a journal that is legal for a nesting, a step cost and a trace up to a tick was appended, where the sink tells its bytes; and the flash
@@ -113,7 +111,8 @@ RanFrom cfg o now status.ReadFault left_before left_after before after = IsReadF
 RanFrom cfg o now status.WriteFault left_before left_after before after = IsWriteFault cfg o now left_before left_after before after
 RanFrom cfg o now s left_before left_after before after = ⊥
 
-pub record HasRun (cfg : RunConfig) (image : Option (List ℕ)) (flash now : Told) (s : Status) (left_before left_after before after : Option (List ℕ)) : Type 0 where
+pub record HasRun (cfg : RunConfig) (image : Option (List ℕ)) (flash now : Told) (s : Status)
+    (left_before left_after before after : Option (List ℕ)) : Type 0 where
   pub outset : Outset
   pub begins : IsOutset image flash outset
   pub ran : RanFrom cfg outset now s left_before left_after before after
@@ -148,6 +147,12 @@ Shown a status.Done flash now before after = HasShown (image_of a) flash now (λ
 Shown a status.WriteFault flash now before after = HasShown (image_of a) flash now (λ text. AppendsFront before text after)
 Shown a status.AttachFault flash now before after = IsUnattached (image_of a) flash now before after
 Shown a s flash now before after = ⊥
+
+-- a fact where a command went on with the flash that it found
+abbrev pub OnAttached : Status → Type 0 → Type 0
+OnAttached status.Usage P = Unit {0}
+OnAttached status.AttachFault P = Unit {0}
+OnAttached s P = P
 
 -- a fact where the flash failed at the start
 abbrev pub OnAttachFault : Status → Type 0 → Type 0

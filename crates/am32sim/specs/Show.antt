@@ -1,11 +1,11 @@
 -- What `show` writes.
-use Rattle.std.specs.Prelude.{ℕ, ◌+◌, ◌*◌, Bool, if◌then◌else◌, List, [], ◌∷◌, ◌++◌, Option, Some, None, codes}
+use Rattle.std.specs.Prelude.{ℕ, ◌+◌, ◌*◌, List, [], ◌∷◌, ◌++◌, Option, Some, None, codes}
 use Rattle.std.specs.Fmt.{decimal}
-use Rattle.servo_input.specs.declared.servo.InputKind.{InputKind}
-use Rattle.servo_input.specs.declared.servo.InputKind.TheVariants as input
+use Rattle.esc_base.specs.Numbers.{bit_of}
 use Rattle.settings_block.specs.declared.block.BlockFault.{BlockFault}
 use Rattle.settings_block.specs.declared.block.BlockFault.TheVariants as fault
 use Rattle.settings_block.specs.declared.stored.Loaded.{Loaded}
+use Rattle.settings_block.specs.Settings.{input_number}
 
 -- a name and a number
 unfoldable pub field_line : List ℕ → ℕ → List ℕ
@@ -21,22 +21,13 @@ abbrev pub fault_text : Option BlockFault → List ℕ
 fault_text None = codes "block ok\n"
 fault_text (Some f) = block_fault_text f
 
-abbrev pub input_number : InputKind → ℕ
-input_number input.Any = 0
-input_number input.DShot = 1
-input_number input.Servo = 2
-
--- 1 where it is on
-abbrev pub switch_number : Bool → ℕ
-switch_number is_on = if is_on then 1 else 0
-
 -- the eleven lines: the block, and the settings in effect; servo widths and the middle in microseconds
 abbrev pub show_text : Loaded → List ℕ
 show_text loaded =
     fault_text loaded.fault
     ++ field_line (codes "direction") loaded.settings.direction
-    ++ field_line (codes "three_d") (switch_number loaded.settings.three_d)
-    ++ field_line (codes "complementary") (switch_number loaded.settings.complementary)
+    ++ field_line (codes "three_d") (bit_of loaded.settings.three_d)
+    ++ field_line (codes "complementary") (bit_of loaded.settings.complementary)
     ++ field_line (codes "advance") loaded.settings.advance
     ++ field_line (codes "poles") loaded.settings.poles
     ++ field_line (codes "servo_low") (2 * loaded.settings.low + 750)

@@ -1,6 +1,8 @@
 //! `am32sim`: a motor speed controller's control core, run on a trace of outside events.
 #![tactic(auto)]
 
+#[cfg(test)]
+mod drive_tests;
 mod options;
 mod pipe;
 mod run;

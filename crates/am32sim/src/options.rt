@@ -158,7 +158,8 @@ impl<'a> Options<'a> {
 
 /// The first word, and those behind it.
 pub(crate) fn first_word(words: &[String]) -> Option<(&str, &[String])>
-    ensures first { MatchOption result (map (λ word. string_bytes word) words.now ≡ []) (λ r. map (λ word. string_bytes word) words.now ≡ r.0.now ∷ map (λ word. string_bytes word) r.1.now) }
+    ensures first { MatchOption result (map (λ word. string_bytes word) words.now ≡ [])
+        (λ r. map (λ word. string_bytes word) words.now ≡ r.0.now ∷ map (λ word. string_bytes word) r.1.now) }
     ensures fewer { IfSome result (λ r. length r.1.now < length words.now) }
 {
     match words {
@@ -169,7 +170,8 @@ pub(crate) fn first_word(words: &[String]) -> Option<(&str, &[String])>
 
 /// The name and the value of `name=value`.
 fn name_and_value(word: &str) -> Option<(&str, &str)>
-    ensures { MatchOption result (has_value word.now ≡ false) (λ r. (has_value word.now ≡ true) × (r.0.now ≡ before_first is_equals word.now) × (r.1.now ≡ after_first is_equals word.now)) }
+    ensures { MatchOption result (has_value word.now ≡ false) (λ r. (has_value word.now ≡ true) × (r.0.now ≡ before_first is_equals word.now)
+        × (r.1.now ≡ after_first is_equals word.now)) }
 {
     word.split_once('=')
 }

@@ -2,7 +2,8 @@
 ghost use Rattle.std.specs.Prelude.{◌≡◌, ◌≤◌, ◌+◌, ◌++◌, ◌∷◌, [], length, codes};
 ghost use Rattle.std.specs.Fmt.{decimal};
 ghost use Rattle.arrayvec.specs.ArrayString.{array_string_len};
-ghost use Rattle.am32sim.specs.Show.{fault_text, block_fault_text, input_number, field_line, show_text};
+ghost use Rattle.settings_block.specs.Settings.{input_number};
+ghost use Rattle.am32sim.specs.Show.{fault_text, block_fault_text, field_line, show_text};
 
 use arrayvec::ArrayString;
 use itoa::Buffer;

@@ -9,7 +9,7 @@ use trace_text::Refusal;
 
 /// How a run ends that reads the trace which these parts make, in pieces of so many bytes, and what it writes. The takes
 /// and puts with these numbers fail.
-fn ran(
+pub(crate) fn ran(
     alloc: Global,
     parts: &[&str],
     piece: usize,
@@ -30,7 +30,7 @@ fn ran(
 }
 
 /// The journal's lines that begin with one of these letters.
-fn lines_of(alloc: Global, letters: &[u8], journal: &str) -> Result<String, Fail> {
+pub(crate) fn lines_of(alloc: Global, letters: &[u8], journal: &str) -> Result<String, Fail> {
     let mut found = String::new(alloc);
     for line in journal.split_inclusive('\n') {
         if let Some(letter) = line.as_bytes().first()
@@ -59,7 +59,7 @@ fn a_run_has_its_control_ticks(rt: HostRuntime) -> Result<(), Fail> {
         (
             "5000 END\n",
             1,
-            "I 2400 2\nK 2404 1 0 0\nO 2408 2\nI 4800 2\nK 4804 2 0 0\nO 4808 2\n",
+            "I 2400 2\nK 2404 1 0 0\nO 2416 2\nI 4800 2\nK 4804 2 0 0\nO 4816 2\n",
         ),
         ("2400 END\n", 4096, ""),
         ("2401 END\n", 7, "I 2400 2\n"),
@@ -84,7 +84,7 @@ const FRAME: &str =
 
 /// The lines of the first four control ticks.
 const TICKS: &str =
-    "I 2400 2\nK 2404 1 0 0\nO 2408 2\nI 4800 2\nK 4804 2 0 0\nO 4808 2\nI 7200 2\nK 7204 3 0 0\nO 7208 2\nI 9600 2\nK 9604 4 0 0\nO 9608 2\n";
+    "I 2400 2\nK 2404 1 0 0\nO 2416 2\nI 4800 2\nK 4804 2 0 0\nO 4816 2\nI 7200 2\nK 7204 3 0 0\nO 7216 2\nI 9600 2\nK 9604 4 0 0\nO 9616 2\n";
 
 /// CAP is entered where the window closes. It reads how many edges there are and each of them, and its next step tells
 /// the mode.
@@ -231,7 +231,12 @@ fn settings_say_what_servo_pulses_mean(rt: HostRuntime) -> Result<(), Fail> {
 
 /// Adds equal DShot600 frames from a tick on, one each 2400 ticks: each bit is 80 ticks, a zero is high for 30 of them and
 /// a one for 60.
-fn push_frames(trace: &mut String, first: u32, word: u16, count: u8) -> Result<(), Fail> {
+pub(crate) fn push_frames(
+    trace: &mut String,
+    first: u32,
+    word: u16,
+    count: u8,
+) -> Result<(), Fail> {
     for n in 0..count {
         push_frame(trace, first as u64 + n as u64 * 2400, word)?;
     }
@@ -251,7 +256,7 @@ fn push_frame(trace: &mut String, at: u64, word: u16) -> Result<(), Fail>
 }
 
 /// A frame's word: the value 0.
-const ZERO: u16 = 0x0000;
+pub(crate) const ZERO: u16 = 0x0000;
 
 /// Command 8: direction 1.
 pub(crate) const DIRECTION: u16 = 0x0101;

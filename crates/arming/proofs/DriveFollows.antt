@@ -60,8 +60,10 @@ wanted_asked (note.Armed t ∷ back) d legal a w le = absurd (let z : wanted_at 
 wanted_asked (n ∷ back) d legal a w le = wanted_asked back d legal.1 a w le
 
 drives_at : (a b c d e : Bool) (p : ℕ)
-    → 0 < demand_of (if a then Loses cause.Timeout else (if b then Loses cause.Stuck else (if c then Loses cause.Fuse else (if d then Arms else (if e then Drives p else Drives 0)))))
-    → (e ≡ true) × (demand_of (if a then Loses cause.Timeout else (if b then Loses cause.Stuck else (if c then Loses cause.Fuse else (if d then Arms else (if e then Drives p else Drives 0))))) ≡ p)
+    → 0 < demand_of (if a then Loses cause.Timeout
+    else (if b then Loses cause.Stuck else (if c then Loses cause.Fuse else (if d then Arms else (if e then Drives p else Drives 0)))))
+    → (e ≡ true) × (demand_of (if a then Loses cause.Timeout
+    else (if b then Loses cause.Stuck else (if c then Loses cause.Fuse else (if d then Arms else (if e then Drives p else Drives 0))))) ≡ p)
 drives_at true b c d e p h = absurd (omega arith)
 drives_at false true c d e p h = absurd (omega arith)
 drives_at false false true d e p h = absurd (omega arith)
@@ -76,7 +78,9 @@ pub drive_follows_back : (back : List Note) (t : Tick) (n s d : ℕ) → Control
 drive_follows_back back t n s d legal lt =
     let w = control_at back in
     let is : d ≡ demand_of (decide w n s) = legal.0.tick.demand_is in
-    let p = drives_at (is_timed_out w n) (is_stuck s) (has_fuse s && w.armed) (not w.armed && may_arm w n s) w.armed (min (target w.wanted) (w.demand + 20)) (rw (← is) lt) in
+    let p =
+    drives_at (is_timed_out w n) (is_stuck s) (has_fuse s && w.armed) (not w.armed && may_arm w n s)
+    w.armed (min (target w.wanted) (w.demand + 20)) (rw (← is) lt) in
     let e : d ≡ min (target w.wanted) (w.demand + 20) = is ∙ p.1 in
     let q = some_target w.wanted (w.demand + 20) (rw (← e) lt) in
     wanted_asked back d legal.1 p.0 q.0 (rw e q.1)

@@ -102,7 +102,8 @@ other_stands n c back h e p s = record {
   none_owed = refl;
 }
 
-pub found_stands : (c : Kept) (back : List Note) (t : Tick) (mode : Mode) → Stands c back → Stands (after_found c mode) (note.Detected t (mode_number mode) ∷ back)
+pub found_stands : (c : Kept) (back : List Note) (t : Tick) (mode : Mode) → Stands c back
+    → Stands (after_found c mode) (note.Detected t (mode_number mode) ∷ back)
 found_stands c back t mode s = record {
   ties = record {
     mode_is = refl;
@@ -122,16 +123,19 @@ found_stands c back t mode s = record {
   none_owed = refl;
 }
 
-run_is_at : (s b : Bool) (run : Run) (v k : ℕ) → is_command v ≡ b → (s ≡ true → b ≡ true → run_of run v ≡ min 7 k) → (run_after run v s).frames ≡ min 7 (if s && b then k + 1 else 0)
+run_is_at : (s b : Bool) (run : Run) (v k : ℕ) → is_command v ≡ b → (s ≡ true → b ≡ true → run_of run v ≡ min 7 k)
+    → (run_after run v s).frames ≡ min 7 (if s && b then k + 1 else 0)
 run_is_at true true run v k c e = rw c (run_same (run.command == v) run v k refl (e refl refl))
 run_is_at true false run v k c e = rw c refl
 run_is_at false b run v k c e = refl
 
 run_is : (c : Kept) (back : List Note) (v : ℕ) → IsKept c back → (after_frame c v).run.frames ≡ min 7 (command_run_at v back)
 run_is c back v ties =
-    rw (still_is c back ties) (run_is_at (still_at back) (is_command v) c.run v (repeated_at v back) refl (λ s h. ties.runs (and_parts (armed_at back) (demand_at back == 0) s).0 v h))
+    rw (still_is c back ties) (run_is_at (still_at back) (is_command v) c.run v (repeated_at v back)
+    refl (λ s h. ties.runs (and_parts (armed_at back) (demand_at back == 0) s).0 v h))
 
-framed_stands : (o : Option Act) (c : Kept) (back : List Note) (t : Tick) (v q : ℕ) → acting (command_run_at v back) v ≡ o → Stands c back → Stands (after_frame c v) (with_frame t v q o back)
+framed_stands : (o : Option Act) (c : Kept) (back : List Note) (t : Tick) (v q : ℕ) → acting (command_run_at v back) v ≡ o → Stands c back
+    → Stands (after_frame c v) (with_frame t v q o back)
 framed_stands None c back t v q e s = record {
   ties = frame_ties c back t v q s.ties;
   controlled = (record { paid = sym s.none_owed; tick = tt; save = tt }, s.controlled);
@@ -144,5 +148,7 @@ framed_stands (Some act) c back t v q e s = record {
 }
 
 -- a good frame stands for its notes
-pub frame_stands : (c : Kept) (back : List Note) (t : Tick) (v q : ℕ) → Stands c back → Stands (after_frame c v) (with_frame t v q (acting (after_frame c v).run.frames v) back)
-frame_stands c back t v q s = rw (run_is c back v s.ties, acting_seven (command_run_at v back) v) (framed_stands (acting (command_run_at v back) v) c back t v q refl s)
+pub frame_stands : (c : Kept) (back : List Note) (t : Tick) (v q : ℕ) → Stands c back
+    → Stands (after_frame c v) (with_frame t v q (acting (after_frame c v).run.frames v) back)
+frame_stands c back t v q s =
+    rw (run_is c back v s.ties, acting_seven (command_run_at v back) v) (framed_stands (acting (command_run_at v back) v) c back t v q refl s)

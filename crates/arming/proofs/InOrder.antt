@@ -56,4 +56,5 @@ in_order notes legal = order_from [] notes legal
 -- a journal up to one of its notes, looking back
 pub back_to : (before after : List Note) (n : Note) → Controlled (before ++ n ∷ after) → ControlledBack (n ∷ reverse before)
 back_to before after n whole =
-    subst ControlledBack (reverse-push before n) (looking_back (before ++ n ∷ []) (each_front Fit [] (before ++ n ∷ []) after (rw (append_assoc before (n ∷ []) after) whole)))
+    subst ControlledBack (reverse-push before n)
+    (looking_back (before ++ n ∷ []) (each_front Fit [] (before ++ n ∷ []) after (rw (append_assoc before (n ∷ []) after) whole)))

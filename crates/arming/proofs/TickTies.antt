@@ -1,5 +1,5 @@
 -- A control tick keeps the ties.
-use Rattle.std.proofs.Common.{◌≡◌, ◌<◌, ℕ, ◌+◌, ◌-◌, ◌/◌, Bool, true, false, not, ◌&&◌, ◌==◌, nat_le, min, if◌then◌else◌, List, [], ◌∷◌, refl, sym, ap, arith}
+use Rattle.std.proofs.Common.{◌≡◌, ◌<◌, ℕ, ◌+◌, ◌-◌, ◌/◌, Bool, true, false, not, ◌&&◌, ◌==◌, nat_le, nat_lt, min, if◌then◌else◌, List, [], ◌∷◌, refl, sym, ap, arith}
 use Rattle.std.proofs.lemmas.Bool.Decides.{nat_tests}
 use Rattle.esc_base.specs.declared.tick.Tick.{Tick}
 use Rattle.esc_base.specs.declared.note.Cause.{Cause}
@@ -76,7 +76,9 @@ zeros_run v (note.Lost t x ∷ back) h z = absurd (omega arith)
 zeros_run v (n ∷ back) h z = zeros_run v back h z
 
 first_of_six : (a b c d e : Bool) (p : ℕ)
-    → (if a then Loses cause.Timeout else (if b then Loses cause.Stuck else (if c then Loses cause.Fuse else (if d then Arms else (if e then Drives p else Drives 0))))) ≡ Arms → d ≡ true
+    → (if a then Loses cause.Timeout
+    else (if b then Loses cause.Stuck else (if c then Loses cause.Fuse else (if d then Arms else (if e then Drives p else Drives 0))))) ≡ Arms
+    → d ≡ true
 first_of_six true b c d e p h = absurd (let g = h in cc)
 first_of_six false true c d e p h = absurd (let g = h in cc)
 first_of_six false false true d e p h = absurd (let g = h in cc)
@@ -94,7 +96,8 @@ decides_arms w n s e =
     arms_zero w.armed (nat_le 5000 (n - w.base)) (not (has_fuse s)) (not (has_session s)) w.zero_run
     (first_of_six (is_timed_out w n) (is_stuck s) (has_fuse s && w.armed) (not w.armed && may_arm w n s) w.armed (min (target w.wanted) (w.demand + 20)) e)
 
-arms_ties : (c : Kept) (back : List Note) (t : Tick) (n s : ℕ) → decide (view_of c) n s ≡ Arms → number_at back < n → IsKept c back → IsKept (after_tick c n Arms) (with_tick t n s (answer_of Arms c.demand) back)
+arms_ties : (c : Kept) (back : List Note) (t : Tick) (n s : ℕ) → decide (view_of c) n s ≡ Arms → number_at back < n → IsKept c back
+    → IsKept (after_tick c n Arms) (with_tick t n s (answer_of Arms c.demand) back)
 arms_ties c back t n s e lt ties =
     let z : 0 < zeros_at back = let a = decides_arms (view_of c) n s e in let b = ties.zero_is in omega arith in
     record {
@@ -118,21 +121,37 @@ view_is c back ties = rw (ties.armed_is, ties.wanted_is, ties.demand_is, ties.ze
 bound : (c : Kept) (back : List Note) (n : ℕ) → c.number < n → IsKept c back → number_at back < n
 bound c back n lt ties = let e = ties.number_is in omega arith
 
-decided_stands : (d : Decision) (c : Kept) (back : List Note) (t : Tick) (n s : ℕ) → decide (view_of c) n s ≡ d → decide (control_at back) n s ≡ d → n ≡ t.0 / control_period → number_at back < n → s ≡ marks_at back → Stands c back
+decided_stands : (d : Decision) (c : Kept) (back : List Note) (t : Tick) (n s : ℕ) → decide (view_of c) n s ≡ d → decide (control_at back) n s ≡ d
+    → n ≡ t.0 / control_period → number_at back < n → s ≡ marks_at back → Stands c back
     → Stands (after_tick c n d) (with_tick t n s (answer_of d c.demand) back)
 decided_stands (Loses why) c back t n s e f at lt marks stands = record {
   ties = lost_ties c back t n s why lt stands.ties;
-  controlled = (record { paid = rw f refl; tick = tt; save = tt }, (record { paid = sym stands.none_owed; tick = record { number_is = at; rises = lt; marks_are = marks; demand_is = rw f refl }; save = tt }, stands.controlled));
+  controlled = (
+    record { paid = rw f refl; tick = tt; save = tt },
+    (
+      record { paid = sym stands.none_owed; tick = record { number_is = at; rises = lt; marks_are = marks; demand_is = rw f refl }; save = tt },
+      stands.controlled,
+    ),
+  );
   none_owed = refl;
 }
 decided_stands Arms c back t n s e f at lt marks stands = record {
   ties = arms_ties c back t n s e lt stands.ties;
-  controlled = (record { paid = rw f refl; tick = tt; save = tt }, (record { paid = sym stands.none_owed; tick = record { number_is = at; rises = lt; marks_are = marks; demand_is = rw f refl }; save = tt }, stands.controlled));
+  controlled = (
+    record { paid = rw f refl; tick = tt; save = tt },
+    (
+      record { paid = sym stands.none_owed; tick = record { number_is = at; rises = lt; marks_are = marks; demand_is = rw f refl }; save = tt },
+      stands.controlled,
+    ),
+  );
   none_owed = refl;
 }
 decided_stands (Drives d) c back t n s e f at lt marks stands = record {
   ties = drives_ties c back t n s d lt stands.ties;
-  controlled = (record { paid = sym stands.none_owed; tick = record { number_is = at; rises = lt; marks_are = marks; demand_is = rw f refl }; save = tt }, stands.controlled);
+  controlled = (
+    record { paid = sym stands.none_owed; tick = record { number_is = at; rises = lt; marks_are = marks; demand_is = rw f refl }; save = tt },
+    stands.controlled,
+  );
   none_owed = rw f refl;
 }
 
@@ -140,4 +159,11 @@ decided_stands (Drives d) c back t n s e f at lt marks stands = record {
 pub tick_stands : (c : Kept) (back : List Note) (t : Tick) (n s : ℕ) → n ≡ t.0 / control_period → c.number < n → s ≡ marks_at back → Stands c back
     → Stands (after_tick c n (decide (view_of c) n s)) (with_tick t n s (answer_of (decide (view_of c) n s) c.demand) back)
 tick_stands c back t n s at lt marks stands =
-    decided_stands (decide (view_of c) n s) c back t n s refl (ap (λ (w : View). decide w n s) (sym (view_is c back stands.ties))) at (bound c back n lt stands.ties) marks stands
+    decided_stands (decide (view_of c) n s) c back t n s refl
+    (ap (λ (w : View). decide w n s) (sym (view_is c back stands.ties))) at (bound c back n lt stands.ties) marks stands
+
+-- a tick starts a drive exactly where its demand is above 0 and the one before was 0
+pub start_is : (decision : Decision) (before : ℕ) → (answer_of decision before).start ≡ (nat_lt 0 (answer_of decision before).demand && (before == 0))
+start_is (Loses cause) before = refl
+start_is Arms before = refl
+start_is (Drives demand) before = refl

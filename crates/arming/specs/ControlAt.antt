@@ -1,19 +1,21 @@
--- Control at a place of a journal, from the notes before that place, the newest first. Nothing is kept: each definition looks back.
+-- Control at a place of a journal, from the notes before that place, the newest first. Nothing is kept: each definition looks
+-- back. In a journal's lines K is a control tick, A an arming, X a loss of control, M a command that acts and P a save.
 use Rattle.std.specs.Prelude.{ℕ, ◌+◌, Bool, true, false, ◌==◌, ◌&&◌, ◌||◌, nat_le, min, max, if◌then◌else◌, List, [], ◌∷◌}
 use Rattle.esc_base.specs.declared.note.Note.{Note}
 use Rattle.esc_base.specs.declared.note.Note.TheVariants as note
 use Rattle.esc_base.specs.Times.{arming_frames}
 use Rattle.dshot_commands.specs.Repeats.{is_command}
+use Rattle.commutation.specs.Commutated.{stuck_at}
 use Rattle.arming.specs.Decide.{View}
 
--- an A stands with no X after it
+-- control is armed: an A stands with no X after it
 abbrev pub armed_at : List Note → Bool
 armed_at [] = false
 armed_at (note.Armed t ∷ back) = true
 armed_at (note.Lost t c ∷ back) = false
 armed_at (n ∷ back) = armed_at back
 
--- the newest detected mode with no X of cause 0, a timeout, after it
+-- the number of the newest detected mode, or 0 where an X of cause 0, a timeout, stands after it
 abbrev pub mode_at : List Note → ℕ
 mode_at [] = 0
 mode_at (note.Detected t m ∷ back) = m
@@ -32,14 +34,14 @@ number_at [] = 0
 number_at (note.Control t n s d ∷ back) = n
 number_at (n ∷ back) = number_at back
 
--- the newest good frame's value, where it is throttle and no X stands after it
+-- the newest good frame's value, where it is throttle and no X stands after it; else 0
 abbrev pub wanted_at : List Note → ℕ
 wanted_at [] = 0
 wanted_at (note.Good t v q ∷ back) = if nat_le 48 v then v else 0
 wanted_at (note.Lost t c ∷ back) = 0
 wanted_at (n ∷ back) = wanted_at back
 
--- the good frames with value 0 that stand after the newest X and after the newest good frame with another value
+-- how many good frames with value 0 stand after the newest X and the newest good frame with another value
 abbrev pub zeros_at : List Note → ℕ
 zeros_at [] = 0
 zeros_at (note.Good t v q ∷ back) = if v == 0 then zeros_at back + 1 else 0
@@ -52,33 +54,33 @@ number_at_frame [] = 0
 number_at_frame (note.Good t v q ∷ back) = number_at back
 number_at_frame (n ∷ back) = number_at_frame back
 
--- the number of the newest K that has a timeout behind it
+-- the number of the newest K before the newest timeout
 abbrev pub number_at_timeout : List Note → ℕ
 number_at_timeout [] = 0
 number_at_timeout (note.Lost t c ∷ back) = if c == 0 then number_at back else number_at_timeout back
 number_at_timeout (n ∷ back) = number_at_timeout back
 
--- the number from which the next timeout counts
+-- the control tick from which the time without a good frame counts
 abbrev pub newest_at : List Note → ℕ
 newest_at back = max (number_at_frame back) (number_at_timeout back)
 
--- the number of the newest K that has an X behind it
+-- the number of the newest K before the newest X: from there the time until control may arm counts
 abbrev pub base_at : List Note → ℕ
 base_at [] = 0
 base_at (note.Lost t c ∷ back) = number_at back
 base_at (n ∷ back) = base_at back
 
--- a good frame at this place is still
+-- a good frame at this place is still: control is armed, with demand 0
 abbrev pub still_at : List Note → Bool
 still_at back = armed_at back && (demand_at back == 0)
 
--- the good frames that are still and have this value, counted back from the newest up to the first that isn't so
+-- how many of the newest good frames in a row were still and have this value
 abbrev pub repeated_at : ℕ → List Note → ℕ
 repeated_at value [] = 0
 repeated_at value (note.Good t v q ∷ back) = if still_at back && (v == value) then repeated_at value back + 1 else 0
 repeated_at value (n ∷ back) = repeated_at value back
 
--- the command run of a good frame with this value at this place
+-- how many times in a row the command with this value has come with a good frame at this place; 0 where it is no still command
 abbrev pub command_run_at : ℕ → List Note → ℕ
 command_run_at value back = if still_at back && is_command value then repeated_at value back + 1 else 0
 
@@ -89,11 +91,8 @@ asked_at (note.Saved t r ∷ back) = false
 asked_at (note.Command t c ∷ back) = (c == 12) || asked_at back
 asked_at (n ∷ back) = asked_at back
 
--- ---- the marks of a K at this place, a row for each: what the notes before it say
-
--- 1, stuck: so far no sector change stands in a journal
-abbrev pub stuck_at : List Note → Bool
-stuck_at back = false
+-- ---- the marks of a K at this place: what the notes before it say. 1, stuck, stands where sixty forced Q stood in a row
+-- since the newest K with demand 0 (`stuck_at`)
 
 -- 2, fuse: so far no watcher looks at a run
 abbrev pub fuse_at : List Note → Bool

@@ -1,4 +1,4 @@
--- Which notes of control a journal may hold: K, A, X, M and P, in the places that the notes before ask for.
+-- Which notes of control a journal may hold: K, A, X, M and P (see `ControlAt`), in the places that the notes before ask for.
 use Rattle.std.specs.Prelude.{◌≡◌, ◌<◌, ℕ, ◌/◌, true, List, [], ◌∷◌, reverse, Option, Some, None}
 use Rattle.esc_base.specs.declared.note.Note.{Note}
 use Rattle.esc_base.specs.declared.note.Note.TheVariants as note
@@ -12,7 +12,7 @@ use Rattle.arming.specs.declared.decision.Decision.TheVariants.{Loses, Arms, Dri
 use Rattle.arming.specs.Decide.{decide, demand_of}
 use Rattle.arming.specs.ControlAt.{asked_at, command_run_at, control_at, marks_at, number_at}
 
--- what A, X and M say
+-- what an A, an X with its cause and an M with its command say
 pub data Outcome : Type 0 where
   Armed : Outcome
   Lost : ℕ → Outcome
@@ -34,6 +34,7 @@ owed (note.Control t n s d ∷ back) = outcome_of (decide (control_at back) n s)
 owed (note.Good t v q ∷ back) = outcome_of_act (acting (command_run_at v back) v)
 owed (n ∷ back) = None
 
+-- what a note says of these
 abbrev pub says : Note → Option Outcome
 says (note.Armed t) = Some Armed
 says (note.Lost t c) = Some (Lost c)
@@ -62,7 +63,7 @@ pub record FitsControl (back : List Note) (n : Note) : Type 0 where
   pub tick : IsTick back n
   pub save : IsSave back n
 
--- each note of a journal does
+-- each note of a journal fits those before it
 abbrev pub Controlled : List Note → Type 0
 Controlled notes = Each (λ before n. FitsControl (reverse before) n) [] notes
 

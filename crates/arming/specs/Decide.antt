@@ -8,13 +8,18 @@ use Rattle.arming.specs.declared.decision.Decision.TheVariants.{Loses, Arms, Dri
 use Rattle.arming.specs.declared.decision.Ticked.{Ticked}
 use Rattle.arming.specs.Throttle.{target}
 
--- what control is at a place
+-- what a control tick decides by
 pub record View : Type 0 where
   pub armed : Bool
+  -- the newest throttle value, 48 to 2047, or 0
   pub wanted : ℕ
+  -- in ticks of 48 MHz
   pub demand : ℕ
+  -- good frames with value 0 in a row, up to what arming takes
   pub zero_run : ℕ
+  -- the control tick from which the time without a good frame counts
   pub newest : ℕ
+  -- the control tick from which the time until control may arm counts
   pub base : ℕ
 
 -- marks as a number: 1 stuck, 2 fuse, 4 session, added
@@ -30,15 +35,15 @@ has_fuse marks = bit_and marks 2 == 2
 abbrev pub has_session : ℕ → Bool
 has_session marks = bit_and marks 4 == 4
 
--- no good frame was accepted in half a second
+-- control tick n comes half a second or more after the newest good frame or timeout
 abbrev pub is_timed_out : View → ℕ → Bool
 is_timed_out c n = nat_le timeout (n - c.newest)
 
--- enough frames with value 0 stand, and control ticks since the start or the newest loss, and no mark forbids it
+-- enough frames with value 0 came in a row, enough time has passed since the start or the newest loss, and no mark forbids it
 abbrev pub may_arm : View → ℕ → ℕ → Bool
 may_arm c n marks = ((c.zero_run == arming_frames) && nat_le arming_time (n - c.base)) && (not (has_fuse marks) && not (has_session marks))
 
--- the first of the six cases
+-- what control tick n decides with these marks: the first of six cases that applies
 abbrev pub decide : View → ℕ → ℕ → Decision
 decide c n marks =
     if is_timed_out c n then Loses Timeout
@@ -53,7 +58,7 @@ demand_of (Loses cause) = 0
 demand_of Arms = 0
 demand_of (Drives demand) = demand
 
--- the answer of a tick, after a demand; a demand above 0 after a demand of 0 starts the drive
+-- a control tick's answer, from the demand before it; a demand above 0 after one of 0 starts the drive
 abbrev pub answer_of : Decision → ℕ → Ticked
 answer_of (Loses cause) before = record { demand = 0; armed_now = false; lost = Some cause; start = false }
 answer_of Arms before = record { demand = 0; armed_now = true; lost = None; start = false }

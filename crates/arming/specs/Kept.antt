@@ -17,11 +17,11 @@ pub record Kept : Type 0 where
   pub demand : ℕ
   -- good frames with value 0 in a row, up to what arming takes
   pub zero_run : ℕ
-  -- of the newest tick
+  -- the number of the newest control tick
   pub number : ℕ
-  -- the newest tick's number when a frame was last accepted, or when the mode was lost
+  -- the number of the control tick before the newest good frame, or that of the newest timeout, if that is later
   pub newest : ℕ
-  -- the number of the tick that lost control last
+  -- the number of the control tick that lost control last
   pub base : ℕ
   pub run : Run
 
@@ -34,11 +34,11 @@ view_of c = record { armed = c.armed; wanted = c.wanted; demand = c.demand; zero
 abbrev pub is_still : Kept → Bool
 is_still c = c.armed && (c.demand == 0)
 
--- a detection
+-- a mode is detected
 abbrev pub after_found : Kept → Mode → Kept
 after_found c mode = record c { mode = mode }
 
--- a good frame with this value
+-- a good frame with this value comes
 abbrev pub after_frame : Kept → ℕ → Kept
 after_frame c value = record c {
   wanted = if nat_le 48 value then value else 0;
@@ -57,7 +57,7 @@ newest_after_loss cause.Timeout n newest = n
 newest_after_loss cause.Stuck n newest = newest
 newest_after_loss cause.Fuse n newest = newest
 
--- a loss in tick n
+-- control is lost in control tick n
 abbrev pub after_loss : Kept → ℕ → Cause → Kept
 after_loss c n cause = record {
   mode = mode_after_loss cause c.mode;
@@ -71,7 +71,7 @@ after_loss c n cause = record {
   run = no_run;
 }
 
--- tick n with this decision
+-- control tick n, with its decision
 abbrev pub after_tick : Kept → ℕ → Decision → Kept
 after_tick c n (Loses cause) = after_loss c n cause
 after_tick c n Arms = record c { number = n; armed = true; demand = 0 }

@@ -1,4 +1,4 @@
--- What follows from `Controlled` alone.
+-- Two laws of drive, which follow from `Controlled` alone.
 use Rattle.std.specs.Prelude.{◌≡◌, ◌≢◌, ◌≤◌, ◌<◌, ℕ, ◌+◌, true, List, [], ◌∷◌, ◌++◌, reverse, Some}
 use Rattle.esc_base.specs.declared.tick.Tick.{Tick}
 use Rattle.esc_base.specs.declared.note.Note.{Note}
@@ -20,7 +20,7 @@ abbrev pub DriveFollowsFrames : Type 0
 DriveFollowsFrames =
     (before after : List Note) (t : Tick) (n s d : ℕ) → Controlled (before ++ note.Control t n s d ∷ after) → 0 < d → IsAskedFor d (reverse before)
 
--- no good frame, and no control tick with a number from this one on
+-- no good frame stands in these notes, and only control ticks with numbers below the limit
 abbrev pub IsSilentBelow : ℕ → List Note → Type 0
 IsSilentBelow limit [] = Unit {0}
 IsSilentBelow limit (note.Good t v q ∷ notes) = ⊥
@@ -36,8 +36,8 @@ abbrev pub IsFollowedByTimeout : List Note → Type 0
 IsFollowedByTimeout [] = Unit {0}
 IsFollowedByTimeout (n ∷ notes) = IsTimeout n
 
--- From any place on but one between a K and the timeout that it owes: while no good frame stands, the first K whose number is
--- at least `timeout` above the newest has demand 0, and what stands behind it is a timeout.
+-- From any place that isn't between a K and the timeout that it owes: if no good frame comes, the first K that is `timeout`
+-- control ticks or more past the newest good frame or timeout has demand 0, and the note right after it is a timeout.
 abbrev pub SilenceEndsDrive : Type 0
 SilenceEndsDrive =
     (before silence after : List Note) (t : Tick) (n s d : ℕ)

@@ -1,4 +1,4 @@
--- For which notes control stands: what it keeps is what they say, field by field.
+-- What control keeps is what the notes of a journal so far say, field by field.
 use Rattle.std.specs.Prelude.{◌≡◌, ◌≤◌, ◌<◌, ℕ, Bool, true, false, min, List, ◌∷◌, Option, Some, None}
 use Rattle.esc_base.specs.declared.tick.Tick.{Tick}
 use Rattle.esc_base.specs.declared.note.Cause.{Cause}
@@ -29,7 +29,7 @@ pub record IsKept (c : Kept) (back : List Note) : Type 0 where
   pub quiet : 0 < zeros_at back → c.run.frames ≡ 0
   pub runs : armed_at back ≡ true → (v : ℕ) → is_command v ≡ true → run_of c.run v ≡ min 7 (repeated_at v back)
 
--- a note that changes what control is
+-- a note of which control keeps something
 abbrev pub changes_control : Note → Bool
 changes_control (note.Good t v q) = true
 changes_control (note.Detected t m) = true
@@ -38,22 +38,23 @@ changes_control (note.Armed t) = true
 changes_control (note.Lost t c) = true
 changes_control n = false
 
--- control stands for these notes, the newest first
+-- control keeps what these notes say, the newest first; each fits those before it, and no further one is owed
 pub record Stands (c : Kept) (back : List Note) : Type 0 where
   pub ties : IsKept c back
   pub controlled : ControlledBack back
   pub none_owed : owed back ≡ None
 
--- the notes of a good frame with telemetry bit q, on those before
+-- the notes so far and those of a good frame: its G with telemetry bit q, and an M where its command acts
 abbrev pub with_frame : Tick → ℕ → ℕ → Option Act → List Note → List Note
 with_frame t v q None back = note.Good t v q ∷ back
 with_frame t v q (Some act) back = note.Command t (number_of act) ∷ note.Good t v q ∷ back
 
+-- the notes so far and an X or an A, where there is one
 abbrev pub with_outcome : Tick → Option Cause → Bool → List Note → List Note
 with_outcome t (Some cause) armed_now back = note.Lost t (cause_number cause) ∷ back
 with_outcome t None true back = note.Armed t ∷ back
 with_outcome t None false back = back
 
--- the notes of tick n with marks s, on those before
+-- the notes so far and those of control tick n with marks s: its K, and an X or an A where there is one
 abbrev pub with_tick : Tick → ℕ → ℕ → Ticked → List Note → List Note
 with_tick t n s answer back = with_outcome t answer.lost answer.armed_now (note.Control t n s answer.demand ∷ back)

@@ -5,6 +5,6 @@ use Rattle.std.specs.Prelude.{ℕ, ◌+◌, ◌-◌, ◌*◌, ◌/◌, ◌==◌,
 abbrev pub on_of : ℕ → ℕ
 on_of value = 100 + (value - 48) * 1800 / 1999
 
--- what the demand goes to
+-- the demand that the ramp goes to
 abbrev pub target : ℕ → ℕ
 target wanted = if wanted == 0 then 0 else on_of wanted

@@ -35,8 +35,7 @@ const LEAST_THROTTLE: u16 = 48;
 
 /// Whether the motor is armed, what is demanded of it, and in which mode the signal is.
 ///
-/// Contracts see the kept numbers, and the notes that they stand for: those of a journal, the newest
-/// first, that control's own notes fit.
+/// Contracts see what is kept, and say that it is what the notes of a journal so far tell (`Stands`).
 #[derive(Debug, Drop)]
 pub struct Control {
     mode: Mode,
@@ -56,9 +55,20 @@ impl Model for Control {
 
     ghost Value = { Kept };
 
-    ghost view = { λ c. record { mode = c.mode; armed = c.armed; wanted = c.wanted; demand = c.demand; zero_run = c.zero_run; number = c.number; newest = c.newest; base = c.base; run = c.repeats } };
+    ghost view = { λ c. record {
+      mode = c.mode;
+      armed = c.armed;
+      wanted = c.wanted;
+      demand = c.demand;
+      zero_run = c.zero_run;
+      number = c.number;
+      newest = c.newest;
+      base = c.base;
+      run = c.repeats;
+    } };
 
-    ghost invariant = { λ c. (c.zero_run ≤ 30) × ((c.newest ≤ c.number) × ((c.base ≤ c.number) × ((c.demand ≤ 1900) × ((c.wanted ≤ 2047) × (0 < c.wanted → 48 ≤ c.wanted))))) };
+    ghost invariant = { λ c. (c.zero_run ≤ 30) × ((c.newest ≤ c.number) × ((c.base ≤ c.number) × ((c.demand ≤ 1900) ×
+        ((c.wanted ≤ 2047) × (0 < c.wanted → 48 ≤ c.wanted))))) };
 }
 
 impl Control {
@@ -105,8 +115,8 @@ impl Control {
         self.repeats.frame(value, still)
     }
 
-    /// Control tick `n`, with a number above that of the tick before. Control stands for the notes after it where the marks
-    /// are those that the notes before it give.
+    /// Control tick number `n`, above that of the one before; they are 2400 ticks of 48 MHz apart. Answers the
+    /// demand, and whether control was armed or lost.
     pub fn tick(&mut self, n: u32, marks: Marks) -> Ticked
         requires { self.old.number < n }
         ensures answer { result ≡ answer_of (decide (view_of self.old) n (bits_of marks)) self.old.demand }
@@ -122,7 +132,7 @@ impl Control {
         answer
     }
 
-    /// The mode that windows are opened in.
+    /// The mode that windows are opened in: the detected one, or `Unknown` before that and after a timeout.
     pub fn mode(&self) -> Mode
         ensures { result ≡ self.now.mode }
     {
@@ -205,7 +215,7 @@ impl Control {
         Decision::Drives(0)
     }
 
-    /// What the demand goes to while control is armed.
+    /// The demand that the ramp goes to while control is armed, in ticks of 48 MHz.
     fn target(&self) -> u16
         ensures value { result ≡ target self.now.wanted }
         ensures most { result ≤ 1900 }

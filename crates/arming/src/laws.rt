@@ -9,9 +9,9 @@ pub fn drive_follows_frames()
     ensures { DriveFollowsFrames }
 {}
 
-/// Silence ends drive: from any place on that isn't between a control tick and the timeout that it
-/// owes, if no good frame comes, the first control tick whose number is 10000 or more above the newest
-/// has demand 0, and control is lost right behind it by a timeout.
+/// Silence ends drive: from any place that isn't between a control tick and the timeout that it owes,
+/// if no good frame comes, the first control tick that is 10000 or more past the newest good frame or
+/// timeout has demand 0, and control is lost right after it by a timeout.
 pub fn silence_ends_drive()
     ensures { SilenceEndsDrive }
 {}

@@ -1,4 +1,5 @@
--- When a sector may change, and to which one.
+-- When a sector may change, and to which one. In a journal's lines Q is a sector change, Z an accepted zero crossing and K a control
+-- tick with its demand.
 use Rattle.std.specs.Prelude.{◌≡◌, ◌≤◌, ℕ, ◌+◌, Bool, true, false, not, ◌&&◌, ◌||◌, ◌==◌, nat_le, if◌then◌else◌, List, [], ◌∷◌, reverse}
 use Rattle.esc_base.specs.declared.note.Note.{Note}
 use Rattle.esc_base.specs.declared.note.Note.TheVariants as note
@@ -13,7 +14,8 @@ sector_at [] = 0
 sector_at (note.Step t s ∷ back) = s
 sector_at (n ∷ back) = sector_at back
 
--- how far a drive has come: there is none; it has no Q yet; its newest Q stands at this tick; and so does a Z after it at that one
+-- how far a drive has come: there is none; it has no Q yet; its newest Q is at this tick, with no Z after it; and with a Z after it,
+-- at the second tick
 pub data Turn : Type 0 where
   Idle : Turn
   Started : Turn
@@ -31,8 +33,8 @@ turn_at (note.Step t s ∷ back) = Turned t.0
 turn_at (note.Cross t ∷ back) = crossed_by (turn_at back) t.0
 turn_at (n ∷ back) = turn_at back
 
--- A Q may stand at t: as the first one of a drive; else from the wait after the Z since the Q before on, or by force where there is
--- no such Z.
+-- a Q may come at t: at any tick as the first one of a drive; else no earlier than the wait after the Z since the Q before, or by
+-- force 240,000 ticks after that Q, where there is no such Z
 abbrev pub MayTurn : ℕ → ℕ → Turn → ℕ → Type 0
 MayTurn advance interval Idle t = ⊥
 MayTurn advance interval Started t = Unit {0}
@@ -48,7 +50,7 @@ abbrev pub TurnRule : ℕ → (List Note → Bool) → List Note → Note → Ty
 TurnRule advance forward back (note.Step t s) = IsTurn advance (forward back) back t.0 s
 TurnRule advance forward back n = Unit {0}
 
--- each Q of a journal does; `forward` is the direction at a place, by the notes before it with the newest first
+-- each Q of a journal fits the notes before it; `forward` is the direction at a place, by the notes before it, the newest first
 abbrev pub Commutated : ℕ → (List Note → Bool) → List Note → Type 0
 Commutated advance forward notes = Each (λ before n. TurnRule advance forward (reverse before) n) [] notes
 
@@ -57,7 +59,7 @@ abbrev pub is_forced : Turn → Bool
 is_forced (Turned q) = true
 is_forced turn = false
 
--- how many forced Q stand in a row, which a Z and a start end
+-- how many of the newest Q in a row were forced; a Z ends the row, and so does the start of a drive
 abbrev pub forced_at : List Note → ℕ
 forced_at [] = 0
 forced_at (note.Control t n s d ∷ back) = if starts d back then 0 else forced_at back

@@ -4,7 +4,7 @@ use Rattle.esc_base.specs.declared.tick.Tick.{Tick}
 use Rattle.commutation.specs.Pace.{first_pace, paced, Pace}
 
 pub record Kept : Type 0 where
-  -- in eighths of the interval
+  -- by how many eighths of the interval a sector change comes earlier, 0 to 3
   pub advance : ℕ
   pub pace : Pace
   -- the ticks of the newest sector changes since the restart, at most seven, the newest first

@@ -1,4 +1,4 @@
--- The interval between crossings, and the wait from a crossing to the sector change.
+-- The interval between crossings, and the wait from a crossing to the sector change. Times are ticks of 48 MHz.
 use Rattle.std.specs.Prelude.{ℕ, ◌+◌, ◌-◌, ◌*◌, ◌/◌, min, max, Option, Some, None}
 use Rattle.esc_base.specs.declared.tick.Tick.{Tick}
 
@@ -20,6 +20,6 @@ gap_of (Some last) interval z = z - last.0
 abbrev pub paced : Pace → Tick → Pace
 paced p z = record { interval = max 1200 (min 240000 ((3 * p.interval + gap_of p.last p.interval z.0) / 4)); last = Some z }
 
--- half the interval, less an eighth of it for each step of advance; each quotient is rounded down
+-- the wait: half the interval, less an eighth of it for each step of advance; each quotient is rounded down
 abbrev pub wait_of : ℕ → ℕ → ℕ
 wait_of advance interval = interval / 2 - interval * advance / 8

@@ -11,16 +11,16 @@ ghost use Rattle.commutation.specs.Drive.{interval_at, period_at, rests_at, star
 use esc_base::Tick;
 use std::marker::Model;
 
-/// The interval at the start of a drive.
+/// The interval at the start of a drive, in ticks.
 const FIRST_INTERVAL: u32 = 24_000;
 
-/// The least interval.
+/// The least interval, in ticks.
 const SHORTEST: u64 = 1_200;
 
-/// The greatest interval.
+/// The greatest interval, in ticks.
 const LONGEST: u64 = 240_000;
 
-/// The sector changes that bound six gaps.
+/// How many sector changes bound the six gaps of an electrical period.
 const TURNS: usize = 7;
 
 /// The ticks of a microsecond.
@@ -30,7 +30,7 @@ const TICKS_PER_US: u32 = 48;
 /// and the newest sector changes, from which the electrical period follows.
 ///
 /// Contracts see the advance, the interval with the newest crossing, and the ticks of the newest sector changes since
-/// the restart, seven at most and the newest first; and the notes of a journal for which these stand.
+/// the restart, seven at most and the newest first; and say that these are what a journal's notes tell (`Timed`).
 #[derive(Debug, Drop)]
 pub struct Timing {
     advance: u8,
@@ -52,8 +52,8 @@ impl Model for Timing {
 }
 
 impl Timing {
-    /// As at the start of a drive: the interval is 24,000, there are no crossings and no gaps. `advance`, at most 3,
-    /// brings each sector change forward by so many eighths of the interval.
+    /// The timing at the start of a drive: the interval is 24,000, there are no crossings and no gaps. `advance`, 0 to
+    /// 3, is by how many eighths of the interval each sector change comes earlier.
     pub fn new(advance: u8) -> Timing
         requires { advance ≤ 3 }
         ensures kept { result ≡ fresh advance }
@@ -68,7 +68,7 @@ impl Timing {
         }
     }
 
-    /// A drive starts: all but the advance is as at first.
+    /// A drive starts: crossings and gaps are forgotten, and the interval is 24,000 again. The advance stays.
     pub fn restart(&mut self)
         ensures kept { self.new ≡ after_restart self.old }
         ensures timed { (t : Tick) (n s d : ℕ) (back : List Note) → starts d back ≡ true →

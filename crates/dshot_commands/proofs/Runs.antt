@@ -1,4 +1,4 @@
--- A frame counts on.
+-- What a further frame changes of the counted runs.
 use Rattle.std.proofs.Common.{◌≡◌, ◌≤◌, ℕ, ◌+◌, Bool, true, false, ◌&&◌, ◌==◌, min, if◌then◌else◌, List, ◌∷◌, Option, Some, None, option_and_then, refl, arith}
 use Rattle.std.proofs.lemmas.Bool.Decides.{nat_tests}
 use Rattle.dshot_commands.specs.declared.act.Act.{Act}
@@ -12,7 +12,8 @@ either false n = refl
 
 -- after a still frame, the run of a command
 still_more : (b : Bool) (run : Run) (v u k : ℕ) → is_command v ≡ b → is_command u ≡ true → run_of run u ≡ min 7 k
-    → run_of (if b then record { command = v; frames = if run.command == v then min 7 (run.frames + 1) else 1 } else no_run) u ≡ min 7 (if v == u then k + 1 else 0)
+    → run_of (if b then record { command = v; frames = if run.command == v then min 7 (run.frames + 1) else 1 } else no_run) u
+    ≡ min 7 (if v == u then k + 1 else 0)
 still_more true run v u k c h e = grind (arith, nat_tests)
 still_more false run v u k c h e = grind (arith, nat_tests)
 
@@ -21,7 +22,8 @@ pub run_more : (still : Bool) (run : Run) (v u k : ℕ) → is_command u ≡ tru
 run_more false run v u k h e = either (0 == u) 0
 run_more true run v u k h e = still_more (is_command v) run v u k refl h e
 
-pub counts_more : (run : Run) (frames : List Heard) (v : ℕ) (still : Bool) → Counts run frames → Counts (run_after run v still) (record { value = v; still = still } ∷ frames)
+pub counts_more : (run : Run) (frames : List Heard) (v : ℕ) (still : Bool) → Counts run frames
+    → Counts (run_after run v still) (record { value = v; still = still } ∷ frames)
 counts_more run frames v still counts = λ u h. run_more still run v u (run_back u frames) h (counts u h)
 
 same_self : (v : ℕ) → (v == v) ≡ true
@@ -39,11 +41,12 @@ needs_six (Extended on) = omega arith
 needs_six (Spin side) = omega arith
 
 if_needed : (o : Option Act) (k : ℕ)
-    → option_and_then (λ act. if min 7 k == frames_needed act then Some act else None) o ≡ option_and_then (λ act. if k == frames_needed act then Some act else None) o
+    → option_and_then (λ act. if min 7 k == frames_needed act then Some act else None) o
+    ≡ option_and_then (λ act. if k == frames_needed act then Some act else None) o
 if_needed None k = refl
 if_needed (Some act) k = rw (at_most_seven (frames_needed act) k (needs_six act)) refl
 
--- a run of more than seven acts like one of seven
+-- a run of seven or more acts like one of seven
 pub acting_seven : (k v : ℕ) → acting (min 7 k) v ≡ acting k v
 acting_seven k v = if_needed (act_of v) k
 
@@ -52,7 +55,8 @@ pub run_same : (b : Bool) (run : Run) (v k : ℕ) → (run.command == v) ≡ b �
 run_same true run v k t e = grind (arith, nat_tests)
 run_same false run v k t e = grind (arith, nat_tests)
 
-run_is : (still : Bool) (run : Run) (v k : ℕ) → is_command v ≡ true → run_of run v ≡ min 7 k → (run_after run v still).frames ≡ min 7 (if still && (v == v) then k + 1 else 0)
+run_is : (still : Bool) (run : Run) (v k : ℕ) → is_command v ≡ true → run_of run v ≡ min 7 k
+    → (run_after run v still).frames ≡ min 7 (if still && (v == v) then k + 1 else 0)
 run_is true run v k c e = rw (c, same_self v) (run_same (run.command == v) run v k refl e)
 run_is false run v k c e = refl
 

@@ -3,7 +3,7 @@ use Rattle.std.specs.Prelude.{◌≤◌, ℕ, true, false, ◌==◌, ◌&&◌, n
 use Rattle.dshot_commands.specs.declared.act.Act.{Act}
 use Rattle.dshot_commands.specs.declared.act.Act.TheVariants.{Beacon, Direction, ThreeD, Save, Extended, Spin}
 
--- the act of a command's number; every other number has none
+-- what the command with this number asks for; a command with another number never acts
 abbrev pub act_of : ℕ → Option Act
 act_of n =
     if nat_le 1 n && nat_le n 5 then Some (Beacon n)
@@ -18,6 +18,7 @@ act_of n =
     else (if n == 21 then Some (Spin 1)
     else None)))))))))
 
+-- the number of the command that asks for this
 abbrev pub number_of : Act → ℕ
 number_of (Beacon beacon) = beacon
 number_of (Direction side) = if side == 0 then 7 else 8
@@ -28,18 +29,18 @@ number_of (Extended true) = 13
 number_of (Extended false) = 14
 number_of (Spin side) = if side == 0 then 20 else 21
 
--- some command asks for it
+-- a command asks for it: beacons are 1 to 5, directions and spins 0 and 1
 abbrev pub IsInRange : Act → Type 0
 IsInRange (Beacon beacon) = (1 ≤ beacon) × (beacon ≤ 5)
 IsInRange (Direction side) = side ≤ 1
 IsInRange (Spin side) = side ≤ 1
 IsInRange act = Unit {0}
 
--- how many equal still frames in a row make it act
+-- the frame, counted from 1 among the equal still frames in a row, at which it acts
 abbrev pub frames_needed : Act → ℕ
 frames_needed (Beacon beacon) = 1
 frames_needed act = 6
 
--- the act of a command after so many equal still frames in a row
+-- what command n does at this frame of the equal still frames in a row; it acts once in a row
 abbrev pub acting : ℕ → ℕ → Option Act
 acting frames n = option_and_then (λ act. if frames == frames_needed act then Some act else None) (act_of n)

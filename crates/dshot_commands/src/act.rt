@@ -5,7 +5,7 @@ ghost use Rattle.dshot_commands.specs.Act.{act_of, acting, frames_needed, number
 /// What a special command asks for, by the public DShot description.
 #[derive(Clone, Copy, Debug, PartialEq, Eq, Drop)]
 pub enum Act {
-    /// Commands 1 to 5: the beacon with that number.
+    /// Commands 1 to 5: the beacon with that number, 1 to 5.
     Beacon(u8),
     /// Commands 7 and 8: spin direction 1 and 2, kept as 0 and 1.
     Direction(u8),
@@ -20,7 +20,7 @@ pub enum Act {
 }
 
 impl Act {
-    /// The command's number, which its act is found by again.
+    /// The number of the command that asks for this, 1 to 21.
     pub fn number(&self) -> u8
         ensures number { result ≡ number_of self.now }
         ensures inverse { IsInRange self.now → act_of result ≡ Some self.now }
@@ -39,7 +39,7 @@ impl Act {
         }
     }
 
-    /// The act of a command after so many equal still frames in a row, or `None` where none is due.
+    /// What the command does at this frame, counted from 1 among the equal still frames in a row, or `None` where it doesn't act.
     pub(crate) fn after(frames: u8, number: u16) -> Option<Act>
         ensures act { result ≡ acting frames number }
         ensures number { IfSome result (λ act. number_of act ≡ number) }
@@ -72,7 +72,7 @@ impl Act {
         }
     }
 
-    /// How many equal still frames in a row make it act.
+    /// The frame, among the equal still frames in a row, at which it acts.
     fn frames_needed(&self) -> u8
         ensures { result ≡ frames_needed self.now }
     {

@@ -6,7 +6,7 @@ ghost use Rattle.dshot_commands.specs.Repeats.{is_command, no_run, run_after, ru
 use crate::Act;
 use std::marker::Model;
 
-/// The run of equal commands that the newest frames make.
+/// Counts how often the newest command has come in a row.
 ///
 /// A frame is *still* where the motor is armed and its demand is 0. Only still frames with a command
 /// count, and any other frame ends the run. Runs of more than six frames behave alike, and are kept
@@ -40,13 +40,13 @@ impl Repeats {
         }
     }
 
-    /// Takes the value of a good frame, and answers the act where the frame makes its command act:
-    /// the first of a beacon's frames in a row, and the sixth of another command's.
+    /// Counts a good frame with this value, and answers what its command asks for where this frame makes it
+    /// act: a beacon's first equal still frame in a row, another command's sixth.
     pub fn frame(&mut self, value: u16, still: bool) -> Option<Act>
         ensures run { self.new ≡ run_after self.old value still }
         ensures act { result ≡ acting self.new.frames value }
 
-        // What counts are the equal still frames in a row, up to this one.
+        // Over all frames so far: the command acts by the equal still frames in a row, up to this one.
         ensures counts { (frames : List Heard) → Counts self.old frames →
             Counts self.new (record { value = value; still = still } ∷ frames) }
         ensures acts { (frames : List Heard) → Counts self.old frames →

@@ -43,14 +43,16 @@ span_near d e s t u le a b = within (105 * (16 * d) / 8) (135 * (16 * d) / 8) (u
 about : (e : ℕ) (exact moved : Edge) → IsNear e exact moved → IsAbout e exact.t.0 moved.t.0
 about e exact moved n = record { early = n.not_early; late = n.not_late }
 
-length-moved : (b e : ℕ) (inverted : Bool) (s : ℕ) (bits : List Bool) (moved : List Edge) → IsMoved e (edges_from b inverted s bits) moved → length moved ≡ 2 * length bits
+length-moved : (b e : ℕ) (inverted : Bool) (s : ℕ) (bits : List Bool) (moved : List Edge) → IsMoved e (edges_from b inverted s bits) moved
+    → length moved ≡ 2 * length bits
 length-moved b e inverted s [] [] m = refl
 length-moved b e inverted s [] (f ∷ rest) m = absurd m
 length-moved b e inverted s (one ∷ bits) [] m = absurd m
 length-moved b e inverted s (one ∷ bits) (f ∷ []) m = absurd m.1
 length-moved b e inverted s (one ∷ bits) (f ∷ g ∷ rest) m = let l = length-moved b e inverted (s + b) bits rest m.1.1 in omega arith
 
-start_near : (b e : ℕ) (inverted : Bool) (s : ℕ) (bits : List Bool) (moved : List Edge) (i : ℕ) → i < length bits → IsMoved e (edges_from b inverted s bits) moved
+start_near : (b e : ℕ) (inverted : Bool) (s : ℕ) (bits : List Bool) (moved : List Edge) (i : ℕ) → i < length bits
+    → IsMoved e (edges_from b inverted s bits) moved
     → IsAbout e (s + i * b) (edge_at moved (2 * i)).t.0
 start_near b e inverted s [] moved i lt m = absurd (omega arith)
 start_near b e inverted s (one ∷ bits) [] i lt m = absurd m
@@ -80,7 +82,8 @@ bits_near d e inverted s (one ∷ bits) (f ∷ g ∷ rest) pos le m =
     ap₂ (λ (x : Bool) (xs : List Bool). x ∷ xs) (one_near d e s f.t.0 g.t.0 one pos le (about e _ f m.0) (about e _ g m.1.0))
     (bits_near d e inverted (s + 16 * d) bits rest pos le m.1.1)
 
-steps_near : (d e : ℕ) (inverted : Bool) (s t : ℕ) (bits : List Bool) (moved : List Edge) → e ≤ d → IsAbout e s t → IsMoved e (edges_from (16 * d) inverted (s + 16 * d) bits) moved
+steps_near : (d e : ℕ) (inverted : Bool) (s t : ℕ) (bits : List Bool) (moved : List Edge) → e ≤ d → IsAbout e s t
+    → IsMoved e (edges_from (16 * d) inverted (s + 16 * d) bits) moved
     → list_all (is_step (16 * d)) (steps (t ∷ starts moved)) ≡ true
 steps_near d e inverted s t [] [] le a m = refl
 steps_near d e inverted s t [] (f ∷ rest) le a m = absurd m
@@ -103,7 +106,8 @@ goes_active true false h = refl
 goes_active false true h = refl
 goes_active false false h = absurd (cc)
 
-polar_near : (b e : ℕ) (inverted : Bool) (s : ℕ) (bits : List Bool) (moved : List Edge) → 0 < length bits → IsMoved e (edges_from b inverted s bits) moved → is_polar inverted moved ≡ true
+polar_near : (b e : ℕ) (inverted : Bool) (s : ℕ) (bits : List Bool) (moved : List Edge) → 0 < length bits → IsMoved e (edges_from b inverted s bits) moved
+    → is_polar inverted moved ≡ true
 polar_near b e inverted s [] moved pos m = absurd (omega arith)
 polar_near b e inverted s (one ∷ bits) [] pos m = absurd m
 polar_near b e inverted s (one ∷ bits) (f ∷ rest) pos m = goes_active inverted f.level (let n = m.0 in n.level_is)
@@ -116,7 +120,8 @@ moved_with d e inverted s bits moved n pos le m =
     let first = start_near (16 * d) e inverted s bits moved 0 (omega arith) m in
     let last = start_near (16 * d) e inverted s bits moved 15 (omega arith) m in
     let spans : is_span (16 * d) (span moved) ≡ true =
-    span_near d e s (edge_at moved 0).t.0 (edge_at moved 30).t.0 le (record { early = omega arith; late = omega arith }) (record { early = omega arith; late = omega arith }) in
+    span_near d e s (edge_at moved 0).t.0 (edge_at moved 30).t.0 le
+    (record { early = omega arith; late = omega arith }) (record { early = omega arith; late = omega arith }) in
     let timely : is_timely (16 * d) moved ≡ true = is_both _ _ (widths_near d e inverted s bits moved le m) (all_steps_near d e inverted s bits moved le m) in
     rw (count, polar, spans, timely) (ap (reading inverted) (bits_near d e inverted s bits moved pos le m))
 

@@ -104,7 +104,9 @@ untimely bit edges i h lt late =
     let l : length (widths edges) ≡ 16 = length-widths edges 16 h in
     ⊎_elim
     (λ w. let f : list_all (is_width bit) (widths edges) ≡ false = list_all_at (is_width bit) (widths edges) i 0 (omega arith) w in rw f refl)
-    (λ s. let f : list_all (is_step bit) (steps (starts edges)) ≡ false = late_step bit i (steps (starts edges)) (length-all_steps edges h) lt s in rw f (and-false _))
+    (λ s.
+    let f : list_all (is_step bit) (steps (starts edges)) ≡ false = late_step bit i (steps (starts edges)) (length-all_steps edges h) lt s in
+    rw f (and-false _))
     (not_both _ _ late)
 
 take_all : {A : Type 0} (xs : List A) (n : ℕ) → length xs ≡ n → take n xs ≡ xs

@@ -10,7 +10,7 @@ use Rattle.dshot_frame.specs.Bits.{low_bits}
 abbrev pub active_width : ℕ → Bool → ℕ
 active_width bit one = if one then 3 * bit / 4 else 3 * bit / 8
 
--- the edges of bits from s on, one bit after the other
+-- the edges of these bits, one after the other, the first of which starts at s
 abbrev pub edges_from : ℕ → Bool → ℕ → List Bool → List Edge
 edges_from bit inverted s [] = []
 edges_from bit inverted s (one ∷ bits) =
@@ -22,7 +22,7 @@ edges_from bit inverted s (one ∷ bits) =
 abbrev pub sent : Mode → ℕ → ℕ → List Edge
 sent m s word = edges_from (numbers m).bit (numbers m).inverted s (low_bits 16 word)
 
--- this edge in the place of that one: it goes to the same level, at most d ticks earlier or later
+-- the moved edge goes to the same level as the exact one, at most d ticks earlier or later
 pub record IsNear (d : ℕ) (exact moved : Edge) : Type 0 where
   pub level_is : moved.level ≡ exact.level
   pub not_early : exact.t.0 ≤ moved.t.0 + d

@@ -21,7 +21,7 @@ abbrev pub widths : List Edge → List ℕ
 widths (e ∷ f ∷ rest) = (f.t.0 - e.t.0) ∷ widths rest
 widths _ = []
 
--- from each number to the next
+-- the distance from each number to the next
 abbrev pub steps : List ℕ → List ℕ
 steps (a ∷ b ∷ rest) = (b - a) ∷ steps (b ∷ rest)
 steps _ = []
@@ -56,15 +56,16 @@ span edges = (edge_at edges 30).t.0 - (edge_at edges 0).t.0
 abbrev pub is_polar : Bool → List Edge → Bool
 is_polar inverted edges = xor inverted (edge_at edges 0).level
 
+-- each active part and each distance of two bit starts is within tolerance
 abbrev pub is_timely : ℕ → List Edge → Bool
 is_timely bit edges = list_all (is_width bit) (widths edges) && list_all (is_step bit) (steps (starts edges))
 
--- the same at one bit
+-- those of bit i are: its active part, and its distance from the bit before
 abbrev pub is_timely_at : ℕ → List Edge → ℕ → Bool
 is_timely_at bit edges i =
     is_width bit (slice_index (widths edges) i) && ((i == 0) || is_step bit (slice_index (steps (starts edges)) (i - 1)))
 
--- the first that applies, else what the bits say
+-- the first fault that applies, else what the bits say
 abbrev pub verdict_with : ℕ → Bool → List Edge → Verdict
 verdict_with bit inverted edges =
     if not (length edges == 32) then Bad Count

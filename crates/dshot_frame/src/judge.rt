@@ -7,7 +7,7 @@ use crate::checksum::checksum;
 use edge_capture::{Burst, mode_numbers};
 use esc_base::{Frame, Mode, Verdict, Why};
 
-// Of a frame, each with two edges.
+// The bits of a frame, each with two edges.
 const BITS: usize = 16;
 
 /// What the edges of a window are as a frame of this mode, which is one of the four DShot modes. The first fault is

@@ -10,8 +10,8 @@ use crate::checksum::checksum;
 use edge_capture::mode_numbers;
 use esc_base::{Frame, Mode};
 
-/// The word of a frame for a normal or an inverted mode. The mode reads its exact edges, sent at any tick, as this
-/// frame. The value is at most 2047.
+/// The word of 16 bits for a frame with a value of at most 2047, in a normal or an inverted mode. Its exact edges,
+/// sent at any tick, are read as this frame.
 pub fn encode(frame: Frame, inverted: bool) -> u16
     requires { frame.value ≤ 2047 }
     ensures { (m : Mode) (s : ℕ) → HasFrames m → (numbers m).inverted ≡ inverted →
@@ -22,7 +22,7 @@ pub fn encode(frame: Frame, inverted: bool) -> u16
 }
 
 /// The ticks by which each edge of a frame may come early or late without a change of its verdict: a sixteenth of a
-/// bit.
+/// bit, 10 or 5, and 0 in a mode without frames.
 pub fn jitter_limit(mode: Mode) -> u32
     ensures sixteenth { result ≡ (numbers mode).bit / 16 }
     ensures harmless { (s word : ℕ) (moved : List Edge) → HasFrames mode → IsMoved result (sent mode s word) moved →

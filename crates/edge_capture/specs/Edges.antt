@@ -1,5 +1,5 @@
 -- Lists of edges.
-use Rattle.std.specs.Prelude.{ℕ, ◌-◌, ◌<◌, ◌≤◌, Bool, false, List, length, slice_index_or}
+use Rattle.std.specs.Prelude.{ℕ, ◌-◌, ◌<◌, ◌≤◌, Bool, false, List, [], ◌∷◌, length, slice_index_or}
 use Rattle.esc_base.specs.declared.signal.Edge.{Edge}
 
 abbrev pub blank : Edge
@@ -16,6 +16,11 @@ last_at edges = (edge_at edges (length edges - 1)).t.0
 abbrev pub last_rose : List Edge → Bool
 last_rose edges = (edge_at edges (length edges - 1)).level
 
--- the ticks don't fall
+-- the edges' ticks don't fall
 abbrev pub IsInOrder : List Edge → Type 0
 IsInOrder edges = (i j : ℕ) → i ≤ j → j < length edges → (edge_at edges i).t.0 ≤ (edge_at edges j).t.0
+
+-- the edges' ticks don't fall, from t on
+abbrev pub Rising : ℕ → List Edge → Type 0
+Rising t [] = Unit {0}
+Rising t (e ∷ rest) = (t ≤ e.t.0) × Rising e.t.0 rest

@@ -25,7 +25,7 @@ numbers D300Inv = dshot 160 true
 numbers D600Inv = dshot 80 true
 numbers Servo = record { bit = 0; inverted = false; idle_while_high = 120000; idle = 120000; most_edges = 2; falling_first = false }
 
--- the edge at which a window closes
+-- the number of heard edges with which a window closes at once
 abbrev pub most : Mode → ℕ
 most m = (numbers m).most_edges
 
@@ -33,6 +33,6 @@ most m = (numbers m).most_edges
 abbrev pub may_be_high : List Edge → Bool
 may_be_high heard = (length heard % 2 == 1) && last_rose heard
 
--- the idle limit after these heard edges
+-- the idle limit after these heard edges: how long a window waits for a further one
 abbrev pub limit : Mode → List Edge → ℕ
 limit m heard = if may_be_high heard then (numbers m).idle_while_high else (numbers m).idle

@@ -1,4 +1,4 @@
--- What a contract sees of a capture, and what that is of the edges that were handed in.
+-- What contracts see of a capture: its window, what edges change of it, and which burst it holds.
 use Rattle.std.specs.Prelude.{◌≡◌, ℕ, ◌+◌, Bool, true, false, ◌&&◌, ◌||◌, ◌==◌, not, nat_le, if◌then◌else◌, List, [], ◌∷◌, ◌++◌, length, Option, Some, None}
 use Rattle.esc_base.specs.declared.tick.Tick.{Tick}
 use Rattle.esc_base.specs.declared.signal.Edge.{Edge}
@@ -31,19 +31,19 @@ after_edge w e = if window_hears w e then record w { edges = w.edges ++ e ∷ []
 abbrev pub window_closed : Window → ℕ → Bool
 window_closed w t = w.armed && is_closed w.mode w.edges t
 
--- a tick that may be there
+-- the number of a tick, if there is one
 abbrev pub number_of : Option Tick → Option ℕ
 number_of None = None
 number_of (Some t) = Some t.0
 
--- the tick at which the idle limit closes it, if no edge comes; none where it isn't armed, has no edge or is full
+-- the tick at which the idle limit closes it, if no edge comes; none where it isn't armed, has no edge or has the last one allowed
 abbrev pub idle_at : Window → Option Tick
 idle_at w =
     if not w.armed || (length w.edges == 0) || nat_le (most w.mode) (length w.edges)
     then None
     else Some (record { 0 = last_at w.edges + limit w.mode w.edges })
 
--- the window is open or closed on the line that has had these edges
+-- a window was opened on a line that has had these edges, and holds what it hears of them
 pub record IsHanded (w : Window) (edges : List Edge) : Type 0 where
   pub armed : w.armed ≡ true
   pub burst_is : w.edges ≡ burst edges w.opened w.mode

@@ -33,7 +33,7 @@ impl Burst {
         }
     }
 
-    /// Adds an edge that comes after all others, or at the tick of the last one.
+    /// Adds an edge that comes after all others, or at the tick of the last one; its tick is below 2^31.
     pub fn push(&mut self, e: Edge)
         requires room { length self.old < 32 }
         requires later { last_at self.old ≤ e.t.0 }

@@ -1,10 +1,9 @@
 ghost use Rattle.std.specs.Prelude.{◌≡◌, ◌<◌, ◌≤◌, ◌+◌, ◌^◌, ◌++◌, ◌&&◌, ◌==◌, not, ℕ, Bool, List, [], ◌∷◌, length, true, false};
 ghost use Rattle.std.specs.List.{All};
 ghost use Rattle.esc_base.specs.declared.signal.Edge.{Edge};
-ghost use Rattle.edge_capture.specs.Edges.{last_at};
+ghost use Rattle.edge_capture.specs.Edges.{last_at, Rising};
 ghost use Rattle.edge_capture.specs.Burst.{close_of, is_closed, comes_early, wait};
 ghost use Rattle.edge_capture.specs.Modes.{limit, may_be_high as is_high};
-ghost use Rattle.edge_capture.specs.Literal.{until_deaf, Rising};
 ghost use Rattle.edge_capture.specs.Window.{Window, unarmed, opened_in, window_hears, after_edge, window_closed, idle_at, IsHanded};
 ghost use Rattle.edge_capture.specs.Heard.{heard_of};
 
@@ -15,7 +14,9 @@ use std::marker::Model;
 /// Whether a window hears an edge.
 #[derive(Clone, Copy, Debug, PartialEq, Eq, Drop)]
 pub enum Heard {
+    /// The edge is one more of the window's burst.
     Taken,
+    /// The edge changes nothing of the window.
     Unheard,
 }
 
@@ -96,7 +97,7 @@ impl Capture {
         }
     }
 
-    /// Opens a window in a mode, with no edges. It hears edges at later ticks than `at`.
+    /// Opens a window in a mode at the tick `at`, with no edges. It hears only edges after that tick.
     pub fn arm(&mut self, mode: Mode, at: Tick)
         ensures window { self.new ≡ opened_in mode at.0 }
         ensures burst { (handed : List Edge) → All (λ e. e.t.0 ≤ at.0) handed → IsHanded self.new handed }
@@ -108,13 +109,14 @@ impl Capture {
         self.closes = None;
     }
 
-    /// The line changes to a level. Ticks that are handed in don't fall.
+    /// The signal line changes to a level at tick `t`, below 2^31 and not before the last heard edge.
     pub fn edge(&mut self, t: Tick, level: bool) -> Heard
         requires small { t.0 < 2 ^ 31 }
         requires later { last_at self.old.edges ≤ t.0 }
         ensures heard { result ≡ heard_of (window_hears self.old (record { t = t; level = level })) }
         ensures window { self.new ≡ after_edge self.old (record { t = t; level = level }) }
-        ensures burst { (handed : List Edge) → IsHanded self.old handed → IsHanded self.new (handed ++ record { t = t; level = level } ∷ []) }
+        ensures burst { (handed : List Edge) → Rising 0 (handed ++ record { t = t; level = level } ∷ []) → IsHanded self.old handed
+            → IsHanded self.new (handed ++ record { t = t; level = level } ∷ []) }
         ensures later { last_at self.new.edges ≤ t.0 }
     {
         let edge = Edge { t, level };
@@ -173,7 +175,6 @@ impl Capture {
     /// The edges that the window has heard.
     pub fn burst(&self) -> &Burst
         ensures edges { result.now ≡ self.now.edges }
-        ensures told { (handed : List Edge) → IsHanded self.now handed → Rising 0 handed → self.now.edges ≡ until_deaf self.now.mode self.now.opened [] handed }
     {
         &self.burst
     }

@@ -6,16 +6,16 @@ use esc_base::Mode;
 /// What sets a signal mode apart. Times are ticks of 48 MHz.
 #[derive(Clone, Copy, Debug, PartialEq, Eq, Drop)]
 pub struct ModeNumbers {
-    /// The length of a frame's bit; 0 in a mode without frames.
+    /// The length of a frame's bit, 160 or 80; 0 in a mode without frames.
     pub bit: u32,
     /// Whether a bit's active level is low.
     pub inverted: bool,
-    /// How long a window waits where a pulse may be high: after an odd number of heard edges, the last of
-    /// which rises.
+    /// How long a window waits for a further edge where a pulse may be high: after an odd number of heard
+    /// edges, the last of which rises.
     pub idle_while_high: u32,
     /// How long it waits elsewhere.
     pub idle: u32,
-    /// The edge at which a window closes.
+    /// The number of heard edges with which a window closes at once, 2 or 32.
     pub most_edges: usize,
     /// Whether a window hears falling edges before its first rising one.
     pub falling_first: bool,

@@ -9,7 +9,8 @@ length-blank n = length-replicate n 255
 
 -- one more byte is programmed
 pub and_step : (cells bytes : List ℕ) (i : ℕ) → i < length bytes → length bytes ≤ length cells
-    → slice_set (and_front cells (take i bytes)) i (bit_and (slice_index_or (and_front cells (take i bytes)) i 0) (slice_index_or bytes i 0)) ≡ and_front cells (take (suc i) bytes)
+    → slice_set (and_front cells (take i bytes)) i (bit_and (slice_index_or (and_front cells (take i bytes)) i 0) (slice_index_or bytes i 0))
+    ≡ and_front cells (take (suc i) bytes)
 and_step [] [] i lt le = absurd (omega arith)
 and_step [] (b ∷ bs) i lt le = absurd (omega arith)
 and_step (c ∷ cs) [] i lt le = absurd (omega arith)

@@ -6,7 +6,8 @@ use Rattle.esc_base.specs.Periods.{is_edge, edges}
 pub edges-none : (duty : ℕ) → 0 < duty → edges duty 0 ≡ 0
 edges-none duty some = omega arith
 
-counted_at : (duty t : ℕ) (starts ends : Bool) → (t % 2000 == 0) ≡ starts → (t % 2000 == duty) ≡ ends → 0 < duty → duty < 2000 → 0 < t → edges duty t ≡ edges duty (t - 1) + (if starts || ends then 1 else 0)
+counted_at : (duty t : ℕ) (starts ends : Bool) → (t % 2000 == 0) ≡ starts → (t % 2000 == duty) ≡ ends
+    → 0 < duty → duty < 2000 → 0 < t → edges duty t ≡ edges duty (t - 1) + (if starts || ends then 1 else 0)
 counted_at duty t true ends e f some small later = grind (arith, nat_tests)
 counted_at duty t false true e f some small later = grind (arith, nat_tests)
 counted_at duty t false false e f some small later = grind (arith, nat_tests)

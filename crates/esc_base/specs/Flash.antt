@@ -1,5 +1,6 @@
 -- What a flash of 32 pages of 1024 bytes holds, and what its calls change of that.
-use Rattle.std.specs.Prelude.{◌≡◌, ℕ, ◌+◌, ◌*◌, List, [], ◌∷◌, ◌++◌, length, take, drop, replicate, bit_and, Option, Some, None}
+use Rattle.std.specs.Prelude.{◌≡◌, ℕ, ◌+◌, ◌*◌, List, [], ◌∷◌, ◌++◌, length, take, drop, replicate, bit_and, Option, Some, None, false}
+use Rattle.esc_base.specs.Calls.{is_to_fail}
 use Rattle.esc_base.specs.declared.flash.FlashOp.{FlashOp}
 use Rattle.esc_base.specs.declared.flash.FlashOp.TheVariants as op
 use Rattle.esc_base.specs.declared.flash.MemFlash.{MemFlash}
@@ -50,10 +51,6 @@ pub record Told : Type 0 where
   pub bytes : Option (List ℕ)
   pub faults : ℕ
 
--- the same of a device, by its meanings
-abbrev pub told : {D : Type 0} → (D → Option (List ℕ)) → (D → ℕ) → D → Told
-told {D} bytes faults dev = record { bytes = bytes dev; faults = faults dev }
-
 -- the bytes of the flash in memory
 abbrev pub flash_cells : MemFlash → List ℕ
 flash_cells flash = flash.cells.items
@@ -71,3 +68,7 @@ planned_calls flash op.Attach = flash.attach.fails.items
 planned_calls flash op.Read = flash.read.fails.items
 planned_calls flash op.Erase = flash.erase.fails.items
 planned_calls flash op.Program = flash.program.fails.items
+
+-- the next call of a kind isn't one of those that are to fail
+abbrev pub SucceedsNext : MemFlash → FlashOp → Type 0
+SucceedsNext flash kind = is_to_fail (made_calls flash kind) (planned_calls flash kind) ≡ false

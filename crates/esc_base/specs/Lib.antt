@@ -5,6 +5,7 @@ pub mod Times
 pub mod Journal
 pub mod Range
 pub mod Trace
+pub mod Calls
 pub mod Flash
 pub mod Legs
 pub mod Periods

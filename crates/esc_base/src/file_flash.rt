@@ -1,5 +1,6 @@
 //! A flash over an image file.
 ghost use Rattle.std.specs.Prelude.{◌≡◌, ◌≤◌, ◌<◌, ◌+◌, ◌^◌, ℕ, List, Option, None, OnErr, length};
+ghost use Rattle.esc_base.specs.Flash.{Told};
 ghost use Rattle.esc_base.specs.Outside.{Rose};
 
 use crate::cells::{blank_cells, erase_cells, program_cells};
@@ -83,9 +84,9 @@ impl<'a, R: Files> FileFlash<'a, R> {
 }
 
 impl<'a, R: Files> FlashDev for FileFlash<'a, R> {
-    ghost bytes = { λ _. None };
+    ghost told = { λ flash. record { bytes = None; faults = flash.faults } };
 
-    ghost faults = { λ flash. flash.faults };
+    ghost binds = { λ _ _. Unit {0} };
 
     ghost whole = { λ _. tt };
 

@@ -1,5 +1,5 @@
 //! The flash, and a flash in memory.
-ghost use Rattle.std.specs.Prelude.{◌≡◌, ◌≤◌, ◌<◌, ◌+◌, ◌*◌, ◌^◌, ◌++◌, ◌∷◌, [], ◌≢◌, min, ℕ, List, Option, Some, IsNone, IfOk, OnOk, OnErr, length, drop, take, vec_len};
+ghost use Rattle.std.specs.Prelude.{◌≡◌, ◌≤◌, ◌<◌, ◌+◌, ◌*◌, ◌^◌, ◌++◌, ◌∷◌, [], ◌≢◌, min, ℕ, List, Option, Some, IsNone, IfOk, OnOk, OnErr, false, length, drop, take, vec_len};
 ghost use Rattle.std.specs.Option.{option_map};
 ghost use Rattle.esc_base.specs.Outside.{Rose};
 ghost use Rattle.esc_base.specs.declared.flash.FlashOp.{FlashOp};
@@ -17,51 +17,52 @@ pub(crate) const PAGE: usize = 1024;
 
 /// A flash of 32 pages of 1024 bytes. Erasing sets bits and programming clears them.
 pub trait FlashDev {
-    ghost use Rattle.esc_base.specs.Flash.{erased, programmed, ChangesWithin, IsRead, IsWhole};
+    ghost use Rattle.esc_base.specs.Flash.{erased, programmed, ChangesWithin, IsRead, IsWhole, Told};
 
-    /// Its 32768 bytes, where it tells them.
-    ghost bytes: { Self → Option (List ℕ) };
+    /// Its 32768 bytes, where it tells them, and how often it has failed.
+    ghost told: { Self → Told };
 
-    /// How often it has failed.
-    ghost faults: { Self → ℕ };
+    /// Whether it would bind the image at a path, or go on without one.
+    ghost binds: { Self → Option (List ℕ) → Type 0 };
 
     /// Binds the image at a path, or leaves the device as it is.
     fn attach(&mut self, image: Option<&str>) -> Result<(), Failed>
-        ensures none { IsNone image.entry → bytes self.new ≡ bytes self.old }
-        ensures unchanged { OnErr result (bytes self.new ≡ bytes self.old) }
-        ensures no_fewer { faults self.old ≤ faults self.new }
-        ensures counted { faults self.new < 2 ^ 64 }
-        ensures failed { OnErr result (Rose (faults self.old) (faults self.new)) };
+        ensures bound { OnOk result (binds self.old (option_map (λ path. path.now) image.entry)) }
+        ensures none { IsNone image.entry → (told self.new).bytes ≡ (told self.old).bytes }
+        ensures unchanged { OnErr result ((told self.new).bytes ≡ (told self.old).bytes) }
+        ensures no_fewer { (told self.old).faults ≤ (told self.new).faults }
+        ensures counted { (told self.new).faults < 2 ^ 64 }
+        ensures failed { OnErr result (Rose (told self.old).faults (told self.new).faults) };
 
     /// Fills `buf` with the bytes from `at` on.
     fn read(&mut self, at: u16, buf: &mut [u8]) -> Result<(), Failed>
         requires { at + length buf.old ≤ 32768 }
-        ensures read { OnOk result (IsRead (bytes self.old) at buf.new) }
-        ensures unchanged { bytes self.new ≡ bytes self.old }
-        ensures no_fewer { faults self.old ≤ faults self.new }
-        ensures counted { faults self.new < 2 ^ 64 }
-        ensures failed { OnErr result (Rose (faults self.old) (faults self.new)) };
+        ensures read { OnOk result (IsRead (told self.old).bytes at buf.new) }
+        ensures unchanged { (told self.new).bytes ≡ (told self.old).bytes }
+        ensures no_fewer { (told self.old).faults ≤ (told self.new).faults }
+        ensures counted { (told self.new).faults < 2 ^ 64 }
+        ensures failed { OnErr result (Rose (told self.old).faults (told self.new).faults) };
 
     /// Sets the bytes of a page, 0 to 31, to 0xFF. After a failure they may be any.
     fn erase(&mut self, page: u8) -> Result<(), Failed>
         requires { page < 32 }
-        ensures erased { OnOk result (bytes self.new ≡ option_map (λ cells. erased cells page) (bytes self.old)) }
-        ensures within { OnErr result (ChangesWithin (page * 1024) 1024 (bytes self.old) (bytes self.new)) }
-        ensures no_fewer { faults self.old ≤ faults self.new }
-        ensures counted { faults self.new < 2 ^ 64 }
-        ensures failed { OnErr result (Rose (faults self.old) (faults self.new)) };
+        ensures erased { OnOk result ((told self.new).bytes ≡ option_map (λ cells. erased cells page) (told self.old).bytes) }
+        ensures within { OnErr result (ChangesWithin (page * 1024) 1024 (told self.old).bytes (told self.new).bytes) }
+        ensures no_fewer { (told self.old).faults ≤ (told self.new).faults }
+        ensures counted { (told self.new).faults < 2 ^ 64 }
+        ensures failed { OnErr result (Rose (told self.old).faults (told self.new).faults) };
 
     /// Programs the bytes from `at` on: each becomes the bitwise and of the old and the new one. After a
     /// failure they may be any.
     fn program(&mut self, at: u16, image: &[u8]) -> Result<(), Failed>
         requires { at + length image.now ≤ 32768 }
-        ensures programmed { OnOk result (bytes self.new ≡ option_map (λ cells. programmed cells at image.now) (bytes self.old)) }
-        ensures within { OnErr result (ChangesWithin at (length image.now) (bytes self.old) (bytes self.new)) }
-        ensures no_fewer { faults self.old ≤ faults self.new }
-        ensures counted { faults self.new < 2 ^ 64 }
-        ensures failed { OnErr result (Rose (faults self.old) (faults self.new)) };
+        ensures programmed { OnOk result ((told self.new).bytes ≡ option_map (λ cells. programmed cells at image.now) (told self.old).bytes) }
+        ensures within { OnErr result (ChangesWithin at (length image.now) (told self.old).bytes (told self.new).bytes) }
+        ensures no_fewer { (told self.old).faults ≤ (told self.new).faults }
+        ensures counted { (told self.new).faults < 2 ^ 64 }
+        ensures failed { OnErr result (Rose (told self.old).faults (told self.new).faults) };
 
-    ghost whole: { (flash : Self) → IsWhole (bytes flash) };
+    ghost whole: { (flash : Self) → IsWhole (told flash).bytes };
 }
 
 /// A call of a flash, by its kind.
@@ -110,7 +111,8 @@ impl MemFlash {
         requires { 0 < n }
         ensures cells { flash_cells self.new ≡ flash_cells self.old }
         ensures faults { self.new.faults ≡ self.old.faults }
-        ensures planned { OnOk result (planned_calls self.new op ≡ planned_calls self.old op ++ min (made_calls self.old op + n) 18446744073709551615 ∷ []) }
+        ensures planned { OnOk result (planned_calls self.new op ≡ planned_calls self.old op
+            ++ min (made_calls self.old op + n) 18446744073709551615 ∷ []) }
         ensures refused { OnErr result (planned_calls self.new op ≡ planned_calls self.old op) }
         ensures others { (other : FlashOp) → other ≢ op → planned_calls self.new other ≡ planned_calls self.old other }
         ensures made { (any : FlashOp) → made_calls self.new any ≡ made_calls self.old any }
@@ -142,6 +144,7 @@ impl MemFlash {
 
     /// Counts a failure where the call is to fail.
     fn judged(&mut self, is_to_fail: bool) -> Result<(), Failed>
+        ensures fine { OnOk result (is_to_fail ≡ false) }
         ensures cells { self.new.cells ≡ self.old.cells }
         ensures no_fewer { self.old.faults ≤ self.new.faults }
         ensures failed { OnErr result (Rose self.old.faults self.new.faults) }
@@ -155,9 +158,11 @@ impl MemFlash {
 }
 
 impl FlashDev for MemFlash {
-    ghost bytes = { λ flash. Some flash.cells.items };
+    ghost use Rattle.esc_base.specs.Flash.{Told, SucceedsNext};
 
-    ghost faults = { λ flash. flash.faults };
+    ghost told = { λ flash. record { bytes = Some flash.cells.items; faults = flash.faults } };
+
+    ghost binds = { λ flash _. SucceedsNext flash FlashOp.Attach };
 
     ghost whole = { λ flash. flash.whole };
 

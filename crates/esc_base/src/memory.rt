@@ -1,4 +1,5 @@
 ghost use Rattle.std.specs.Prelude.{◌≡◌, ◌≤◌, ◌<◌, ◌^◌, OnErr, ◌+◌, ◌++◌, [], ◌∷◌, min, ℕ, List, Option, Some, IfOk, OnOk, length, drop, take, vec_len};
+ghost use Rattle.esc_base.specs.Calls.{is_to_fail};
 
 use crate::{Failed, NoMemory, Sink, Source, raised};
 use std::alloc::Global;
@@ -34,7 +35,9 @@ impl Calls {
     }
 
     /// Counts one call, and answers whether it is to fail.
-    pub(crate) fn is_to_fail(&mut self) -> bool {
+    pub(crate) fn is_to_fail(&mut self) -> bool
+        ensures { result ≡ is_to_fail self.old.made self.old.fails.items }
+    {
         self.made = self.made.saturating_add(1);
         self.fails.contains(&self.made)
     }

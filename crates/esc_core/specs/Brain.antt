@@ -5,9 +5,12 @@ use Rattle.esc_base.specs.declared.signal.Mode.{Mode}
 use Rattle.arming.specs.Kept.{Kept}
 use Rattle.esc_core.specs.declared.state.CapAt.{CapAt}
 use Rattle.esc_core.specs.declared.state.TickAt.{TickAt}
+use Rattle.esc_core.specs.declared.state.PwmAt.{PwmAt}
+use Rattle.esc_core.specs.declared.state.CommAt.{CommAt}
 use Rattle.esc_core.specs.declared.state.MainAt.{MainAt}
 use Rattle.esc_core.specs.declared.state.BareAt.{BareAt}
 use Rattle.esc_core.specs.declared.orders.Orders.{Orders}
+use Rattle.esc_core.specs.declared.drive.Drive.{Drive}
 
 pub record Brain : Type 0 where
   pub cap_at : CapAt
@@ -15,8 +18,8 @@ pub record Brain : Type 0 where
   pub main_at : MainAt
   pub uart_at : BareAt
   pub cmp_at : BareAt
-  pub pwm_at : BareAt
-  pub comm_at : BareAt
+  pub pwm_at : PwmAt
+  pub comm_at : CommAt
   -- for how many steps the mask can still stand
   pub hold : ℕ
   -- the mode of the newest window
@@ -27,3 +30,4 @@ pub record Brain : Type 0 where
   pub paused : Bool
   pub control : Kept
   pub orders : Orders
+  pub drive : Drive

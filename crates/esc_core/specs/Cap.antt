@@ -1,7 +1,6 @@
 -- The steps of CAP: it reads the edges of a closed window, judges them, and opens the next window or sets the window
 -- timer; where the timer was set it opens a window.
 use Rattle.std.specs.Prelude.{ℕ, ◌+◌, ◌-◌, min, Bool, true, false, ◌&&◌, ◌==◌, nat_le, nat_lt, if◌then◌else◌, List, [], ◌∷◌, ◌++◌, length, Option, Some, None}
-use Rattle.esc_base.specs.declared.tick.Tick.{Tick}
 use Rattle.esc_base.specs.declared.signal.Edge.{Edge}
 use Rattle.esc_base.specs.declared.signal.Frame.{Frame}
 use Rattle.esc_base.specs.declared.note.Note.{Note}

@@ -11,16 +11,28 @@ use Rattle.esc_core.specs.declared.state.CapAt.{CapAt}
 use Rattle.esc_core.specs.declared.state.CapAt.TheVariants as cap
 use Rattle.esc_core.specs.declared.state.TickAt.{TickAt}
 use Rattle.esc_core.specs.declared.state.TickAt.TheVariants as tick
+use Rattle.esc_core.specs.declared.state.PwmAt.{PwmAt}
+use Rattle.esc_core.specs.declared.state.PwmAt.TheVariants as pwm
+use Rattle.esc_core.specs.declared.state.CommAt.{CommAt}
+use Rattle.esc_core.specs.declared.state.CommAt.TheVariants as comm
 use Rattle.esc_core.specs.declared.state.MainAt.{MainAt}
 use Rattle.esc_core.specs.declared.state.MainAt.TheVariants as main
 use Rattle.esc_core.specs.declared.state.BareAt.{BareAt}
 use Rattle.esc_core.specs.declared.state.BareAt.TheVariants as bare
 use Rattle.settings_block.specs.declared.settings.Settings.{Settings}
 use Rattle.esc_core.specs.Orders.{first_orders}
+use Rattle.gate_driver.specs.declared.chop.Chop.TheVariants as chop
+use Rattle.gate_driver.specs.declared.to_sector.ChangeAt.{ChangeAt}
+use Rattle.gate_driver.specs.AllOff.{all_off_left}
+use Rattle.gate_driver.specs.Chop.{chop_left}
+use Rattle.gate_driver.specs.Change.{change_left}
+use Rattle.esc_core.specs.Drive.{first_drive}
 use Rattle.esc_core.specs.Brain.{Brain}
 use Rattle.esc_core.specs.Stepped.{Stepped, goes_back}
 use Rattle.esc_core.specs.Cap.{cap_step}
 use Rattle.esc_core.specs.Tick.{tick_step}
+use Rattle.esc_core.specs.Pwm.{pwm_step}
+use Rattle.esc_core.specs.Comm.{comm_step}
 use Rattle.esc_core.specs.Calls.{Call, Answer}
 use Rattle.esc_core.specs.Background.{main_step, main_asked}
 
@@ -36,10 +48,30 @@ cap_left cap.Back = 1
 
 abbrev pub tick_left : TickAt → ℕ
 tick_left tick.Shut = 0
-tick_left tick.Raise = 4
-tick_left tick.Read = 3
+tick_left tick.Raise = 9
+tick_left tick.Read = 8
+tick_left (tick.Off at) = all_off_left at + 5
+tick_left tick.DutyOff = 4
+tick_left tick.DriveOff = 3
+tick_left (tick.DutyOn is_start) = 4
+tick_left tick.Start = 3
 tick_left tick.Lower = 2
 tick_left tick.Back = 1
+
+abbrev pub pwm_left : PwmAt → ℕ
+pwm_left pwm.Shut = 0
+pwm_left (pwm.Run at) = chop_left at + 2
+pwm_left pwm.Back = 1
+
+-- by where the sector change stands
+abbrev pub comm_left : CommAt → ChangeAt → ℕ
+comm_left comm.Shut at = 0
+comm_left comm.Decide at = 12
+comm_left comm.Turn at = change_left at + 4
+comm_left comm.Low at = 4
+comm_left comm.Arm at = 3
+comm_left comm.Stick at = 2
+comm_left comm.Back at = 1
 
 abbrev pub main_left : MainAt → ℕ
 main_left main.Shut = 0
@@ -56,17 +88,36 @@ left_of c kind.Uart = bare_left c.uart_at
 left_of c kind.Tick = tick_left c.tick_at
 left_of c kind.Cap = cap_left c.cap_at
 left_of c kind.Cmp = bare_left c.cmp_at
-left_of c kind.Pwm = bare_left c.pwm_at
-left_of c kind.Comm = bare_left c.comm_at
+left_of c kind.Pwm = pwm_left c.pwm_at
+left_of c kind.Comm = comm_left c.comm_at c.drive.turn.at
 
 -- for how many steps the mask stands from a place on, with the one that lowers it; 9 where it never stands
 abbrev pub tick_need : TickAt → ℕ
-tick_need tick.Read = 2
+tick_need tick.Read = 7
+tick_need (tick.Off at) = all_off_left at + 4
+tick_need tick.DutyOff = 3
+tick_need tick.DriveOff = 2
+tick_need (tick.DutyOn is_start) = 3
+tick_need tick.Start = 2
 tick_need tick.Lower = 1
-tick_need at = 9
+tick_need tick.Raise = 9
+tick_need tick.Back = 9
+tick_need tick.Shut = 9
+
+abbrev pub pwm_need : PwmAt → ℕ
+pwm_need (pwm.Run chop.Position) = 5
+pwm_need (pwm.Run (chop.Duty position)) = 4
+pwm_need (pwm.Run (chop.Sector below)) = 3
+pwm_need (pwm.Run (chop.Write leg)) = 2
+pwm_need (pwm.Run chop.Lower) = 1
+pwm_need (pwm.Run chop.Raise) = 9
+pwm_need (pwm.Run chop.Over) = 9
+pwm_need pwm.Back = 9
+pwm_need pwm.Shut = 9
 
 abbrev pub need_of : Brain → Kind → ℕ
 need_of c kind.Tick = tick_need c.tick_at
+need_of c kind.Pwm = pwm_need c.pwm_at
 need_of c k = 9
 
 abbrev pub shut : Brain → Kind → Brain
@@ -75,8 +126,8 @@ shut c kind.Uart = record c { uart_at = bare.Shut }
 shut c kind.Tick = record c { tick_at = tick.Shut }
 shut c kind.Cap = record c { cap_at = cap.Shut }
 shut c kind.Cmp = record c { cmp_at = bare.Shut }
-shut c kind.Pwm = record c { pwm_at = bare.Shut }
-shut c kind.Comm = record c { comm_at = bare.Shut }
+shut c kind.Pwm = record c { pwm_at = pwm.Shut }
+shut c kind.Comm = record c { comm_at = comm.Shut }
 
 abbrev pub entered_core : Brain → Kind → Brain
 entered_core c kind.Main = record c { main_at = main.Work }
@@ -84,13 +135,15 @@ entered_core c kind.Uart = record c { uart_at = bare.Back }
 entered_core c kind.Tick = record c { tick_at = tick.Raise }
 entered_core c kind.Cap = record c { cap_at = cap.Start }
 entered_core c kind.Cmp = record c { cmp_at = bare.Back }
-entered_core c kind.Pwm = record c { pwm_at = bare.Back }
-entered_core c kind.Comm = record c { comm_at = bare.Back }
+entered_core c kind.Pwm = record c { pwm_at = pwm.Run chop.Raise }
+entered_core c kind.Comm = record c { comm_at = comm.Decide }
 
 -- a handler that isn't built returns at once
 abbrev pub kind_step : Kind → List Answer → Brain → Bank → Stepped
 kind_step kind.Tick answers c b = tick_step c.tick_at c b
 kind_step kind.Cap answers c b = cap_step c.cap_at c b
+kind_step kind.Pwm answers c b = pwm_step c.pwm_at c b
+kind_step kind.Comm answers c b = comm_step c.comm_at c b
 kind_step kind.Main answers c b = main_step answers c.main_at c b
 kind_step k answers c b = goes_back (shut c k)
 
@@ -125,12 +178,13 @@ new_core settings = record {
   main_at = main.Shut;
   uart_at = bare.Shut;
   cmp_at = bare.Shut;
-  pwm_at = bare.Shut;
-  comm_at = bare.Shut;
+  pwm_at = pwm.Shut;
+  comm_at = comm.Shut;
   hold = 0;
   window = Unknown;
   burst = [];
   paused = false;
   control = start;
   orders = first_orders settings;
+  drive = first_drive settings.advance;
 }

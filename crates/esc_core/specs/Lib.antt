@@ -1,8 +1,11 @@
 pub mod Orders
+pub mod Drive
 pub mod Brain
 pub mod Stepped
 pub mod Cap
 pub mod Tick
+pub mod Pwm
+pub mod Comm
 pub mod Calls
 pub mod Background
 pub mod Firmware

@@ -1,5 +1,5 @@
 -- What commands change.
-use Rattle.std.specs.Prelude.{true, false, Option, Some, None}
+use Rattle.std.specs.Prelude.{true, false, Bool, ◌==◌, Option, Some, None}
 use Rattle.dshot_commands.specs.declared.act.Act.{Act}
 use Rattle.dshot_commands.specs.declared.act.Act.TheVariants.{Beacon, Direction, ThreeD, Save, Extended, Spin}
 use Rattle.settings_block.specs.declared.settings.Settings.{Settings}
@@ -8,6 +8,10 @@ use Rattle.esc_core.specs.declared.orders.Orders.{Orders}
 
 abbrev pub first_orders : Settings → Orders
 first_orders settings = record { settings = settings; spin = 0; extended = false; save_asked = false }
+
+-- sectors go forward where the direction of the settings and the spin are equal
+abbrev pub is_forward : Orders → Bool
+is_forward o = o.settings.direction == o.spin
 
 -- a beacon changes nothing
 abbrev pub obeyed : Orders → Act → Orders

@@ -1,6 +1,5 @@
 //! MAIN: what waits while no interrupt is due.
 ghost use Rattle.std.specs.Prelude.{[], ◌∷◌, All};
-ghost use Rattle.esc_base.specs.Flash.{told};
 ghost use Rattle.esc_base.specs.Range.{InRange};
 ghost use Rattle.interrupt_machine.specs.Did.{notes_of};
 ghost use Rattle.esc_core.specs.Background.{main_step, main_asked, saving_step};
@@ -17,7 +16,7 @@ use timer_regs::Regs;
 impl Core {
     /// MAIN decides in this step what it does, since commands may act between its entry and this step.
     pub(crate) fn main_step<D: FlashDev>(&mut self, regs: &Regs, dev: &mut D) -> Did
-        ensures made { IsMade (λ answers. main_step answers self.old.main_at self.old regs.now) (main_asked self.old.main_at self.old.orders) regs.now (told D.bytes D.faults dev.old) result self.new regs.now (told D.bytes D.faults dev.new) }
+        ensures made { IsMade (λ answers. main_step answers self.old.main_at self.old regs.now) (main_asked self.old.main_at self.old.orders) regs.now (D.told dev.old) result self.new regs.now (D.told dev.new) }
         ensures in_range { All InRange (notes_of result) }
     {
         match self.main_at {
@@ -38,7 +37,7 @@ impl Core {
 
     /// Saves the settings as they stand now. Where the flash fails, those in memory stay as they are.
     fn save_settings<D: FlashDev>(&mut self, regs: &Regs, dev: &mut D) -> Did
-        ensures made { IsMade (λ answers. saving_step (took_first answers) self.old regs.now) (λ answers. Saves (block_of self.old.orders.settings) ∷ []) regs.now (told D.bytes D.faults dev.old) result self.new regs.now (told D.bytes D.faults dev.new) }
+        ensures made { IsMade (λ answers. saving_step (took_first answers) self.old regs.now) (λ answers. Saves (block_of self.old.orders.settings) ∷ []) regs.now (D.told dev.old) result self.new regs.now (D.told dev.new) }
         ensures in_range { All InRange (notes_of result) }
     {
         self.orders.save_asked = false;
@@ -52,7 +51,7 @@ impl Core {
 
 /// Whether the flash takes the settings' block.
 fn takes_block<D: FlashDev>(dev: &mut D, settings: &Settings) -> bool
-    ensures { CallDid (Saves (block_of settings.now)) (answer_of result) (told D.bytes D.faults dev.old) (told D.bytes D.faults dev.new) }
+    ensures { CallDid (Saves (block_of settings.now)) (answer_of result) (D.told dev.old) (D.told dev.new) }
 {
     match save(settings, dev) {
         Ok(()) => true,

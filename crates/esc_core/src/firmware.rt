@@ -1,16 +1,17 @@
 //! The core as the machine's firmware.
 ghost use Rattle.std.specs.Prelude.{◌≡◌, ◌<◌, ◌≤◌, ◌^◌, ◌-◌, ℕ, true, false, All, if◌then◌else◌};
-ghost use Rattle.esc_base.specs.Flash.{Told, told};
+ghost use Rattle.esc_base.specs.Flash.{Told};
 ghost use Rattle.esc_base.specs.Range.{InRange};
 ghost use Rattle.interrupt_machine.specs.Did.{notes_of};
 ghost use Rattle.esc_core.specs.Calls.{IsMade};
-ghost use Rattle.esc_core.specs.Firmware.{core_step, entered_core, left_of, need_of, is_stray, counted_down, shut, kind_step, kind_asked, core_asked, new_core};
+ghost use Rattle.esc_core.specs.Firmware.{core_step, entered_core, left_of, need_of, tick_need, pwm_need, is_stray, counted_down, shut, kind_step, kind_asked, core_asked, new_core};
 
 use crate::own::no_note;
-use crate::{BareAt, CapAt, Core, MainAt, Orders, TickAt};
+use crate::{BareAt, CapAt, CommAt, Core, Drive, MainAt, Orders, PwmAt, TickAt};
 use arming::Control;
 use edge_capture::Burst;
 use esc_base::{FlashDev, Kind, Mode};
+use gate_driver::{AllOff, Chop};
 use interrupt_machine::{Did, Firmware};
 use settings_block::Settings;
 use timer_regs::{Reg, Regs};
@@ -26,13 +27,14 @@ impl Core {
             main_at: MainAt::Shut,
             uart_at: BareAt::Shut,
             cmp_at: BareAt::Shut,
-            pwm_at: BareAt::Shut,
-            comm_at: BareAt::Shut,
+            pwm_at: PwmAt::Shut,
+            comm_at: CommAt::Shut,
             hold: 0,
             window: Mode::Unknown,
             burst: Burst::new(),
             paused: false,
             control: Control::new(),
+            drive: Drive::new(settings.advance),
             orders: Orders::new(settings),
         }
     }
@@ -41,11 +43,8 @@ impl Core {
         ensures { result ≡ need_of self.now kind }
     {
         match kind {
-            Kind::Tick => match self.tick_at {
-                TickAt::Read => 2,
-                TickAt::Lower => 1,
-                _ => 9,
-            },
+            Kind::Tick => tick_need(self.tick_at),
+            Kind::Pwm => pwm_need(self.pwm_at),
             _ => 9,
         }
     }
@@ -59,21 +58,23 @@ impl Core {
             Kind::Tick => self.tick_at = TickAt::Shut,
             Kind::Cap => self.cap_at = CapAt::Shut,
             Kind::Cmp => self.cmp_at = BareAt::Shut,
-            Kind::Pwm => self.pwm_at = BareAt::Shut,
-            Kind::Comm => self.comm_at = BareAt::Shut,
+            Kind::Pwm => self.pwm_at = PwmAt::Shut,
+            Kind::Comm => self.comm_at = CommAt::Shut,
         }
     }
 
     fn kind_step<D: FlashDev>(&mut self, kind: Kind, regs: &mut Regs, dev: &mut D) -> Did
         requires count { regs.old.accesses < 2 ^ 63 }
-        ensures made { IsMade (λ answers. kind_step kind answers self.old regs.old) (kind_asked kind self.old) regs.old (told D.bytes D.faults dev.old) result self.new regs.new (told D.bytes D.faults dev.new) }
+        ensures made { IsMade (λ answers. kind_step kind answers self.old regs.old) (kind_asked kind self.old) regs.old (D.told dev.old) result self.new regs.new (D.told dev.new) }
         ensures in_range { All InRange (notes_of result) }
     {
         match kind {
             Kind::Tick => self.tick_step(regs),
             Kind::Cap => self.cap_step(regs),
             Kind::Main => self.main_step(regs, dev),
-            Kind::Uart | Kind::Cmp | Kind::Pwm | Kind::Comm => {
+            Kind::Pwm => self.pwm_step(regs),
+            Kind::Comm => self.comm_step(regs),
+            Kind::Uart | Kind::Cmp => {
                 self.shut(kind);
                 Did::Return(no_note())
             }
@@ -96,7 +97,7 @@ impl Core {
 
     fn core_step<D: FlashDev>(&mut self, kind: Kind, regs: &mut Regs, dev: &mut D) -> Did
         requires count { regs.old.accesses < 2 ^ 63 }
-        ensures made { IsMade (λ answers. core_step kind answers self.old regs.old) (core_asked kind self.old regs.old) regs.old (told D.bytes D.faults dev.old) result self.new regs.new (told D.bytes D.faults dev.new) }
+        ensures made { IsMade (λ answers. core_step kind answers self.old regs.old) (core_asked kind self.old regs.old) regs.old (D.told dev.old) result self.new regs.new (D.told dev.new) }
         ensures in_range { All InRange (notes_of result) }
     {
         if self.is_stray(kind, regs) {
@@ -106,6 +107,38 @@ impl Core {
         }
         self.count_down(regs);
         self.kind_step(kind, regs, dev)
+    }
+}
+
+/// For how many steps the mask stands from a place on, with the one that lowers it; 9 where it never stands.
+fn tick_need(at: TickAt) -> u8
+    ensures { result ≡ tick_need at }
+{
+    match at {
+        TickAt::Read => 7,
+        TickAt::Off(AllOff::High) => 6,
+        TickAt::Off(AllOff::Low) => 5,
+        TickAt::Off(AllOff::Over) => 4,
+        TickAt::DutyOff => 3,
+        TickAt::DriveOff => 2,
+        TickAt::DutyOn(_) => 3,
+        TickAt::Start => 2,
+        TickAt::Lower => 1,
+        TickAt::Shut | TickAt::Raise | TickAt::Back => 9,
+    }
+}
+
+/// The same of PWM.
+fn pwm_need(at: PwmAt) -> u8
+    ensures { result ≡ pwm_need at }
+{
+    match at {
+        PwmAt::Run(Chop::Position) => 5,
+        PwmAt::Run(Chop::Duty(_)) => 4,
+        PwmAt::Run(Chop::Sector(_)) => 3,
+        PwmAt::Run(Chop::Write(_)) => 2,
+        PwmAt::Run(Chop::Lower) => 1,
+        PwmAt::Run(Chop::Raise | Chop::Over) | PwmAt::Shut | PwmAt::Back => 9,
     }
 }
 
@@ -127,8 +160,8 @@ impl Firmware for Core {
             Kind::Tick => self.tick_at = TickAt::Raise,
             Kind::Cap => self.cap_at = CapAt::Start,
             Kind::Cmp => self.cmp_at = BareAt::Back,
-            Kind::Pwm => self.pwm_at = BareAt::Back,
-            Kind::Comm => self.comm_at = BareAt::Back,
+            Kind::Pwm => self.pwm_at = PwmAt::Run(Chop::new()),
+            Kind::Comm => self.comm_at = CommAt::Decide,
         }
     }
 

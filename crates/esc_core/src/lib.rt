@@ -3,13 +3,19 @@
 
 mod background;
 mod cap;
+mod comm;
+mod drive;
+#[cfg(test)]
+mod drive_tests;
 mod firmware;
 mod orders;
 mod own;
+mod pwm;
 mod state;
 #[cfg(test)]
 mod tests;
 mod tick;
 
+pub use drive::Drive;
 pub use orders::Orders;
-pub use state::{BareAt, CapAt, Core, MainAt, TickAt};
+pub use state::{BareAt, CapAt, CommAt, Core, MainAt, PwmAt, TickAt};

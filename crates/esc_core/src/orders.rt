@@ -1,6 +1,6 @@
 ghost use Rattle.std.specs.Prelude.{◌≡◌};
 ghost use Rattle.dshot_commands.specs.Act.{IsInRange as IsAct};
-ghost use Rattle.esc_core.specs.Orders.{first_orders, obeyed};
+ghost use Rattle.esc_core.specs.Orders.{first_orders, obeyed, is_forward as turns_forward};
 
 use dshot_commands::Act;
 use settings_block::{Settings, apply};
@@ -29,6 +29,13 @@ impl Orders {
             extended: false,
             save_asked: false,
         }
+    }
+
+    /// Whether sectors go forward: the direction of the settings and the spin are equal.
+    pub fn is_forward(&self) -> bool
+        ensures { result ≡ turns_forward self.now }
+    {
+        self.settings.direction == self.spin
     }
 
     /// A command acts. A save that is asked for while one waits is joined with it.

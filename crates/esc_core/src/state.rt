@@ -1,8 +1,9 @@
 //! Where each open activation stands, and what the core keeps.
-use crate::Orders;
+use crate::{Drive, Orders};
 use arming::Control;
 use edge_capture::Burst;
 use esc_base::Mode;
+use gate_driver::{AllOff, Chop};
 use std::marker::Model;
 
 /// Where an open CAP stands. Each place is named by the step that comes next.
@@ -30,8 +31,44 @@ pub enum TickAt {
     Raise,
     /// Reads the control tick's number, and asks control.
     Read,
+    /// Turns all switches off.
+    Off(AllOff),
+    /// Sets the duty to 0.
+    DutyOff,
+    /// Disarms the drive's timers.
+    DriveOff,
+    /// Sets the duty to the demand; it may be the start of a drive.
+    DutyOn(bool),
+    /// Makes COMM due at once.
+    Start,
     /// Lowers the mask.
     Lower,
+    Back,
+}
+
+/// Where an open PWM stands.
+#[derive(Clone, Copy, Debug, PartialEq, Eq, Drop)]
+pub enum PwmAt {
+    Shut,
+    /// Makes a step of chopping.
+    Run(Chop),
+    Back,
+}
+
+/// Where an open COMM stands.
+#[derive(Clone, Copy, Debug, PartialEq, Eq, Drop)]
+pub enum CommAt {
+    Shut,
+    /// Decides between a sector change, for which it reads the sector, and a postponed low switch.
+    Decide,
+    /// Makes a step of the sector change.
+    Turn,
+    /// Turns the postponed low switch on.
+    Low,
+    /// Arms the commutation timer.
+    Arm,
+    /// Sets the stuck mark.
+    Stick,
     Back,
 }
 
@@ -59,8 +96,8 @@ pub struct Core {
     pub(crate) main_at: MainAt,
     pub(crate) uart_at: BareAt,
     pub(crate) cmp_at: BareAt,
-    pub(crate) pwm_at: BareAt,
-    pub(crate) comm_at: BareAt,
+    pub(crate) pwm_at: PwmAt,
+    pub(crate) comm_at: CommAt,
     /// For how many steps the mask can still stand.
     pub(crate) hold: u8,
     /// The mode of the newest window.
@@ -71,6 +108,7 @@ pub struct Core {
     pub(crate) paused: bool,
     pub(crate) control: Control,
     pub(crate) orders: Orders,
+    pub(crate) drive: Drive,
 }
 
 impl Model for Core {
@@ -79,7 +117,7 @@ impl Model for Core {
 
     ghost Value = { Brain };
 
-    ghost view = { λ c. record { cap_at = c.cap_at; tick_at = c.tick_at; main_at = c.main_at; uart_at = c.uart_at; cmp_at = c.cmp_at; pwm_at = c.pwm_at; comm_at = c.comm_at; hold = c.hold; window = c.window; burst = c.burst; paused = c.paused; control = c.control; orders = c.orders } };
+    ghost view = { λ c. record { cap_at = c.cap_at; tick_at = c.tick_at; main_at = c.main_at; uart_at = c.uart_at; cmp_at = c.cmp_at; pwm_at = c.pwm_at; comm_at = c.comm_at; hold = c.hold; window = c.window; burst = c.burst; paused = c.paused; control = c.control; orders = c.orders; drive = c.drive } };
 
     ghost invariant = { λ c. c.hold ≤ 8 };
 }

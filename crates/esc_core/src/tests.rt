@@ -11,7 +11,7 @@ use std::test::Fail;
 use timer_regs::{Reg, Regs};
 
 /// Makes a step for each row, and checks its first note.
-fn follow(
+pub(crate) fn follow(
     rt: &impl Abort,
     machine: &mut Machine<Core>,
     regs: &mut Regs,
@@ -53,7 +53,7 @@ fn a_control_tick(rt: HostRuntime) -> Result<(), Fail> {
     };
     follow(&rt, &mut machine, &mut regs, &mut flash, &[Some(number)]);
     assert!(rt; regs.masked());
-    follow(&rt, &mut machine, &mut regs, &mut flash, &[None]);
+    follow(&rt, &mut machine, &mut regs, &mut flash, &[None; 5]);
     assert!(rt; !regs.masked());
     follow(
         &rt,

@@ -6,8 +6,9 @@ use Rattle.std.proofs.lemmas.List.Elements.{All-nil, All-cons, All-push}
 use Rattle.esc_base.specs.declared.kind.Kind.{Kind}
 use Rattle.esc_base.specs.declared.kind.Kind.TheVariants as kind
 use Rattle.esc_base.specs.declared.note.Note.{Note}
+use Rattle.esc_base.specs.declared.note.Note.TheVariants as note
 use Rattle.esc_base.specs.Journal.{time_of}
-use Rattle.esc_base.specs.Numbers.{kind_number, mode_of}
+use Rattle.esc_base.specs.Numbers.{kind_number, mode_of, as_tick}
 use Rattle.esc_base.specs.Range.{InRange}
 use Rattle.esc_base.specs.Trace.{line}
 use Rattle.edge_capture.specs.Burst.{burst}
@@ -25,17 +26,45 @@ use Rattle.esc_laws.specs.Place.{place}
 use Rattle.esc_laws.specs.Seen.{sees}
 use Rattle.esc_laws.specs.Windowed.{verdict_note, Answers, WindowRule}
 use Rattle.esc_laws.specs.Nested.{IsAboveAll, NestRule}
-use Rattle.esc_laws.specs.Steps.{Turned, opening, journal, open_in, free, after, uses, own_steps, steps_since, entered_at, called, is_entry, StepFits, OpenFew}
+use Rattle.esc_laws.specs.Steps.{Turned, opening, load_number, journal, open_in, free, after, uses, own_steps, steps_since, entered_at, called, is_entry, StepFits, OpenFew}
 use Rattle.esc_laws.specs.Legal.{Legal}
+use Rattle.esc_laws.specs.Chopped.{disturbs}
 use Rattle.esc_laws.specs.Refused.{enters, leaves, nothing, ticks, entry, own, two_edges}
 use Rattle.esc_laws.specs.Allowed.{tick_and_verdict, SomeAreLegal}
 use Rattle.esc_laws.proofs.Notes.{Said, said_push}
 use Rattle.esc_laws.proofs.Start.{first_in_range, logged_start, start_said}
-use Rattle.esc_laws.proofs.Carried.{legal_logged}
+use Rattle.esc_laws.proofs.Carried.{legal_chopped}
+use Rattle.esc_laws.proofs.ChopFront.{chopped_none}
+
+-- no Q stands in them, and no step of COMM
+none_opening : (loaded : Loaded) → All (λ n. disturbs n ≡ false) (opening loaded)
+none_opening loaded = All-cons (λ n. disturbs n ≡ false) (note.Up (as_tick 0) (load_number loaded.fault)) (note.Window (as_tick 0) 0 ∷ []) refl
+    (All-cons (λ n. disturbs n ≡ false) (note.Window (as_tick 0) 0) [] refl (All-nil (λ n. disturbs n ≡ false)))
+
+none_one : (loaded : Loaded) → All (λ n. disturbs n ≡ false) (opening loaded ++ enters 2400 2 ∷ [])
+none_one loaded = All-push (λ n. disturbs n ≡ false) (opening loaded) (enters 2400 2) (none_opening loaded) refl
+
+none_all : (loaded : Loaded) → All (λ n. disturbs n ≡ false) (opening loaded ++ tick_and_verdict)
+none_all loaded =
+    let start : List Note = opening loaded ++ enters 2400 2 ∷ [] in
+    let k : List Note = start ++ ticks 2402 1 0 0 ∷ [] in
+    let o : List Note = k ++ leaves 2402 2 ∷ [] in
+    let i : List Note = o ++ enters 4200 3 ∷ [] in
+    let f : List Note = i ++ nothing 4202 ∷ [] in
+    let quiet : Note → Type 0 = λ n. disturbs n ≡ false in
+    All-push quiet f (leaves 4202 3)
+    (All-push quiet i (nothing 4202)
+    (All-push quiet o (enters 4200 3)
+    (All-push quiet k (leaves 2402 2)
+    (All-push quiet start (ticks 2402 1 0 0) (none_one loaded) refl)
+    refl)
+    refl)
+    refl)
+    refl
 
 no_time : (loaded : Loaded) (nest : Nest) (cost : ℕ) → Legal loaded nest cost [] 0 (opening loaded)
-no_time loaded nest cost = legal_logged loaded nest cost [] 0 _ _ [] [] 0 (omega arith) (All-nil (λ (e : Turned). e.tick < 0))
-    (first_in_range loaded.fault) (logged_start loaded nest cost)
+no_time loaded nest cost = legal_chopped loaded nest cost [] 0 _ _ [] [] 0 (omega arith) (All-nil (λ (e : Turned). e.tick < 0))
+    (first_in_range loaded.fault) (λ full. chopped_none cost [] 0 (opening loaded) (none_opening loaded)) (logged_start loaded nest cost)
 
 -- ---- the steps
 
@@ -266,7 +295,7 @@ above_none One k = All-nil (λ j. (kind_number j ≡ 0) × (0 < k))
 
 said_at : (loaded : Loaded) (nest : Nest) (t u : ℕ) (rest : List Note) → t ≤ u → Said loaded nest two_edges t rest → Said loaded nest two_edges u rest
 said_at loaded nest t u rest le s =
-    record { in_time = s.in_time; windowed = s.windowed; nested = s.nested; past = λ k d l. (let a = s.past k d l in omega arith) }
+    record { in_time = s.in_time; windowed = s.windowed; dead_safe = s.dead_safe; driven = s.driven; commutated = s.commutated; nested = s.nested; waits = s.waits; past = λ k d l. (let a = s.past k d l in omega arith) }
 
 sees_nothing : (allowed : InputKind) (servo : Servo) (t : ℕ)
     → nothing t ≡ verdict_note t (judged (mode_of 0) (burst (line two_edges).edges 0 (mode_of 0)) allowed servo)
@@ -282,7 +311,7 @@ answers loaded = record { closed_at = 4200; closes = refl; waits = omega arith; 
 rules_1 : (loaded : Loaded) (nest : Nest)
     → WindowRule loaded two_edges (opening loaded ++ ([])) (enters 2400 2) × NestRule nest (opening loaded ++ ([])) (enters 2400 2)
 unfolding place
-rules_1 loaded nest = (tt, (tt, above_none nest 2))
+rules_1 loaded nest = (tt, (tt, above_none nest 2, tt))
 
 rules_2 : (loaded : Loaded) (nest : Nest)
     → WindowRule loaded two_edges (opening loaded ++ (enters 2400 2 ∷ [])) (ticks 2402 1 0 0)
@@ -300,7 +329,7 @@ rules_4 : (loaded : Loaded) (nest : Nest)
     → WindowRule loaded two_edges (opening loaded ++ (enters 2400 2 ∷ ticks 2402 1 0 0 ∷ leaves 2402 2 ∷ [])) (enters 4200 3)
     × NestRule nest (opening loaded ++ (enters 2400 2 ∷ ticks 2402 1 0 0 ∷ leaves 2402 2 ∷ [])) (enters 4200 3)
 unfolding place
-rules_4 loaded nest = (tt, (tt, above_none nest 3))
+rules_4 loaded nest = (tt, (tt, above_none nest 3, tt))
 
 rules_5 : (loaded : Loaded) (nest : Nest)
     → WindowRule loaded two_edges (opening loaded ++ (enters 2400 2 ∷ ticks 2402 1 0 0 ∷ leaves 2402 2 ∷ enters 4200 3 ∷ [])) (nothing 4202)
@@ -316,22 +345,20 @@ rules_6 loaded nest = (λ e. refl, (refl, inl refl))
 
 one_said : (loaded : Loaded) (nest : Nest) → Said loaded nest two_edges 2400 (enters 2400 2 ∷ [])
 one_said loaded nest =
-    said_push loaded nest two_edges 2400 [] (enters 2400 2) (start_said loaded nest two_edges 2400) refl (rules_1 loaded nest).0 (rules_1 loaded nest).1
+    said_push loaded nest two_edges 2400 [] (enters 2400 2) (start_said loaded nest two_edges 2400) refl (record { window = (rules_1 loaded nest).0; safe = tt; driven = tt; turns = tt; nesting = (rules_1 loaded nest).1; waits = tt })
 
 all_said : (loaded : Loaded) (nest : Nest) → Said loaded nest two_edges 4202 tick_and_verdict
 all_said loaded nest =
     let s2 = said_push loaded nest two_edges 2402 (enters 2400 2 ∷ []) (ticks 2402 1 0 0)
-    (said_at loaded nest 2400 2402 (enters 2400 2 ∷ []) (omega arith) (one_said loaded nest)) refl (rules_2 loaded nest).0 (rules_2 loaded nest).1 in
-    let s3 = said_push loaded nest two_edges 2402 (enters 2400 2 ∷ ticks 2402 1 0 0 ∷ []) (leaves 2402 2) s2 refl (rules_3 loaded nest).0
-    (rules_3 loaded nest).1 in
+    (said_at loaded nest 2400 2402 (enters 2400 2 ∷ []) (omega arith) (one_said loaded nest)) refl (record { window = (rules_2 loaded nest).0; safe = tt; driven = tt; turns = tt; nesting = (rules_2 loaded nest).1; waits = tt }) in
+    let s3 = said_push loaded nest two_edges 2402 (enters 2400 2 ∷ ticks 2402 1 0 0 ∷ []) (leaves 2402 2) s2 refl (record { window = (rules_3 loaded nest).0; safe = tt; driven = λ e d. (refl, refl); turns = tt; nesting = (rules_3 loaded nest).1; waits = tt }) in
     let s4 = said_push loaded nest two_edges 4200 (enters 2400 2 ∷ ticks 2402 1 0 0 ∷ leaves 2402 2 ∷ []) (enters 4200 3)
-    (said_at loaded nest 2402 4200 (enters 2400 2 ∷ ticks 2402 1 0 0 ∷ leaves 2402 2 ∷ []) (omega arith) s3) refl (rules_4 loaded nest).0
-    (rules_4 loaded nest).1 in
+    (said_at loaded nest 2402 4200 (enters 2400 2 ∷ ticks 2402 1 0 0 ∷ leaves 2402 2 ∷ []) (omega arith) s3) refl (record { window = (rules_4 loaded nest).0; safe = tt; driven = tt; turns = tt; nesting = (rules_4 loaded nest).1; waits = tt }) in
     let s5 = said_push loaded nest two_edges 4202 (enters 2400 2 ∷ ticks 2402 1 0 0 ∷ leaves 2402 2 ∷ enters 4200 3 ∷ []) (nothing 4202)
     (said_at loaded nest 4200 4202 (enters 2400 2 ∷ ticks 2402 1 0 0 ∷ leaves 2402 2 ∷ enters 4200 3 ∷ []) (omega arith) s4) refl
-    (rules_5 loaded nest).0 (rules_5 loaded nest).1 in
+    (record { window = (rules_5 loaded nest).0; safe = tt; driven = tt; turns = tt; nesting = (rules_5 loaded nest).1; waits = tt }) in
     said_push loaded nest two_edges 4202 (enters 2400 2 ∷ ticks 2402 1 0 0 ∷ leaves 2402 2 ∷ enters 4200 3 ∷ nothing 4202 ∷ []) (leaves 4202 3) s5 refl
-    (rules_6 loaded nest).0 (rules_6 loaded nest).1
+    (record { window = (rules_6 loaded nest).0; safe = tt; driven = λ e. cc; turns = tt; nesting = (rules_6 loaded nest).1; waits = tt })
 
 one_controlled : (loaded : Loaded) → Controlled (opening loaded ++ enters 2400 2 ∷ [])
 one_controlled loaded =
@@ -401,6 +428,10 @@ tick_enters loaded nest =
       in_time = (one_said loaded nest).in_time;
       windowed = (one_said loaded nest).windowed;
       controlled = one_controlled loaded;
+      dead_safe = (one_said loaded nest).dead_safe;
+      driven = (one_said loaded nest).driven;
+      commutated = (one_said loaded nest).commutated;
+      chopped = λ full. chopped_none 2 two_edges 2401 (opening loaded ++ enters 2400 2 ∷ []) (none_one loaded);
       nested = (one_said loaded nest).nested;
       log = one;
       steps_are = refl;
@@ -420,6 +451,10 @@ window_judged loaded nest =
       in_time = (all_said loaded nest).in_time;
       windowed = (all_said loaded nest).windowed;
       controlled = all_controlled loaded;
+      dead_safe = (all_said loaded nest).dead_safe;
+      driven = (all_said loaded nest).driven;
+      commutated = (all_said loaded nest).commutated;
+      chopped = λ full. chopped_none 2 two_edges 4203 (opening loaded ++ tick_and_verdict) (none_all loaded);
       nested = (all_said loaded nest).nested;
       log = four;
       steps_are = refl;

@@ -46,16 +46,19 @@ use Rattle.esc_laws.specs.Place.{Signal, Listens, Judged, Rests}
 use Rattle.esc_laws.specs.Windowed.{verdict_note, Answers, AnswersAt, OpensAt}
 use Rattle.esc_laws.specs.Tied.{cap_view, IsClosing, IsCopying, IsJudged, SignalTied, TimerTied, WindowSound, MainTied}
 use Rattle.esc_laws.specs.World.{World, so_far, at_time, after_outside}
-use Rattle.esc_laws.specs.Rooms.{Ground, cap_seen, CapTie, StepKeeps}
+use Rattle.esc_core.specs.declared.state.CommAt.TheVariants as comm
+use Rattle.esc_laws.specs.Saves.{forward_at}
+use Rattle.esc_laws.proofs.DriveFacts.{comm_shut, redirected}
+use Rattle.esc_laws.specs.Rooms.{drive_seen, Ground, cap_seen, CapTie, StepKeeps}
 use Rattle.esc_laws.proofs.Pushes.{All-later}
 use Rattle.esc_laws.proofs.Facts.{cap_shut}
 use Rattle.esc_laws.proofs.Saves.{input_kept, servo_kept, acting_named, obeyed_tied, orders_other}
 use Rattle.esc_laws.proofs.CapTies.{start_tied, copy_goes, copy_tied, good_tied, opens_tied, pause_tied, back_tied, back_timer, timer_off, timer_grows, back_done, back_may}
-use Rattle.esc_laws.proofs.Lines.{plain_follows, edge_now, edge_bank, edge_follows, edge_sound, line_changes, line_same}
+use Rattle.esc_laws.proofs.Lines.{plain_follows, edge_now, edge_bank, edge_follows, rising_push, edge_sound, line_changes, line_same}
 use Rattle.esc_laws.proofs.Dues.{cap_called, cap_entered, signal_follows, time_follows}
 use Rattle.esc_laws.proofs.Rests.{set_now}
 use Rattle.esc_laws.proofs.Law.{HandlerLaw}
-use Rattle.esc_laws.proofs.RoomSteps.{ground_noted, inside, popped, if_true, if_false}
+use Rattle.esc_laws.proofs.RoomSteps.{quiet_gates, ground_noted, inside, popped, if_true, if_false}
 
 most_few : (m : Mode) (n : ℕ) → n ≤ most m → n ≤ 32
 most_few mode.Servo n le = omega arith
@@ -70,10 +73,10 @@ begins : (x : World) (outer : List Kind) (w m : ℕ) → Ground x → WindowSoun
     → IsClosing (cap_seen x) w m → (so_far x).stack ≡ kind.Cap ∷ outer
     → StepKeeps kind.Cap outer x (goes_on (record x.core { burst = []; cap_at = after_edges (read_value x.bank reg.CapState) }) (Reads reg.CapState))
 begins x outer w m g sound e k on = record {
-  gate = λ word moved. absurd (moved refl refl);
-  fits = tt;
+  gates = quiet_gates kind.Cap x _ (λ e. cc) refl refl refl;
+  fits = λ told. tt;
   ground = g;
-  tie = (start_tied x.trace x.core x.bank (so_far x) w m e (few x.bank sound) k, sound, rw e tt);
+  tie = λ told. (start_tied x.trace x.core x.bank (so_far x) w m e (few x.bank sound) k, sound, rw e tt);
   others = elim [ kind.Cap ↦ λ ne t. absurd (ne refl) | j ↦ λ ne t. t ];
   stack_is = on;
 }
@@ -85,10 +88,10 @@ copies : (v : Bool) (x : World) (outer : List Kind) (w m left : ℕ) → v ≡ t
     then record x.core { burst = x.core.burst ++ next_edge x.core x.bank ∷ []; cap_at = after_copy left }
     else record x.core { cap_at = cap.Back }) (Reads (reg.CapEdge (length x.core.burst))))
 copies true x outer w m left v g sound e k on = record {
-  gate = λ word moved. absurd (moved refl refl);
-  fits = tt;
+  gates = quiet_gates kind.Cap x _ (λ e. cc) refl refl refl;
+  fits = λ told. tt;
   ground = g;
-  tie = (copy_tied x.trace x.core x.bank (so_far x) w m left e sound g.small k, sound, rw e tt);
+  tie = λ told. (copy_tied x.trace x.core x.bank (so_far x) w m left e sound g.small k, sound, rw e tt);
   others = elim [ kind.Cap ↦ λ ne t. absurd (ne refl) | j ↦ λ ne t. t ];
   stack_is = on;
 }
@@ -101,11 +104,11 @@ open_window : (x : World) (outer : List Kind) (s : Signal) → Ground x → (so_
     → ((so_far x).verdicts ≡ 1) ⊎ (((so_far x).verdicts ≡ 0) × ((so_far x).windows ≡ 0)) → (so_far x).stack ≡ kind.Cap ∷ outer
     → StepKeeps kind.Cap outer x (opens x.core x.bank)
 open_window x outer s g e may none done on = record {
-  gate = λ word moved. absurd (moved refl refl);
-  fits = (record { at = refl; owned = refl; window = (rw e may, g.control.ties.mode_is); nest = inside (so_far x).stack kind.Cap outer on }, tt);
+  gates = quiet_gates kind.Cap x _ (λ e. cc) refl refl refl;
+  fits = λ told. (record { at = refl; owned = refl; window = (rw e may, g.control.ties.mode_is); nest = inside (so_far x).stack kind.Cap outer on; driven = tt; turns = tt; waits = tt }, tt);
   ground = ground_noted x (note.Window (as_tick x.bank.time) (mode_number x.core.control.mode)) refl refl tt refl g;
-  tie = (
-    opens_tied x.trace x.core x.bank (so_far x) g.edges none done,
+  tie = λ told. (
+    opens_tied x.trace x.core x.bank (so_far x) g.edges.0 none done,
     record { past = λ k d l. absurd (omega arith); order = λ a b le l. absurd (omega arith); few = omega arith },
     tt,
   );
@@ -117,13 +120,13 @@ pauses : (x : World) (outer : List Kind) (f at : ℕ) (opens_next : Bool) → Gr
     → (so_far x).signal ≡ Judged f opens_next → IsJudged (cap_seen x) → opens_next ≡ false → at ≡ f + least_pause
     → (so_far x).stack ≡ kind.Cap ∷ outer → StepKeeps kind.Cap outer x (cap_step (cap.Pause at) x.core x.bank)
 pauses x outer f at opens_next g sound e k shut is on = record {
-  gate = λ word moved. absurd (moved refl refl);
-  fits = tt;
+  gates = quiet_gates kind.Cap x _ (λ e. cc) refl refl refl;
+  fits = λ told. tt;
   ground = g;
-  tie = (
+  tie = λ told. (
     pause_tied x.trace x.core x.bank (so_far x) f at opens_next e k shut,
     sound,
-    rw (e, is) (set_now (line x.trace).edges f x.bank.time (rests_from x.bank.changed) g.edges g.rested),
+    rw (e, is) (set_now (line x.trace).edges f x.bank.time (rests_from x.bank.changed) g.edges.0 g.rested),
   );
   others = elim [ kind.Cap ↦ λ ne t. absurd (ne refl) | j ↦ λ ne t. t ];
   stack_is = on;
@@ -166,7 +169,7 @@ still_asked main.Work o a saves m = (obeyed_save o a m.0, m.1)
 good : (o : Option Act) (x : World) (outer : List Kind) (frame : Frame) (w m : ℕ) → Ground x → WindowSound x.bank.window x.bank.time
     → IsClosing (cap_seen x) w m
     → AnswersAt x.loaded x.trace (so_far x).signal (so_far x).cap_entered x.bank.time (verdict_note x.bank.time (Good frame))
-    → (so_far x).stack ≡ kind.Cap ∷ outer
+    → (so_far x).stack ≡ kind.Cap ∷ outer → x.core.comm_at ≡ comm.Shut
     → ((act : Act) → o ≡ Some act → act_of (number_of act) ≡ Some act)
     → Stands (after_frame x.core.control frame.value) (with_frame (as_tick x.bank.time) frame.value (bit_of frame.telemetry) o x.back)
     → StepKeeps kind.Cap outer x (record {
@@ -175,9 +178,9 @@ good : (o : Option Act) (x : World) (outer : List Kind) (frame : Frame) (w m : �
       notes = note.Good (as_tick x.bank.time) frame.value (bit_of frame.telemetry) ∷ command_note x.bank.time o;
       over = false;
     })
-good None x outer frame w m g sound k answers on named st = record {
-  gate = λ word moved. absurd (moved refl refl);
-  fits = (record { at = refl; owned = refl; window = answers; nest = inside (so_far x).stack kind.Cap outer on }, tt);
+good None x outer frame w m g sound k answers on shut named st = record {
+  gates = quiet_gates kind.Cap x _ (λ e. cc) refl refl refl;
+  fits = λ told. (record { at = refl; owned = refl; window = answers; nest = inside (so_far x).stack kind.Cap outer on; driven = tt; turns = tt; waits = tt }, tt);
   ground = record {
     control = st;
     orders = orders_other x.loaded x.core.orders (note.Good (as_tick x.bank.time) frame.value (bit_of frame.telemetry)) x.back refl g.orders;
@@ -186,16 +189,16 @@ good None x outer frame w m g sound k answers on named st = record {
     rested = g.rested;
     small = g.small;
   };
-  tie = (good_tied None frame x.trace x.core x.bank (so_far x) w m k, sound, tt);
+  tie = λ told. (good_tied None frame x.trace x.core x.bank (so_far x) w m k, sound, tt);
   others = elim [ kind.Cap ↦ λ ne t. absurd (ne refl) | j ↦ λ ne t. t ];
   stack_is = on;
 }
-good (Some act) x outer frame w m g sound k answers on named st =
+good (Some act) x outer frame w m g sound k answers on shut named st =
     let n : Note = note.Good (as_tick x.bank.time) frame.value (bit_of frame.telemetry) in
     let here = inside (so_far x).stack kind.Cap outer on in
     record {
-      gate = λ word moved. absurd (moved refl refl);
-      fits = (record { at = refl; owned = refl; window = answers; nest = here }, (record { at = refl; owned = refl; window = tt; nest = here }, tt));
+      gates = quiet_gates kind.Cap x _ (λ e. cc) refl refl refl;
+      fits = λ told. (record { at = refl; owned = refl; window = answers; nest = here; driven = tt; turns = tt; waits = tt }, (record { at = refl; owned = refl; window = tt; nest = here; driven = tt; turns = tt; waits = tt }, tt));
       ground = record {
         control = st;
         orders = obeyed_tied x.loaded x.core.orders act (as_tick x.bank.time) (n ∷ x.back) (named act refl)
@@ -205,10 +208,11 @@ good (Some act) x outer frame w m g sound k answers on named st =
         rested = g.rested;
         small = g.small;
       };
-      tie = (good_tied (Some act) frame x.trace x.core x.bank (so_far x) w m k, sound, tt);
+      tie = λ told. (good_tied (Some act) frame x.trace x.core x.bank (so_far x) w m k, sound, tt);
       others = elim [
         | kind.Cap ↦ λ ne t. absurd (ne refl)
         | kind.Main ↦ λ ne t. still_asked x.core.main_at x.core.orders (Some act) (so_far x).saves t
+        | kind.Comm ↦ λ ne t. redirected (drive_seen x) (forward_at x.loaded.settings (note.Command (as_tick x.bank.time) (number_of act) ∷ n ∷ x.back)) shut t
         | j ↦ λ ne t. t
       ];
       stack_is = on;
@@ -216,17 +220,17 @@ good (Some act) x outer frame w m g sound k answers on named st =
 
 judges : (j : Judgement) (x : World) (outer : List Kind) (w m : ℕ) → Ground x → WindowSound x.bank.window x.bank.time
     → IsClosing (cap_seen x) w m
-    → AnswersAt x.loaded x.trace (so_far x).signal (so_far x).cap_entered x.bank.time (verdict_note x.bank.time j) → (so_far x).stack ≡ kind.Cap ∷ outer
+    → AnswersAt x.loaded x.trace (so_far x).signal (so_far x).cap_entered x.bank.time (verdict_note x.bank.time j) → (so_far x).stack ≡ kind.Cap ∷ outer → x.core.comm_at ≡ comm.Shut
     → StepKeeps kind.Cap outer x (judge_step j x.core x.bank)
-judges (Good frame) x outer w m g sound k answers on =
-    good (act_in x.core frame) x outer frame w m g sound k answers on
+judges (Good frame) x outer w m g sound k answers on shut =
+    good (act_in x.core frame) x outer frame w m g sound k answers on shut
     (λ act e. acting_named (after_frame x.core.control frame.value).run.frames frame.value act e)
     (frame_stands x.core.control x.back (as_tick x.bank.time) frame.value (bit_of frame.telemetry) g.control)
-judges (Bad why) x outer w m g sound k answers on = record {
-  gate = λ word moved. absurd (moved refl refl);
-  fits = (record { at = refl; owned = refl; window = answers; nest = inside (so_far x).stack kind.Cap outer on }, tt);
+judges (Bad why) x outer w m g sound k answers on shut = record {
+  gates = quiet_gates kind.Cap x _ (λ e. cc) refl refl refl;
+  fits = λ told. (record { at = refl; owned = refl; window = answers; nest = inside (so_far x).stack kind.Cap outer on; driven = tt; turns = tt; waits = tt }, tt);
   ground = ground_noted x (note.Bad (as_tick x.bank.time) (why_number why)) refl refl tt refl g;
-  tie = (
+  tie = λ told. (
     (record { verdict = ap (λ (n : ℕ). n + 1) k.no_verdict; taken = k.taken; running = k.hears.running; no_timer = k.hears.no_timer }, (refl, refl)),
     sound,
     tt,
@@ -234,9 +238,9 @@ judges (Bad why) x outer w m g sound k answers on = record {
   others = elim [ kind.Cap ↦ λ ne t. absurd (ne refl) | j ↦ λ ne t. t ];
   stack_is = on;
 }
-judges (Found mode) x outer w m g sound k answers on = record {
-  gate = λ word moved. absurd (moved refl refl);
-  fits = (record { at = refl; owned = refl; window = answers; nest = inside (so_far x).stack kind.Cap outer on }, tt);
+judges (Found mode) x outer w m g sound k answers on shut = record {
+  gates = quiet_gates kind.Cap x _ (λ e. cc) refl refl refl;
+  fits = λ told. (record { at = refl; owned = refl; window = answers; nest = inside (so_far x).stack kind.Cap outer on; driven = tt; turns = tt; waits = tt }, tt);
   ground = record {
     control = found_stands x.core.control x.back (as_tick x.bank.time) mode g.control;
     orders = orders_other x.loaded x.core.orders (note.Detected (as_tick x.bank.time) (mode_number mode)) x.back refl g.orders;
@@ -245,15 +249,15 @@ judges (Found mode) x outer w m g sound k answers on = record {
     rested = g.rested;
     small = g.small;
   };
-  tie = ((record { verdict = ap (λ (n : ℕ). n + 1) k.no_verdict; taken = k.taken; running = k.hears.running; no_timer = k.hears.no_timer }, refl), sound, tt);
+  tie = λ told. ((record { verdict = ap (λ (n : ℕ). n + 1) k.no_verdict; taken = k.taken; running = k.hears.running; no_timer = k.hears.no_timer }, refl), sound, tt);
   others = elim [ kind.Cap ↦ λ ne t. absurd (ne refl) | j ↦ λ ne t. t ];
   stack_is = on;
 }
-judges Nothing x outer w m g sound k answers on = record {
-  gate = λ word moved. absurd (moved refl refl);
-  fits = (record { at = refl; owned = refl; window = answers; nest = inside (so_far x).stack kind.Cap outer on }, tt);
+judges Nothing x outer w m g sound k answers on shut = record {
+  gates = quiet_gates kind.Cap x _ (λ e. cc) refl refl refl;
+  fits = λ told. (record { at = refl; owned = refl; window = answers; nest = inside (so_far x).stack kind.Cap outer on; driven = tt; turns = tt; waits = tt }, tt);
   ground = ground_noted x (note.Nothing (as_tick x.bank.time)) refl refl tt refl g;
-  tie = (
+  tie = λ told. (
     (record { verdict = ap (λ (n : ℕ). n + 1) k.no_verdict; taken = k.taken; running = k.hears.running; no_timer = k.hears.no_timer }, (refl, refl)),
     sound,
     tt,
@@ -265,25 +269,28 @@ judges Nothing x outer w m g sound k answers on = record {
 -- ---- it returns
 
 returns : (x : World) (outer : List Kind) → Ground x → SignalTied (so_far x).signal cap.Back (cap_seen x)
-    → WindowSound x.bank.window x.bank.time → TimerTied (so_far x).signal cap.Back (line x.trace).edges x.cap_since x.bank.timer
-    → x.cap_since ≤ x.bank.time → (so_far x).stack ≡ kind.Cap ∷ outer
+    → WindowSound x.bank.window x.bank.time → TimerTied (so_far x).signal cap.Back (line x.trace).edges x.made.cap_past x.bank.timer
+    → x.made.cap_past ≤ x.bank.time → (so_far x).stack ≡ kind.Cap ∷ outer
     → StepKeeps kind.Cap outer x (cap_step cap.Back x.core x.bank)
 returns x outer g tied sound timer past on = record {
-  gate = λ word moved. absurd (moved refl refl);
-  fits = (
+  gates = quiet_gates kind.Cap x _ (λ e. cc) refl refl refl;
+  fits = λ told. (
     record {
       at = refl;
       owned = refl;
       window = λ e. back_may x.trace x.core x.bank (so_far x) (so_far x).signal tied;
       nest = (inside (so_far x).stack kind.Cap outer on, back_done x.trace x.core x.bank (so_far x) (so_far x).signal tied);
+      driven = λ e. cc;
+      turns = tt;
+      waits = tt;
     },
     tt,
   );
   ground = ground_noted x (note.Leave (as_tick x.bank.time) 3) refl refl tt refl g;
-  tie = (
+  tie = λ told. (
     back_tied x.trace x.core x.bank (so_far x) (so_far x).signal x.bank.time refl tied,
     sound,
-    back_timer (so_far x).signal (cap_seen x) (line x.trace).edges x.cap_since x.bank.time x.bank.timer tied past timer,
+    back_timer (so_far x).signal (cap_seen x) (line x.trace).edges x.made.cap_past x.bank.time x.bank.timer tied past timer,
   );
   others = elim [ kind.Cap ↦ λ ne t. absurd (ne refl) | j ↦ λ ne t. t ];
   stack_is = popped (so_far x).stack kind.Cap outer on;
@@ -296,37 +303,37 @@ answered : (x : World) (s : Signal) (w m t : ℕ) (n : Note) → s ≡ Listens w
 answered x s w m t n e a = rw e a
 
 steps : (s : Signal) (at : CapAt) (x : World) (outer : List Kind) → Ground x → WindowSound x.bank.window x.bank.time → (so_far x).signal ≡ s
-    → SignalTied s at (cap_seen x) → TimerTied s at (line x.trace).edges x.cap_since x.bank.timer → x.cap_since ≤ x.bank.time
-    → (so_far x).stack ≡ kind.Cap ∷ outer → 0 < cap_left at
+    → SignalTied s at (cap_seen x) → TimerTied s at (line x.trace).edges x.made.cap_past x.bank.timer → x.made.cap_past ≤ x.bank.time
+    → (so_far x).stack ≡ kind.Cap ∷ outer → x.core.comm_at ≡ comm.Shut → 0 < cap_left at
     → StepKeeps kind.Cap outer x (cap_step at x.core x.bank)
-steps s cap.Shut x outer g sound e k timer past on left = absurd (omega arith)
-steps s cap.Back x outer g sound e k timer past on left =
+steps s cap.Shut x outer g sound e k timer past on shut left = absurd (omega arith)
+steps s cap.Back x outer g sound e k timer past on shut left =
     returns x outer g (subst (λ (r : Signal). SignalTied r cap.Back (cap_seen x)) (sym e) k) sound
-    (subst (λ (r : Signal). TimerTied r cap.Back (line x.trace).edges x.cap_since x.bank.timer) (sym e) timer) past on
-steps (Listens w m) cap.Start x outer g sound e k timer past on left = if_false x.core.paused kind.Cap outer x _ _ k.hears.running
+    (subst (λ (r : Signal). TimerTied r cap.Back (line x.trace).edges x.made.cap_past x.bank.timer) (sym e) timer) past on
+steps (Listens w m) cap.Start x outer g sound e k timer past on shut left = if_false x.core.paused kind.Cap outer x _ _ k.hears.running
     (begins x outer w m g sound e k on)
-steps (Listens w m) (cap.Copy rest) x outer g sound e k timer past on left =
+steps (Listens w m) (cap.Copy rest) x outer g sound e k timer past on shut left =
     copies (takes x.core.burst (next_edge x.core x.bank)) x outer w m rest
     (copy_goes x.trace x.core x.bank (so_far x) w m rest (few x.bank sound) sound g.small k) g sound e k on
-steps (Listens w m) cap.Judge x outer g sound e k timer past on left =
+steps (Listens w m) cap.Judge x outer g sound e k timer past on shut left =
     judges (judged x.core.window x.core.burst x.core.orders.settings.input (servo_of x.core.orders.settings)) x outer w m g sound k.0
-    (answered x (so_far x).signal w m x.bank.time _ e (answers_is x w m g k.0 k.1)) on
-steps (Judged f opens_next) cap.Open x outer g sound e k timer past on left = open_window x outer (Judged f opens_next) g e k.1 k.0.no_timer
+    (answered x (so_far x).signal w m x.bank.time _ e (answers_is x w m g k.0 k.1)) on shut
+steps (Judged f opens_next) cap.Open x outer g sound e k timer past on shut left = open_window x outer (Judged f opens_next) g e k.1 k.0.no_timer
     (inl k.0.verdict) on
-steps (Judged f opens_next) (cap.Pause at) x outer g sound e k timer past on left = pauses x outer f at opens_next g sound e k.0 k.1.0 k.1.1 on
-steps (Rests f r) cap.Start x outer g sound e k timer past on left =
+steps (Judged f opens_next) (cap.Pause at) x outer g sound e k timer past on shut left = pauses x outer f at opens_next g sound e k.0 k.1.0 k.1.1 on
+steps (Rests f r) cap.Start x outer g sound e k timer past on shut left =
     if_true x.core.paused kind.Cap outer x _ _ k.paused (open_window x outer (Rests f r) g e
     (record { rested = k.rested; entered_before = k.entered }) k.no_timer (inr (k.no_verdict, k.no_window)) on)
-steps s at x outer g sound e k timer past on left = absurd k
+steps s at x outer g sound e k timer past on shut left = absurd k
 
 -- ---- it is called and entered
 
 shut_tie : (w : World) → CapTie w → cap_left w.core.cap_at ≡ 0 → SignalTied (so_far w).signal cap.Shut (cap_seen w)
 shut_tie w t none = subst (λ (at : CapAt). SignalTied (so_far w).signal at (cap_seen w)) (cap_shut w.core.cap_at none) t.0
 
-shut_timer : (w : World) → CapTie w → cap_left w.core.cap_at ≡ 0 → TimerTied (so_far w).signal cap.Shut (line w.trace).edges w.cap_since w.bank.timer
+shut_timer : (w : World) → CapTie w → cap_left w.core.cap_at ≡ 0 → TimerTied (so_far w).signal cap.Shut (line w.trace).edges w.made.cap_past w.bank.timer
 shut_timer w t none =
-    subst (λ (at : CapAt). TimerTied (so_far w).signal at (line w.trace).edges w.cap_since w.bank.timer) (cap_shut w.core.cap_at none) t.2
+    subst (λ (at : CapAt). TimerTied (so_far w).signal at (line w.trace).edges w.made.cap_past w.bank.timer) (cap_shut w.core.cap_at none) t.2
 
 -- ---- time goes on, and events come
 
@@ -355,12 +362,12 @@ edge : (v : Bool) (w : World) (level : Bool) → differ w.bank.level level ≡ v
 edge true w level d g t = (
   signal_follows (so_far w).signal w.core.cap_at (cap_seen w)
       (cap_view (w.trace ++ event.Edge (as_tick w.bank.time) level ∷ []) w.core (edge_bank w.bank level) (so_far w))
-      (edge_follows w.trace w.core w.bank (so_far w) level
+      (edge_follows w.trace w.core w.bank (so_far w) level (rising_push (line w.trace).edges (edge_now w.bank level) 0 g.edges.1 g.edges.0 (omega arith))
       (ap (λ (l : Line). l.edges) (line_changes w.trace w.bank level (subst (λ (l : Bool). differ l level ≡ true) g.level d)))) t.0,
   edge_sound w.bank.window (edge_now w.bank level) t.1,
-  subst (λ (edges : List Edge). TimerTied (so_far w).signal w.core.cap_at edges w.cap_since (put_off w.bank.timer w.bank.time))
+  subst (λ (edges : List Edge). TimerTied (so_far w).signal w.core.cap_at edges w.made.cap_past (put_off w.bank.timer w.bank.time))
       (sym (ap (λ (l : Line). l.edges) (line_changes w.trace w.bank level (subst (λ (l : Bool). differ l level ≡ true) g.level d))))
-      (timer_grows (so_far w).signal w.core.cap_at (line w.trace).edges (edge_now w.bank level) w.cap_since w.bank.timer g.edges t.2),
+      (timer_grows (so_far w).signal w.core.cap_at (line w.trace).edges (edge_now w.bank level) w.made.cap_past w.bank.timer g.edges.0 t.2),
 )
 edge false w level d g t =
     plain w (event.Edge (as_tick w.bank.time) level) (line_same w.trace w.bank level (subst (λ (l : Bool). differ l level ≡ false) g.level d)) (omega arith) t
@@ -382,18 +389,18 @@ outside w (event.Stall at n) is g t = plain w (event.Stall at n) (line-push w.tr
 
 pub cap_law : HandlerLaw kind.Cap
 cap_law = record {
-  called = λ w g t none s. cap_called w.core.orders.save_asked (so_far w).signal w.trace w.core w.bank (so_far w) w.cap_since (shut_tie w (t kind.Cap) none)
+  called = λ w g t told unheld none s. cap_called w.core.orders.save_asked (so_far w).signal w.trace w.core w.bank (so_far w) w.made.cap_past (shut_tie w (t kind.Cap) none)
       (shut_timer w (t kind.Cap) none) s;
-  built = λ w t due. tt;
-  entered = λ w g t none due. (
-    cap_entered w.core.orders.save_asked (so_far w).signal w.trace w.core w.bank (so_far w) w.cap_since refl (shut_tie w (t kind.Cap) none)
+  asked = λ w g t unheld due. (tt, tt);
+  entered = λ w g t unheld none due past. (
+    cap_entered w.core.orders.save_asked (so_far w).signal w.trace w.core w.bank (so_far w) w.made.cap_past refl (shut_tie w (t kind.Cap) none)
         (shut_timer w (t kind.Cap) none) due,
     (t kind.Cap).1,
-    timer_off (so_far w).signal (line w.trace).edges w.cap_since None,
+    timer_off (so_far w).signal (line w.trace).edges w.made.cap_past None,
   );
-  beside = λ w. elim [ kind.Cap ↦ λ ne t. absurd (ne refl) | j ↦ λ ne t. t ];
-  steps = λ w answers outer g t above past on left.
-      steps (so_far w).signal w.core.cap_at w outer g (t kind.Cap).1 refl (t kind.Cap).0 (t kind.Cap).2 past on left;
+  beside = λ w g t unheld none due past. elim [ kind.Cap ↦ λ ne. absurd (ne refl) | j ↦ λ ne. t j ];
+  steps = λ w answers outer g t above alone past on left.
+      steps (so_far w).signal w.core.cap_at w outer g (t kind.Cap).1 refl (t kind.Cap).0 (t kind.Cap).2 past.cap on (comm_shut w.core.comm_at w.core.drive.turn.at (above kind.Comm (omega arith))) left;
   later = λ w u from small g t. later w u from (t kind.Cap);
   outside = λ w e at g t. outside w e at g (t kind.Cap);
 }

@@ -233,15 +233,6 @@ good_tied None frame trace c b p w m i =
 good_tied (Some act) frame trace c b p w m i =
     (record { verdict = ap (λ (n : ℕ). n + 1) i.no_verdict; taken = i.taken; running = i.hears.running; no_timer = i.hears.no_timer }, refl)
 
-pub judged_tied : (j : Judgement) (trace : List Event) (c : Brain) (b : Bank) (p : Place) (w m : ℕ) → IsClosing (cap_view trace c b p) w m
-    → TiedAfter trace b p (judge_step j c b)
-judged_tied (Good frame) trace c b p w m i = good_tied (act_in c frame) frame trace c b p w m i
-judged_tied (Bad why) trace c b p w m i =
-    (record { verdict = ap (λ (n : ℕ). n + 1) i.no_verdict; taken = i.taken; running = i.hears.running; no_timer = i.hears.no_timer }, (refl, refl))
-judged_tied (Found mode) trace c b p w m i =
-    (record { verdict = ap (λ (n : ℕ). n + 1) i.no_verdict; taken = i.taken; running = i.hears.running; no_timer = i.hears.no_timer }, refl)
-judged_tied Nothing trace c b p w m i =
-    (record { verdict = ap (λ (n : ℕ). n + 1) i.no_verdict; taken = i.taken; running = i.hears.running; no_timer = i.hears.no_timer }, (refl, refl))
 
 -- it opens a window
 opened_hears : (trace : List Event) (c : Brain) (b : Bank) (p : Place) (m : Mode) → All (λ e. e.t.0 ≤ b.time) (line trace).edges → b.timer ≡ None

@@ -7,7 +7,7 @@ use Rattle.esc_base.specs.declared.kind.Kind.TheVariants as kind
 use Rattle.esc_base.specs.declared.event.Event.{Event}
 use Rattle.esc_base.specs.declared.note.Note.{Note}
 use Rattle.esc_base.specs.Flash.{Told}
-use Rattle.esc_base.specs.Journal.{IsLater, Journal}
+use Rattle.esc_base.specs.Journal.{Each, IsLater, Journal, time_of}
 use Rattle.esc_base.specs.Range.{InRange}
 use Rattle.esc_base.specs.Trace.{tick_of}
 use Rattle.settings_block.specs.declared.stored.Loaded.{Loaded}
@@ -16,6 +16,7 @@ use Rattle.timer_regs.specs.Effects.{advanced, after_entry, is_due}
 use Rattle.timer_regs.specs.NextDue.{IsNextDue, becomes_due}
 use Rattle.timer_regs.proofs.Advance.{advanced-now}
 use Rattle.interrupt_machine.specs.declared.nest.Nest.{Nest}
+use Rattle.interrupt_machine.specs.declared.nest.Nest.TheVariants.{Full}
 use Rattle.interrupt_machine.specs.declared.firmware.Did.{Did}
 use Rattle.interrupt_machine.specs.Open.{due_now, highest, is_idle, is_open, next_entry}
 use Rattle.interrupt_machine.specs.Turn.{own_notes, open_after}
@@ -28,24 +29,34 @@ use Rattle.esc_core.specs.Firmware.{new_core, entered_core, core_step}
 use Rattle.esc_core.specs.Stepped.{IsStepped}
 use Rattle.esc_core.proofs.Bounds.{core_step-goes}
 use Rattle.esc_laws.specs.Seen.{sees}
-use Rattle.esc_laws.specs.Steps.{Turned, opening, journal, notes_in, open_in, past_stall, free, after, steps_since, entered_at, EachStep, StepFits, Awaits, Below, OpenFew}
+use Rattle.esc_laws.specs.Steps.{Turned, stall_end, opening, journal, notes_in, open_in, past_stall, free, after, steps_since, entered_at, EachStep, StepFits, Awaits, Below, OpenFew}
+use Rattle.commutation.specs.Commutated.{Commutated, TurnRule}
+use Rattle.gate_driver.specs.DeadSafe.{DeadSafe, IsSafe}
 use Rattle.esc_laws.specs.Windowed.{WindowRule, Windowed}
+use Rattle.esc_laws.specs.Driven.{IsDriven, Driven}
+use Rattle.esc_laws.specs.Saves.{forward_at}
 use Rattle.esc_laws.specs.Nested.{NestRule, NestedAfter}
-use Rattle.esc_laws.specs.Tied.{Keeps}
+use Rattle.esc_laws.specs.Tied.{Keeps, WordTold}
 use Rattle.esc_laws.specs.Legal.{Legal, LegalFront}
-use Rattle.esc_laws.specs.Logged.{first_bank, stall_end, Logged, CoreTurn, turned}
-use Rattle.esc_laws.specs.World.{world, after_event, enters}
-use Rattle.esc_laws.specs.Rooms.{Ground, Tie}
+use Rattle.esc_laws.specs.Logged.{first_bank, Logged, CoreTurn, turned}
+use Rattle.esc_laws.specs.World.{Made, made, world, after_event, enters}
+use Rattle.esc_laws.specs.Rooms.{Past, Ground, Tie, TurnWaits}
+use Rattle.esc_laws.specs.Chopped.{Chopped}
+use Rattle.esc_laws.specs.ChopSteps.{ChopFits}
 use Rattle.esc_laws.proofs.Pushes.{All-later, journal-push, notes-push}
-use Rattle.esc_laws.proofs.Stalls.{past_later, past_more, past_ends, after_grows, uses_before, reached_grows, free_less, none_free}
+use Rattle.esc_laws.proofs.Stalls.{past_later as stall_later, past_more, past_ends, after_grows, uses_before, reached_grows, free_less, none_free}
 use Rattle.esc_laws.proofs.Growth.{sees_before}
 use Rattle.esc_laws.proofs.StepGrowth.{fits_grow}
 use Rattle.esc_laws.proofs.Laws.{law}
 use Rattle.esc_laws.proofs.Stages.{later_ground, event_ground, event_tie}
+use Rattle.esc_laws.proofs.Entries.{unheld_idle}
 use Rattle.esc_laws.proofs.OwnTurns.{steady, own_are}
 use Rattle.esc_laws.proofs.Stepping.{sees_due, entry_turn, own_turn, left_is, stepped_by}
 use Rattle.esc_laws.proofs.Start.{logged_start}
-use Rattle.esc_laws.proofs.Events.{keeps_later, marks_later, patient_later, event_time, patient_grows, marks_grow, keeps_grow}
+use Rattle.esc_laws.proofs.Notes.{all_front}
+use Rattle.esc_laws.proofs.ChopLegal.{chopped_log}
+use Rattle.esc_laws.proofs.ChopFront.{chopped_front}
+use Rattle.esc_laws.proofs.Events.{keeps_later, marks_later, patient_later, event_time, told_grows, patient_grows, marks_grow, keeps_grow}
 
 pub start_logged : (loaded : Loaded) (nest : Nest) (cost : ℕ) → Logged loaded nest cost [] 0 (new_core loaded.settings) first_bank [] []
 start_logged loaded nest cost = logged_start loaded nest cost
@@ -97,6 +108,7 @@ time_logged loaded nest cost trace next c b stack log t later le small l = recor
   keeps = keeps_later c b stack t l.keeps;
   sorted = l.sorted;
   marks = marks_later loaded nest trace b stack log t later l.marks;
+  gates = record { hi_is = l.gates.hi_is; lo_is = l.gates.lo_is; hi_free = l.gates.hi_free; lo_free = l.gates.lo_free };
   ground = later_ground (world loaded nest trace c b log) t later small l.ground;
   ties = λ k. (law k).later (world loaded nest trace c b log) t later small l.ground l.ties;
   patient = patient_later loaded nest trace c b stack log t later l.patient;
@@ -104,14 +116,18 @@ time_logged loaded nest cost trace next c b stack log t later le small l = recor
   reached = l.reached;
   reached_by = l.reached_by;
   fits = l.fits;
+  drives = l.drives;
   past = l.past;
-  cap_past = l.cap_past;
+  made_past = l.made_past;
   awaits = l.awaits;
   time = le;
   put_off = λ u from. l.put_off u (omega arith);
   stalls = l.stalls;
   at_next = l.at_next;
 }
+
+past_later : (m : Made) (t u : ℕ) → t ≤ u → Past m t → Past m u
+past_later m t u le p = record { cap = (let a = p.cap in omega arith); comm = (let a = p.comm in omega arith) }
 
 none_open : (stack : List Kind) (due : Kind → Bool) → is_idle stack due ≡ true → (stack ≡ []) × (highest due ≡ None)
 none_open [] due idle = (refl, none_of (highest due) idle)
@@ -138,10 +154,10 @@ none_before (Some d) b k t u is le from below = is.none_before k u from (let m =
 
 -- while nothing is due nothing is seen due
 none_seen : (loaded : Loaded) (nest : Nest) (trace : List Event) (c : Brain) (b : Bank) (log : List Turned) (t u : ℕ) (k : Kind)
-    → Keeps c b [] → Ground (world loaded nest trace c b log) → ((j : Kind) → Tie j (world loaded nest trace c b log))
+    → Keeps c b [] → Ground (world loaded nest trace c b log) → ((j : Kind) → Tie j (world loaded nest trace c b log)) → WordTold c b (reverse (journal loaded log))
     → highest (due_now c.orders.save_asked b) ≡ None → ((j : Kind) (v : ℕ) → b.time < v → v < t → becomes_due b j v ≡ false) → b.time ≤ u → u < t
     → t < 2147483648 → sees trace (journal loaded log) u k ≡ false
-none_seen loaded nest trace c b log t u k keeps g ties none quiet from below small = by_seen (sees trace (journal loaded log) u k) refl
+none_seen loaded nest trace c b log t u k keeps g ties told none quiet from below small = by_seen (sees trace (journal loaded log) u k) refl
   where
     shut_now : due_now c.orders.save_asked (advanced b u) k ≡ false
     shut_now = elim (cases_lt b.time u) [
@@ -156,7 +172,8 @@ none_seen loaded nest trace c b log t u k keeps g ties none quiet from below sma
         let d =
         sees_due loaded nest trace c (advanced b u) [] log (keeps_later c b [] u keeps)
         (later_ground (world loaded nest trace c b log) u from (omega arith) g)
-        (λ j. (law j).later (world loaded nest trace c b log) u from (omega arith) g ties) k (rw e refl) in
+        (λ j. (law j).later (world loaded nest trace c b log) u from (omega arith) g ties) (record { hi_is = told.hi_is; lo_is = told.lo_is; hi_free = told.hi_free; lo_free = told.lo_free })
+        (unheld_idle c b keeps) k (rw e refl) in
         absurd (let z : true ≡ false = sym d ∙ shut_now in cc)
     by_seen false e = e
 
@@ -172,6 +189,7 @@ quiet_logged loaded nest cost trace c b stack log t idle quiet later small l =
       keeps = keeps_later c b stack t l.keeps;
       sorted = l.sorted;
       marks = marks_later loaded nest trace b stack log t later l.marks;
+      gates = record { hi_is = l.gates.hi_is; lo_is = l.gates.lo_is; hi_free = l.gates.hi_free; lo_free = l.gates.lo_free };
       ground = later_ground (world loaded nest trace c b log) t later small l.ground;
       ties = λ k. (law k).later (world loaded nest trace c b log) t later small l.ground l.ties;
       patient = patient_later loaded nest trace c b stack log t later l.patient;
@@ -179,13 +197,14 @@ quiet_logged loaded nest cost trace c b stack log t idle quiet later small l =
       reached = l.reached;
       reached_by = l.reached_by;
       fits = l.fits;
+      drives = l.drives;
       past = (let p = l.past in omega arith);
-      cap_past = (let p = l.cap_past in omega arith);
+      made_past = past_later (made log) b.time t later l.made_past;
       awaits = record {
         open_step = λ o. absurd (o open_none);
         idle = λ o u from below f k. elim (cases_lt u b.time) [
           | inl early ↦ l.awaits.idle o u from early f k
-          | inr on ↦ none_seen loaded nest trace c b log t u k keeps l.ground l.ties rest.1 quiet on below small
+          | inr on ↦ none_seen loaded nest trace c b log t u k keeps l.ground l.ties l.gates rest.1 quiet on below small
         ];
       };
       time = omega arith;
@@ -211,7 +230,7 @@ module _ (loaded : Loaded) (nest : Nest) (cost : ℕ) (trace : List Event) (e : 
   next_is o = ap (λ (t : ℕ). past_stall t e) (l.at_next o) ∙ sym (after_grows cost trace e log)
 
   after_past : (u : ℕ) → after cost (trace ++ e ∷ []) log ≤ u → after cost trace log ≤ u
-  after_past u le = let g = after_grows cost trace e log in let p = past_later e (after cost trace log) in omega arith
+  after_past u le = let g = after_grows cost trace e log in let p = stall_later e (after cost trace log) in omega arith
 
   none_now : (u : ℕ) → b.time ≤ u → u < past_stall next e → after cost (trace ++ e ∷ []) log ≤ u → free (trace ++ e ∷ []) u ≢ u
   none_now u from soon past f = elim (cases_lt u next) [
@@ -233,11 +252,12 @@ module _ (loaded : Loaded) (nest : Nest) (cost : ℕ) (trace : List Event) (e : 
   pub event_logged : Logged loaded nest cost (trace ++ e ∷ []) (past_stall next e) c (after_event b e) stack log
   event_logged =
       let before : Below (tick_of e) log = rw at below in
-      let later : next ≤ past_stall next e = past_later e next in
+      let later : next ≤ past_stall next e = stall_later e next in
       record {
         keeps = keeps_grow e c b stack l.keeps;
         sorted = l.sorted;
         marks = marks_grow loaded nest trace e b stack log at l.marks;
+        gates = told_grows e c b (reverse (journal loaded log)) l.gates;
         ground = event_ground (world loaded nest trace c b log) e at l.ground;
         ties = λ k. event_tie k (world loaded nest trace c b log) e at l.ground l.ties;
         patient = patient_grows loaded nest trace e c b stack log at before l.patient;
@@ -246,8 +266,9 @@ module _ (loaded : Loaded) (nest : Nest) (cost : ℕ) (trace : List Event) (e : 
         reached_by = λ k o t b.
             rw (uses_before cost trace e (steps_since k log) (entered_at k log) (l.reached_by k o (tick_of e) before)) (l.reached_by k o t b);
         fits = fits_grow loaded nest cost trace e log before l.fits;
+        drives = l.drives;
         past = rw (after_grows cost trace e log) (past_more e (after cost trace log) next l.past);
-        cap_past = (let p = l.cap_past in omega arith);
+        made_past = past_later (made log) next (past_stall next e) later l.made_past;
         awaits = awaits_grow;
         time = (let t = l.time in let s = event_time b e in omega arith);
         put_off = λ u from. none_now u (let s = event_time b e in omega arith);
@@ -266,46 +287,80 @@ few_open loaded nest cost trace next c b stack log l k o =
     let a = l.owes k inside in let left = l.keeps.live k inside in
     omega arith
 
--- a journal whose steps stand below T, and which awaits none below it, is legal up to T
-pub legal_logged : (loaded : Loaded) (nest : Nest) (cost : ℕ) (trace : List Event) (next : ℕ) (c : Brain) (b : Bank) (stack : List Kind) (log : List Turned)
+-- a log that awaits no step below T
+awaited : (loaded : Loaded) (nest : Nest) (cost : ℕ) (trace : List Event) (next : ℕ) (c : Brain) (b : Bank) (stack : List Kind) (log : List Turned)
     (until : ℕ)
-    → until ≤ next → Below until log → All InRange (journal loaded log) → Logged loaded nest cost trace next c b stack log
-    → Legal loaded nest cost trace until (journal loaded log)
-legal_logged loaded nest cost trace next c b stack log until le below range l = record {
+    → until ≤ next → Logged loaded nest cost trace next c b stack log → Awaits loaded cost trace until log
+awaited loaded nest cost trace next c b stack log until le l = record {
+  open_step = λ o. (let n = l.at_next (λ s. o (sym l.marks.stack_is ∙ s)) in omega arith);
+  idle = λ o t from soon. l.awaits.idle o t from (omega arith);
+}
+
+-- a journal whose steps stand below T, and which awaits none below it, is legal up to T
+pub legal_chopped : (loaded : Loaded) (nest : Nest) (cost : ℕ) (trace : List Event) (next : ℕ) (c : Brain) (b : Bank) (stack : List Kind) (log : List Turned)
+    (until : ℕ)
+    → until ≤ next → Below until log → All InRange (journal loaded log) → (nest ≡ Full → Chopped cost trace until (journal loaded log))
+    → Logged loaded nest cost trace next c b stack log → Legal loaded nest cost trace until (journal loaded log)
+legal_chopped loaded nest cost trace next c b stack log until le below range chopped l = record {
   rest = notes_in log;
   begins = refl;
   in_range = range;
   in_time = l.marks.in_time;
   windowed = l.marks.windowed;
   controlled = in_order (journal loaded log) l.ground.control.controlled;
+  dead_safe = l.marks.dead_safe;
+  driven = l.marks.driven;
+  commutated = l.marks.commutated;
+  chopped = chopped;
   nested = l.marks.nested;
   log = log;
   steps_are = refl;
   fits = l.fits;
   below = below;
-  all_made = record {
-    open_step = λ o. (let n = l.at_next (λ s. o (sym l.marks.stack_is ∙ s)) in omega arith);
-    idle = λ o t from soon. l.awaits.idle o t from (omega arith);
-  };
+  all_made = awaited loaded nest cost trace next c b stack log until le l;
   open_few = few_open loaded nest cost trace next c b stack log l;
 }
+
+full_fits : (loaded : Loaded) (nest : Nest) (cost : ℕ) (trace : List Event) (log : List Turned) → nest ≡ Full
+    → EachStep (StepFits loaded nest cost trace) [] log → EachStep (StepFits loaded Full cost trace) [] log
+full_fits loaded nest cost trace log full fits = subst (λ (n : Nest). EachStep (StepFits loaded n cost trace) [] log) full fits
+
+pub legal_logged : (loaded : Loaded) (nest : Nest) (cost : ℕ) (trace : List Event) (next : ℕ) (c : Brain) (b : Bank) (stack : List Kind) (log : List Turned)
+    (until : ℕ)
+    → 1 ≤ cost → cost ≤ 16 → until ≤ next → Below until log → All InRange (journal loaded log) → Logged loaded nest cost trace next c b stack log
+    → Legal loaded nest cost trace until (journal loaded log)
+legal_logged loaded nest cost trace next c b stack log until some most le below range l =
+    legal_chopped loaded nest cost trace next c b stack log until le below range
+    (λ full. chopped_log loaded cost trace until log some most (full_fits loaded nest cost trace log full l.fits)
+    (awaited loaded nest cost trace next c b stack log until le l) l.drives l.marks.driven l.marks.waits range) l
 
 pub last_step : (P : List Turned → Turned → Type 0) (before log : List Turned) (e : Turned) → EachStep P before (log ++ e ∷ []) → P (before ++ log) e
 last_step P before [] e each = rw (append-nil before) each.0
 last_step P before (x ∷ log) e each = rw (← append_assoc before (x ∷ []) log) (last_step P (before ++ x ∷ []) log e each.1)
 
+front_steps : (P : List Turned → Turned → Type 0) (before log : List Turned) (e : Turned) → EachStep P before (log ++ e ∷ []) → EachStep P before log
+front_steps P before [] e each = tt
+front_steps P before (x ∷ log) e each = (each.0, front_steps P (before ++ x ∷ []) log e each.1)
+
 -- after a step whose notes were written in part
 pub front_logged : (loaded : Loaded) (nest : Nest) (cost : ℕ) (trace : List Event) (next : ℕ) (c : Brain) (b : Bank) (stack : List Kind) (log : List Turned)
     (broken : Turned) (front left_out : List Note)
-    → broken.notes ≡ front ++ left_out → Below broken.tick log → All InRange (journal loaded log ++ front) → OpenFew loaded log
+    → 1 ≤ cost → cost ≤ 16 → broken.notes ≡ front ++ left_out → Below broken.tick log → All InRange (journal loaded log ++ front) → OpenFew loaded log
     → Logged loaded nest cost trace next c b stack (log ++ broken ∷ [])
     → LegalFront loaded nest cost trace (journal loaded log ++ front)
-front_logged loaded nest cost trace next c b stack log broken front left_out split below range few l =
+front_logged loaded nest cost trace next c b stack log broken front left_out some most split below range few l =
     let whole : journal loaded (log ++ broken ∷ []) ≡ (journal loaded log ++ front) ++ left_out =
     journal-push loaded log broken ∙ ap (λ (ns : List Note). journal loaded log ++ ns) split ∙ sym (append_assoc (journal loaded log) front left_out) in
     let tail : notes_in (log ++ broken ∷ []) ≡ (notes_in log ++ front) ++ left_out =
     notes-push log broken ∙ ap (λ (ns : List Note). notes_in log ++ ns) split ∙ sym (append_assoc (notes_in log) front left_out) in
     let last = last_step (StepFits loaded nest cost trace) [] log broken l.fits in
+    let fits : EachStep (StepFits loaded nest cost trace) [] log = front_steps (StepFits loaded nest cost trace) [] log broken l.fits in
+    let made : Awaits loaded cost trace broken.tick log =
+    record { open_step = λ o. (let at = last.open_step o in omega arith); idle = λ o. last.idle o } in
+    let driven : Driven (journal loaded log ++ front) = each_front (λ before n. IsDriven (reverse before) n) [] (journal loaded log ++ front) left_out
+    (subst (λ (ns : List Note). Driven ns) whole l.marks.driven) in
+    let waits = each_front (λ before n. TurnWaits (reverse before) n) [] (journal loaded log ++ front) left_out
+    (subst (λ (ns : List Note). Each (λ before n. TurnWaits (reverse before) n) [] ns) whole l.marks.waits) in
     record {
       log = log;
       broken = broken;
@@ -319,13 +374,23 @@ front_logged loaded nest cost trace next c b stack log broken front left_out spl
           (subst (λ (ns : List Note). Windowed loaded trace ns) whole l.marks.windowed);
       controlled = each_front (λ before n. FitsControl (reverse before) n) [] (journal loaded log ++ front) left_out
           (subst (λ (ns : List Note). Controlled ns) whole (in_order (journal loaded (log ++ broken ∷ [])) l.ground.control.controlled));
+      dead_safe = each_front (λ before n. IsSafe (reverse before) n) [] (journal loaded log ++ front) left_out
+          (subst (λ (ns : List Note). DeadSafe ns) whole l.marks.dead_safe);
+      driven = driven;
+      commutated = each_front (λ before n. TurnRule loaded.settings.advance (forward_at loaded.settings) (reverse before) n) []
+          (journal loaded log ++ front) left_out
+          (subst (λ (ns : List Note). Commutated loaded.settings.advance (forward_at loaded.settings) ns) whole l.marks.commutated);
+      chopped = λ full. chopped_front loaded nest cost trace broken.tick log front below fits
+          (all_front (λ n. time_of n ≡ broken.tick) front left_out (subst (λ (ns : List Note). All (λ n. time_of n ≡ broken.tick) ns) split last.at_tick))
+          (chopped_log loaded cost trace broken.tick log some most (full_fits loaded nest cost trace log full fits) made
+          (front_steps (ChopFits loaded) [] log broken l.drives)
+          (each_front (λ before n. IsDriven (reverse before) n) [] (journal loaded log) front driven)
+          (each_front (λ before n. TurnWaits (reverse before) n) [] (journal loaded log) front waits)
+          (all_front InRange (journal loaded log) front range));
       nested = each_front (NestRule nest) (opening loaded) (notes_in log ++ front) left_out
           (subst (λ (ns : List Note). NestedAfter nest (opening loaded) ns) tail l.marks.nested);
       fits = l.fits;
       below = below;
-      all_made = record {
-        open_step = λ o. (let at = last.open_step o in omega arith);
-        idle = λ o. last.idle o;
-      };
+      all_made = made;
       open_few = few;
     }

@@ -1,5 +1,6 @@
 -- An entry: its note fits, the ties hold again, and the step fits the log.
 use Rattle.std.proofs.Common.{◌≡◌, ◌≢◌, ◌≤◌, ◌<◌, ℕ, Bool, true, false, not, ◌&&◌, ◌==◌, if◌then◌else◌, List, [], ◌∷◌, Some, None, refl, sym, ◌∙◌, arith, subst, inl, inr, lit≤, All}
+use Rattle.std.proofs.lemmas.Bool.{cases_lt}
 use Rattle.std.proofs.lemmas.Bool.Decides.{nat_tests}
 use Rattle.std.proofs.lemmas.List.Elements.{All-nil, All-cons}
 use Rattle.esc_base.specs.declared.kind.Kind.{Kind}
@@ -47,6 +48,10 @@ above_all One (i ∷ outer) k s a m =
     All-cons (λ j. (kind_number j ≡ 0) × (0 < kind_number k)) i outer main
     (rw (alone i outer main.0 s.0) (All-nil (λ j. (kind_number j ≡ 0) × (0 < kind_number k))))
 
+pub entry_above_kinds : (nest : Nest) (stack : List Kind) (due : Kind → Bool) (k : Kind) → IsStack stack → next_entry nest stack due ≡ Some k
+    → All (λ j. kind_number j < kind_number k) stack
+entry_above_kinds nest stack due k s e = less_all stack k s (entry_above nest stack due k e)
+
 entry_may : (nest : Nest) (stack : List Kind) (due : Kind → Bool) (k : Kind) → next_entry nest stack due ≡ Some k → may_enter nest (innermost stack) k ≡ true
 entry_may nest stack due k e =
     let same : enters_above nest (innermost stack) (Some k) ≡ Some k = rw (entry_highest nest stack due k e) at e in
@@ -59,6 +64,32 @@ entry_may nest stack due k e =
 pub entry_above_all : (nest : Nest) (stack : List Kind) (due : Kind → Bool) (k : Kind) → IsStack stack → next_entry nest stack due ≡ Some k
     → IsAboveAll nest stack (kind_number k)
 entry_above_all nest stack due k s e = above_all nest stack k s (entry_above nest stack due k e) (entry_may nest stack due k e)
+
+-- ---- which handlers stand under the mask
+
+-- while it is down none does
+pub unheld_down : (c : Brain) (b : Bank) (stack : List Kind) → Keeps c b stack → b.masked ≡ false → (j : Kind) → 8 < need_of c j
+unheld_down c b stack keeps down j = elim (cases_lt 8 (need_of c j)) [
+  | inl less ↦ less
+  | inr n ↦ absurd (let up = (keeps.masked j n).0 in let z : false ≡ true = sym down ∙ up in cc)
+]
+
+-- nor while none is open
+pub unheld_idle : (c : Brain) (b : Bank) → Keeps c b [] → (j : Kind) → 8 < need_of c j
+unheld_idle c b keeps j = elim (cases_lt 8 (need_of c j)) [
+  | inl less ↦ less
+  | inr n ↦ absurd (let inner : None ≡ Some j = (keeps.masked j n).1 in cc)
+]
+
+-- besides the innermost one none does
+pub holds_alone : (c : Brain) (b : Bank) (k : Kind) (outer : List Kind) → Keeps c b (k ∷ outer) → (j : Kind) → j ≢ k → 8 < need_of c j
+holds_alone c b k outer keeps j ne = elim (cases_lt 8 (need_of c j)) [
+  | inl less ↦ less
+  | inr n ↦ absurd (let inner : Some k ≡ Some j = (keeps.masked j n).1 in ne (same j k inner))
+]
+  where
+    same : (j k : Kind) → Some k ≡ Some j → j ≡ k
+    same j k e = cc
 
 -- ---- what holds between any two steps
 

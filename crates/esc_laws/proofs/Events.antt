@@ -17,7 +17,8 @@ use Rattle.interrupt_machine.proofs.Waiting.{grow_patient, same_patient}
 use Rattle.esc_core.specs.Brain.{Brain}
 use Rattle.esc_laws.specs.Seen.{sees}
 use Rattle.esc_laws.specs.Steps.{Turned, journal, called, Below}
-use Rattle.esc_laws.specs.Tied.{Keeps}
+use Rattle.esc_base.specs.declared.note.Note.{Note}
+use Rattle.esc_laws.specs.Tied.{Keeps, WordTold}
 use Rattle.esc_laws.specs.World.{after_event}
 use Rattle.esc_laws.specs.Logged.{Marks}
 use Rattle.esc_laws.proofs.Pushes.{All-later}
@@ -34,10 +35,13 @@ pub marks_later : (loaded : Loaded) (nest : Nest) (trace : List Event) (b : Bank
 marks_later loaded nest trace b stack log u le m = record {
   in_time = m.in_time;
   windowed = m.windowed;
+  dead_safe = m.dead_safe;
+  driven = m.driven;
+  commutated = m.commutated;
   nested = m.nested;
+  waits = m.waits;
   stack_is = m.stack_is;
   past = All-later time_of (journal loaded log) b.time u le m.past;
-  gates = m.gates;
 }
 
 pub patient_later : (loaded : Loaded) (nest : Nest) (trace : List Event) (c : Brain) (b : Bank) (stack : List Kind) (log : List Turned) (u : ℕ) → b.time ≤ u
@@ -93,11 +97,17 @@ pub marks_grow : (loaded : Loaded) (nest : Nest) (trace : List Event) (e : Event
 marks_grow loaded nest trace e b stack log at m = record {
   in_time = m.in_time;
   windowed = windowed_grows loaded trace e (journal loaded log) (All-later time_of (journal loaded log) b.time (tick_of e) (omega arith) m.past) m.windowed;
+  dead_safe = m.dead_safe;
+  driven = m.driven;
+  commutated = m.commutated;
   nested = m.nested;
+  waits = m.waits;
   stack_is = m.stack_is;
   past = All-later time_of (journal loaded log) b.time (after_event b e).time (let s = event_time b e in omega arith) m.past;
-  gates = (let same = same_regs b e in record { high = same.high ∙ m.gates.high; low = same.low ∙ m.gates.low });
 }
+
+pub told_grows : (e : Event) (c : Brain) (b : Bank) (back : List Note) → WordTold c b back → WordTold c (after_event b e) back
+told_grows e c b back t = let same : SameRegs b (after_event b e) = same_regs b e in rw (same.high, same.low) t
 
 pub keeps_grow : (e : Event) (c : Brain) (b : Bank) (stack : List Kind) → Keeps c b stack → Keeps c (after_event b e) stack
 keeps_grow e c b stack k =

@@ -26,15 +26,16 @@ use Rattle.esc_core.specs.Stepped.{IsStepped}
 use Rattle.esc_core.specs.Firmware.{core_step, core_asked, kind_step, kind_asked, counted_down}
 use Rattle.esc_core.proofs.Bounds.{core_step-goes, core_asked-goes, none_asked, one_asked}
 use Rattle.esc_laws.specs.Saves.{FlashFits, settings_at}
-use Rattle.esc_laws.specs.Steps.{Turned, journal, notes_in, past_own}
+use Rattle.esc_laws.specs.Steps.{Turned, journal, notes_in}
 use Rattle.esc_laws.specs.Tied.{MainTied}
-use Rattle.esc_laws.specs.World.{placed, all_notes}
+use Rattle.esc_laws.specs.World.{made as steps_made, placed, all_notes}
 use Rattle.esc_laws.specs.Logged.{Logged, CoreTurn}
 use Rattle.esc_laws.proofs.Notes.{all_front}
 use Rattle.esc_laws.specs.Saves.{is_save}
 use Rattle.esc_laws.proofs.Saves.{fits_pushes, fits_saved, fits_spoilt}
 use Rattle.esc_laws.proofs.Stages.{IsOwn, step_made}
 use Rattle.esc_laws.proofs.Turns.{stood}
+use Rattle.esc_laws.proofs.Entries.{holds_alone}
 use Rattle.esc_laws.proofs.OwnTurns.{steady, own_are}
 use Rattle.esc_laws.proofs.Stepping.{stepped_by}
 
@@ -135,10 +136,10 @@ flashes loaded nest cost trace c c' b b' first flash flash' stack stack' log not
         let did' : DeviceDid (kind_asked k c made.answers) made.answers flash flash' = rw (core_asked-goes k c b made.answers goes) at made.flash_is in
         rw (are ∙ own_are k b b' (stepped_by k made.answers c b) did c' i)
         (kind_flash k made.answers loaded first flash flash' c b (journal loaded log) (l.ties kind.Main) l.ground.orders.settings_are
-        (step_made k made.answers loaded nest trace c b (past_own kind.Cap log) (notes_in log) outer
+        (step_made k made.answers loaded nest trace c b (steps_made log) (notes_in log) outer
         (stood loaded nest cost trace b.time c b (k ∷ outer) log l')
-        l'.cap_past
-        (λ j above. l'.keeps.shut j (closed_above (k ∷ outer) j l'.sorted above)) (l'.keeps.live k (self_open k outer))).1
+        l'.made_past
+        (λ j above. l'.keeps.shut j (closed_above (k ∷ outer) j l'.sorted above)) (holds_alone c b k outer l'.keeps) (l'.keeps.live k (self_open k outer))).1
         whole whole' did')
 
 -- ---- what is left of the flash

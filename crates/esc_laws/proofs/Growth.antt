@@ -1,5 +1,5 @@
 -- Later events change nothing of what the notes and the steps before them said.
-use Rattle.std.proofs.Common.{◌≡◌, ◌≤◌, ◌<◌, ◌+◌, ℕ, Bool, true, false, not, ◌&&◌, ◌==◌, nat_le, nat_lt, max, if◌then◌else◌, List, [], ◌∷◌, ◌++◌, length, Some, None, refl, sym, ◌∙◌, ap, arith, All, ◌-◌, length-append, true≢false}
+use Rattle.std.proofs.Common.{◌≡◌, ◌≤◌, ◌<◌, ◌+◌, ℕ, Bool, true, false, not, ◌&&◌, ◌==◌, nat_le, nat_lt, max, if◌then◌else◌, List, [], ◌∷◌, ◌++◌, length, Some, None, refl, sym, ◌∙◌, ap, arith, All, ◌-◌, length-append, true≢false, inl, inr}
 use Rattle.std.proofs.lemmas.Bool.{not-true, and_parts, false_from_ne_true}
 use Rattle.std.proofs.lemmas.List.Elements.{All-head, All-tail}
 use Rattle.std.proofs.lemmas.List.{get_or_push}
@@ -19,7 +19,7 @@ use Rattle.esc_base.specs.Numbers.{mode_of}
 use Rattle.esc_base.specs.Times.{is_reached, least_pause, most_pause}
 use Rattle.edge_capture.specs.Edges.{last_at, blank}
 use Rattle.edge_capture.specs.Burst.{burst, close, close_of, hears, is_closed, wait}
-use Rattle.edge_capture.proofs.Stable.{burst-push, closed_later}
+use Rattle.edge_capture.proofs.Stable.{ListensOrNot, burst_more, closed_later}
 use Rattle.edge_capture.proofs.Grows.{burst_grows}
 use Rattle.settings_block.specs.declared.stored.Loaded.{Loaded}
 use Rattle.esc_laws.specs.Place.{Signal, Silent, Listens, Judged, Rests, place}
@@ -139,22 +139,15 @@ heard_before true m w heard x t h lt =
     open_before m heard x t lt ∙ sym (false_from_ne_true (is_closed m heard t) (λ c. true≢false (sym (closed_later m heard t x.t.0 (omega arith) c) ∙ shut)))
 heard_before false m w heard x t h lt = refl
 
-heard_at : (v : Bool) (m : Mode) (w : ℕ) (heard : List Edge) (x : Edge) (t : ℕ) → hears m w heard x ≡ v → t ≤ x.t.0 → is_closed m heard t ≡ true
-    → is_closed m (if v then heard ++ x ∷ [] else heard) t ≡ true
-heard_at true m w heard x t h le c =
-    let shut : is_closed m heard x.t.0 ≡ false = heard_open m w heard x h in
-    let open_too = closed_later m heard t x.t.0 le c in (let z = sym open_too ∙ shut in cc)
-heard_at false m w heard x t h le c = c
+more_before : (m : Mode) (w : ℕ) (heard more : List Edge) (x : Edge) (t : ℕ) → t < x.t.0 → ListensOrNot m w heard more x
+    → is_closed m more t ≡ is_closed m heard t
+more_before m w heard more x t lt (inl same) = rw same refl
+more_before m w heard more x t lt (inr hears) = rw hears.1 (heard_before true m w heard x t hears.0 lt)
 
 edge_before : (v : Bool) (edges : List Edge) (x : Edge) (w t : ℕ) (m : Mode) → t < x.t.0
     → is_closed m (burst (if v then edges ++ x ∷ [] else edges) w m) t ≡ is_closed m (burst edges w m) t
-edge_before true edges x w t m lt = rw (burst-push edges x w m) (heard_before (hears m w (burst edges w m) x) m w (burst edges w m) x t refl lt)
+edge_before true edges x w t m lt = more_before m w (burst edges w m) (burst (edges ++ x ∷ []) w m) x t lt (burst_more edges x w m)
 edge_before false edges x w t m lt = refl
-
-edge_at_close : (v : Bool) (edges : List Edge) (x : Edge) (w t : ℕ) (m : Mode) → t ≤ x.t.0 → is_closed m (burst edges w m) t ≡ true
-    → is_closed m (burst (if v then edges ++ x ∷ [] else edges) w m) t ≡ true
-edge_at_close true edges x w t m le c = rw (burst-push edges x w m) (heard_at (hears m w (burst edges w m) x) m w (burst edges w m) x t refl le c)
-edge_at_close false edges x w t m le c = c
 
 -- before a later event the window is closed exactly where it was
 closed_before : (trace : List Event) (e : Event) (w t : ℕ) (m : Mode) → t < tick_of e
@@ -164,14 +157,6 @@ closed_before trace (event.Edge at level) w t m lt =
 closed_before trace (event.Comp at level) w t m lt = rw (line-push trace (event.Comp at level)) refl
 closed_before trace (event.Serial at byte) w t m lt = rw (line-push trace (event.Serial at byte)) refl
 closed_before trace (event.Stall at n) w t m lt = rw (line-push trace (event.Stall at n)) refl
-
-closed_still : (trace : List Event) (e : Event) (w t : ℕ) (m : Mode) → t ≤ tick_of e → is_closed m (burst (line trace).edges w m) t ≡ true
-    → is_closed m (burst (line (trace ++ e ∷ [])).edges w m) t ≡ true
-closed_still trace (event.Edge at level) w t m le c = rw (line-push trace (event.Edge at level))
-    (edge_at_close (differ (line trace).level level) (line trace).edges (record { t = at; level = level }) w t m le c)
-closed_still trace (event.Comp at level) w t m le c = rw (line-push trace (event.Comp at level)) c
-closed_still trace (event.Serial at byte) w t m le c = rw (line-push trace (event.Serial at byte)) c
-closed_still trace (event.Stall at n) w t m le c = rw (line-push trace (event.Stall at n)) c
 
 rest_before : (trace : List Event) (e : Event) (from t : ℕ) → t < tick_of e
     → nat_le (first_rested (line (trace ++ e ∷ [])).edges from) t ≡ nat_le (first_rested (line trace).edges from) t

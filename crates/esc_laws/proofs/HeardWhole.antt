@@ -1,6 +1,5 @@
 -- A whole signal that begins on a line at rest is heard from its first edge.
 use Rattle.std.proofs.Common.{◌≡◌, ◌≤◌, ◌<◌, ◌+◌, ℕ, Bool, true, false, not, ◌&&◌, ◌==◌, nat_le, nat_lt, if◌then◌else◌, List, [], ◌∷◌, ◌++◌, length, Some, None, refl, sym, ◌∙◌, ap, subst, arith, All, append-nil, append_assoc, length-append}
-use Rattle.std.specs.List.{fold}
 use Rattle.std.proofs.lemmas.Bool.Decides.{nat_tests}
 use Rattle.std.proofs.lemmas.List.Elements.{All-head, All-tail}
 use Rattle.esc_base.specs.declared.event.Event.{Event}
@@ -11,10 +10,10 @@ use Rattle.esc_base.specs.declared.signal.Mode.{Mode}
 use Rattle.esc_base.specs.Journal.{time_of}
 use Rattle.esc_base.specs.Numbers.{mode_of}
 use Rattle.esc_base.specs.Trace.{line}
-use Rattle.edge_capture.specs.Burst.{burst, close_of, comes_early, hear, hears, is_closed, wait}
+use Rattle.edge_capture.specs.Burst.{burst, until_deaf, is_left_out, comes_early, hears, is_closed, wait}
 use Rattle.edge_capture.specs.Edges.{last_at}
 use Rattle.edge_capture.specs.Modes.{numbers, most, limit}
-use Rattle.edge_capture.proofs.Stable.{deaf, burst-push, burst_before, burst_later}
+use Rattle.edge_capture.proofs.Stable.{deaf, early, passed_over}
 use Rattle.settings_block.specs.declared.stored.Loaded.{Loaded}
 use Rattle.arming.proofs.InOrder.{each_at}
 use Rattle.input_detect.specs.Judge.{judged}
@@ -40,15 +39,16 @@ hears_on : (m : Mode) (w : ℕ) (heard : List Edge) (e : Edge) → 1 ≤ length 
 hears_on m w heard e some few on soon =
     hears_next (length heard) (last_at heard) (most m) (limit m heard) w e.t.0 (comes_early m heard e) some few on soon (not_early (length heard) _ some)
 
-heard_on : (m : Mode) (w : ℕ) (heard edges : List Edge) → 1 ≤ length heard → w < last_at heard → length heard + length edges ≤ most m → KeepsOn m heard edges
-    → fold (hear m w) heard edges ≡ heard ++ edges
-heard_on m w heard [] some on few keeps = sym (append-nil heard)
-heard_on m w heard (e ∷ edges) some on few keeps =
+heard_on : (m : Mode) (w : ℕ) (heard edges later : List Edge) → 1 ≤ length heard → w < last_at heard → length heard + length edges ≤ most m
+    → KeepsOn m heard edges → until_deaf m w heard (edges ++ later) ≡ until_deaf m w (heard ++ edges) later
+heard_on m w heard [] later some on few keeps = ap (λ (h : List Edge). until_deaf m w h later) (sym (append-nil heard))
+heard_on m w heard (e ∷ edges) later some on few keeps =
     let order : last_at heard ≤ e.t.0 = keeps.0 in
     let h : hears m w heard e ≡ true = hears_on m w heard e some (omega arith) (omega arith) keeps.1 in
     let len = length-append heard (e ∷ []) in
     rw h
-    (heard_on m w (heard ++ e ∷ []) edges (omega arith) (rw (last_at-push heard e) (omega arith)) (omega arith) keeps.2 ∙ append_assoc heard (e ∷ []) edges)
+    (heard_on m w (heard ++ e ∷ []) edges later (omega arith) (rw (last_at-push heard e) (omega arith)) (omega arith) keeps.2
+    ∙ ap (λ (h : List Edge). until_deaf m w h later) (append_assoc heard (e ∷ []) edges))
 
 -- the first one
 hears_first : (m : Mode) (w : ℕ) (e : Edge) → w < e.t.0 → ((numbers m).falling_first ≡ false → e.level ≡ true) → hears m w [] e ≡ true
@@ -63,36 +63,41 @@ hears_first m w e on rises = first_by (numbers m).falling_first e.level w e.t.0 
 -- ---- over the whole line
 
 deaf_all : (m : Mode) (w : ℕ) (heard edges : List Edge) → 1 ≤ length heard → All (λ e. last_at heard + wait m heard ≤ e.t.0) edges
-    → fold (hear m w) heard edges ≡ heard
+    → until_deaf m w heard edges ≡ heard
 deaf_all m w heard [] some a = refl
 deaf_all m w heard (e ∷ edges) some a =
     let shut : is_closed m heard e.t.0 ≡ true = closed_from (length heard) (last_at heard + wait m heard) e.t.0 some
     (All-head (λ x. last_at heard + wait m heard ≤ x.t.0) e edges a) in
-    rw (deaf m w heard e shut) (deaf_all m w heard edges some (All-tail (λ x. last_at heard + wait m heard ≤ x.t.0) e edges a))
+    rw (deaf m w heard e shut)
+    (by (is_left_out m w heard e) (deaf_all m w heard edges some (All-tail (λ x. last_at heard + wait m heard ≤ x.t.0) e edges a)))
   where
     closed_from : (n l t : ℕ) → 1 ≤ n → l ≤ t → (not (n == 0) && nat_le l t) ≡ true
     closed_from n l t some le = grind (arith, nat_tests)
 
-fold_both : (m : Mode) (w : ℕ) (heard front back : List Edge) → fold (hear m w) heard (front ++ back) ≡ fold (hear m w) (fold (hear m w) heard front) back
-fold_both m w heard [] back = refl
-fold_both m w heard (e ∷ front) back = fold_both m w (hear m w heard e) front back
+    by : {A : Type 0} {x y : A} (v : Bool) → x ≡ y → (if v then x else y) ≡ y
+    by true e = e
+    by false e = refl
 
-burst-fold : (edges : List Edge) (w : ℕ) (m : Mode) → burst edges w m ≡ fold (hear m w) [] edges
+-- the edges up to the opening are passed over
+passed : (m : Mode) (w : ℕ) (earlier rest : List Edge) → All (λ e. e.t.0 ≤ w) earlier → until_deaf m w [] (earlier ++ rest) ≡ until_deaf m w [] rest
+passed m w [] rest a = refl
+passed m w (e ∷ earlier) rest a =
+    let le : e.t.0 ≤ w = All-head (λ e. e.t.0 ≤ w) e earlier a in
+    rw (early w e.t.0 (not (is_closed m [] e.t.0)) (not (comes_early m [] e)) le, passed_over w e.t.0 (comes_early m [] e) le)
+    (passed m w earlier rest (All-tail (λ e. e.t.0 ≤ w) e earlier a))
+
+burst_is : (edges : List Edge) (w : ℕ) (m : Mode) → burst edges w m ≡ until_deaf m w [] edges
 unfolding burst
-burst-fold edges w m = refl
+burst_is edges w m = refl
 
 pub alone_heard : (edges : List Edge) (w : ℕ) (m : Mode) (first : Edge) (rest : List Edge) → StandsAlone edges w m first rest → burst edges w m ≡ first ∷ rest
 alone_heard edges w m first rest a =
-    let before : fold (hear m w) [] a.earlier ≡ [] = sym (burst-fold a.earlier w m) ∙ burst_before a.earlier w m a.at_rest in
-    let begins : hear m w [] first ≡ first ∷ [] = rw (hears_first m w first a.begins a.rises) refl in
-    burst-fold edges w m
-    ∙ ap (λ (es : List Edge). fold (hear m w) [] es) a.edges_are
-    ∙ fold_both m w [] a.earlier (first ∷ rest ++ a.later)
-    ∙ ap (λ (heard : List Edge). fold (hear m w) heard (first ∷ rest ++ a.later)) before
-    ∙ ap (λ (heard : List Edge). fold (hear m w) heard (rest ++ a.later)) begins
-    ∙ fold_both m w (first ∷ []) rest a.later
-    ∙ ap (λ (heard : List Edge). fold (hear m w) heard a.later) (heard_on m w (first ∷ []) rest (omega arith) a.begins
-    (let f = a.few in omega arith) a.keeps_on)
+    let begins : until_deaf m w [] (first ∷ rest ++ a.later) ≡ until_deaf m w (first ∷ []) (rest ++ a.later) = rw (hears_first m w first a.begins a.rises) refl in
+    burst_is edges w m
+    ∙ ap (λ (es : List Edge). until_deaf m w [] es) a.edges_are
+    ∙ passed m w a.earlier (first ∷ rest ++ a.later) a.at_rest
+    ∙ begins
+    ∙ heard_on m w (first ∷ []) rest a.later (omega arith) a.begins (let f = a.few in omega arith) a.keeps_on
     ∙ deaf_all m w (first ∷ rest) a.later (omega arith) a.ends
 
 -- ---- the F that answers

@@ -3,7 +3,7 @@ use Rattle.std.proofs.Common.{◌≡◌, ◌≤◌, ◌<◌, ◌+◌, ◌-◌, �
 use Rattle.std.proofs.lemmas.Bool.{and_parts, and_right, cases_lt}
 use Rattle.std.proofs.lemmas.Bool.Decides.{nat_tests}
 use Rattle.std.proofs.lemmas.List.{get_or_push, get_or_append_left}
-use Rattle.std.proofs.lemmas.List.Elements.{All-push}
+use Rattle.std.proofs.lemmas.List.Elements.{All-push, All-head, All-tail}
 use Rattle.esc_base.specs.declared.signal.Edge.{Edge}
 use Rattle.esc_base.specs.declared.signal.Mode.{Mode}
 use Rattle.esc_base.specs.declared.signal.Mode.TheVariants as mode
@@ -12,11 +12,12 @@ use Rattle.esc_base.specs.declared.event.Event.TheVariants as event
 use Rattle.esc_base.specs.Trace.{line, differ, tick_of}
 use Rattle.esc_base.proofs.TraceLaws.{line-push}
 use Rattle.esc_base.specs.Numbers.{mode_of, as_tick}
-use Rattle.edge_capture.specs.Edges.{blank, edge_at, last_at, IsInOrder}
+use Rattle.edge_capture.specs.Edges.{blank, edge_at, last_at, IsInOrder, Rising}
 use Rattle.edge_capture.specs.Modes.{most}
-use Rattle.edge_capture.specs.Burst.{burst, hear, hears, is_closed}
+use Rattle.edge_capture.specs.Burst.{burst, hears, is_closed}
 use Rattle.edge_capture.specs.Window.{Window, after_edge, window_closed, window_hears}
-use Rattle.edge_capture.proofs.Stable.{burst-push, deaf}
+use Rattle.edge_capture.proofs.Stable.{hear, deaf}
+use Rattle.edge_capture.proofs.Told.{burst-push}
 use Rattle.timer_regs.specs.Bank.{Bank}
 use Rattle.timer_regs.specs.Rest.{put_off}
 use Rattle.esc_core.specs.Brain.{Brain}
@@ -94,10 +95,15 @@ off_stays : (timer : Option ℕ) (t : ℕ) → timer ≡ None → put_off timer 
 off_stays None t e = refl
 off_stays (Some at) t e = absurd (let z = e in cc)
 
-pub edge_follows : (trace : List Event) (c : Brain) (b : Bank) (p : Place) (level : Bool)
+pub rising_push : (edges : List Edge) (x : Edge) (t : ℕ) → Rising t edges → All (λ e. e.t.0 ≤ x.t.0) edges → t ≤ x.t.0 → Rising t (edges ++ x ∷ [])
+rising_push [] x t r a le = (le, tt)
+rising_push (e ∷ edges) x t r a le =
+    (r.0, rising_push edges x e.t.0 r.1 (All-tail (λ y. y.t.0 ≤ x.t.0) e edges a) (All-head (λ y. y.t.0 ≤ x.t.0) e edges a))
+
+pub edge_follows : (trace : List Event) (c : Brain) (b : Bank) (p : Place) (level : Bool) → Rising 0 ((line trace).edges ++ edge_now b level ∷ [])
     → (line (trace ++ event.Edge (as_tick b.time) level ∷ [])).edges ≡ (line trace).edges ++ edge_now b level ∷ []
     → Follows (cap_view trace c b p) (cap_view (trace ++ event.Edge (as_tick b.time) level ∷ []) c (edge_bank b level) p)
-edge_follows trace c b p level more =
+edge_follows trace c b p level rising more =
     let same = edge_same (window_hears b.window (edge_now b level)) b.window (edge_now b level) in
     record {
       later = omega arith;
@@ -113,7 +119,7 @@ edge_follows trace c b p level more =
         armed = same.armed ∙ h.armed;
         mode = same.mode ∙ h.mode;
         opened = same.opened ∙ h.opened;
-        edges = edge_hears (cap_view trace c b p) w m (edge_now b level) h ∙ sym (burst-push (line trace).edges (edge_now b level) w (mode_of m))
+        edges = edge_hears (cap_view trace c b p) w m (edge_now b level) h ∙ sym (burst-push (line trace).edges (edge_now b level) w (mode_of m) rising)
             ∙ ap (λ (es : List Edge). burst es w (mode_of m)) (sym more);
         core_mode = h.core_mode;
         running = h.running;

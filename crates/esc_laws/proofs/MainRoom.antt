@@ -14,15 +14,15 @@ use Rattle.esc_laws.specs.Tied.{MainTied}
 use Rattle.esc_laws.specs.World.{World, so_far}
 use Rattle.esc_laws.specs.Rooms.{Ground, StepKeeps}
 use Rattle.esc_laws.proofs.Law.{HandlerLaw}
-use Rattle.esc_laws.proofs.RoomSteps.{ground_noted, inside, popped, if_true}
+use Rattle.esc_laws.proofs.RoomSteps.{quiet_gates, ground_noted, inside, popped, if_true}
 use Rattle.esc_laws.proofs.Saves.{saved_tied}
 
 saves : (w : World) (saved : Bool) (outer : List Kind) → Ground w → w.core.orders.save_asked ≡ true → (so_far w).saves ≡ 0
     → (so_far w).stack ≡ kind.Main ∷ outer
     → StepKeeps kind.Main outer w (saving_step saved (record w.core { main_at = main.Back }) w.bank)
 saves w saved outer g asked none on = record {
-  gate = λ word moved. absurd (moved refl refl);
-  fits = (record { at = refl; owned = refl; window = tt; nest = inside (so_far w).stack kind.Main outer on }, tt);
+  gates = quiet_gates kind.Main w _ (λ e. cc) refl refl refl;
+  fits = λ told. (record { at = refl; owned = refl; window = tt; nest = inside (so_far w).stack kind.Main outer on; driven = tt; turns = tt; waits = tt }, tt);
   ground = record {
     control = other_stands (note.Saved (as_tick w.bank.time) (result_of saved)) w.core.control w.back refl refl (sym g.orders.save_is ∙ asked) g.control;
     orders = saved_tied w.loaded w.core.orders (as_tick w.bank.time) (result_of saved) w.back g.orders;
@@ -31,7 +31,7 @@ saves w saved outer g asked none on = record {
     rested = g.rested;
     small = g.small;
   };
-  tie = ap (λ (n : ℕ). n + 1) none;
+  tie = λ told. ap (λ (n : ℕ). n + 1) none;
   others = elim [ kind.Main ↦ λ ne t. absurd (ne refl) | j ↦ λ ne t. t ];
   stack_is = on;
 }
@@ -42,21 +42,21 @@ steps : (at : MainAt) (w : World) (answers : List Answer) (outer : List Kind) �
 steps main.Shut w answers outer g t on left = absurd (omega arith)
 steps main.Work w answers outer g t on left = if_true w.core.orders.save_asked kind.Main outer w _ _ t.0 (saves w (took_first answers) outer g t.0 t.1 on)
 steps main.Back w answers outer g t on left = record {
-  gate = λ word moved. absurd (moved refl refl);
-  fits = (record { at = refl; owned = refl; window = λ e. cc; nest = (inside (so_far w).stack kind.Main outer on, t) }, tt);
+  gates = quiet_gates kind.Main w _ (λ e. cc) refl refl refl;
+  fits = λ told. (record { at = refl; owned = refl; window = λ e. cc; nest = (inside (so_far w).stack kind.Main outer on, t); driven = λ e. cc; turns = tt; waits = tt }, tt);
   ground = ground_noted w (note.Leave (as_tick w.bank.time) 0) refl refl tt refl g;
-  tie = tt;
+  tie = λ told. tt;
   others = elim [ kind.Main ↦ λ ne t. absurd (ne refl) | j ↦ λ ne t. t ];
   stack_is = popped (so_far w).stack kind.Main outer on;
 }
 
 pub main_law : HandlerLaw kind.Main
 main_law = record {
-  called = λ w g t none s. g.orders.save_is ∙ s;
-  built = λ w t due. tt;
-  entered = λ w g t none due. (due, refl);
-  beside = λ w. elim [ kind.Main ↦ λ ne t. absurd (ne refl) | j ↦ λ ne t. t ];
-  steps = λ w answers outer g t above past on left. steps w.core.main_at w answers outer g (t kind.Main) on left;
+  called = λ w g t told unheld none s. g.orders.save_is ∙ s;
+  asked = λ w g t unheld due. (tt, tt);
+  entered = λ w g t unheld none due past. (due, refl);
+  beside = λ w g t unheld none due past. elim [ kind.Main ↦ λ ne. absurd (ne refl) | j ↦ λ ne. t j ];
+  steps = λ w answers outer g t above alone past on left. steps w.core.main_at w answers outer g (t kind.Main) on left;
   later = λ w u from small g t. (t kind.Main);
   outside = λ w e at g t. (t kind.Main);
 }

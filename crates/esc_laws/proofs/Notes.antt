@@ -1,34 +1,57 @@
 -- The journal after one more note.
-use Rattle.std.proofs.Common.{◌≡◌, ◌≤◌, ℕ, List, [], ◌∷◌, ◌++◌, arith, All}
+use Rattle.std.proofs.Common.{◌≡◌, ◌≤◌, ℕ, List, [], ◌∷◌, ◌++◌, reverse, arith, All}
 use Rattle.std.proofs.lemmas.List.Elements.{All-nil, All-cons, All-head, All-tail, All-push}
 use Rattle.esc_base.specs.declared.event.Event.{Event}
 use Rattle.esc_base.specs.declared.note.Note.{Note}
-use Rattle.esc_base.specs.Journal.{Journal, IsLater, time_of}
+use Rattle.esc_base.specs.Journal.{Each, Journal, IsLater, time_of}
 use Rattle.settings_block.specs.declared.stored.Loaded.{Loaded}
 use Rattle.interrupt_machine.specs.declared.nest.Nest.{Nest}
 use Rattle.arming.proofs.InOrder.{each_push}
+use Rattle.commutation.specs.Commutated.{Commutated, TurnRule}
+use Rattle.gate_driver.specs.DeadSafe.{DeadSafe, IsSafe}
 use Rattle.esc_laws.specs.Windowed.{WindowRule, Windowed}
+use Rattle.esc_laws.specs.Driven.{IsDriven, Driven}
+use Rattle.esc_laws.specs.Saves.{forward_at}
 use Rattle.esc_laws.specs.Nested.{NestRule, NestedAfter}
 use Rattle.esc_laws.specs.Steps.{opening}
+use Rattle.esc_laws.specs.Rooms.{TurnWaits}
 
--- the notes keep the laws of windows and of nesting, in the order of their times, up to t
+-- the notes keep the laws, in the order of their times, up to t
 pub record Said (loaded : Loaded) (nest : Nest) (trace : List Event) (t : ℕ) (rest : List Note) : Type 0 where
   pub in_time : Journal (opening loaded ++ rest)
   pub windowed : Windowed loaded trace (opening loaded ++ rest)
+  pub dead_safe : DeadSafe (opening loaded ++ rest)
+  pub driven : Driven (opening loaded ++ rest)
+  pub commutated : Commutated loaded.settings.advance (forward_at loaded.settings) (opening loaded ++ rest)
   pub nested : NestedAfter nest (opening loaded) rest
+  pub waits : Each (λ before n. TurnWaits (reverse before) n) [] (opening loaded ++ rest)
   pub past : All (λ n. time_of n ≤ t) (opening loaded ++ rest)
 
 at_end : (t u : ℕ) (xs : List Note) → t ≡ u → All (λ n. time_of n ≤ u) xs → All (λ n. time_of n ≤ t) xs
 at_end t u xs e a = λ k d l. rw e (a k d l)
 
+-- a note keeps the laws behind those before it
+pub record NoteFits (loaded : Loaded) (nest : Nest) (trace : List Event) (before : List Note) (n : Note) : Type 0 where
+  pub window : WindowRule loaded trace before n
+  pub safe : IsSafe (reverse before) n
+  pub driven : IsDriven (reverse before) n
+  pub turns : TurnRule loaded.settings.advance (forward_at loaded.settings) (reverse before) n
+  pub nesting : NestRule nest before n
+  pub waits : TurnWaits (reverse before) n
+
 -- one more note at t
 pub said_push : (loaded : Loaded) (nest : Nest) (trace : List Event) (t : ℕ) (rest : List Note) (n : Note) → Said loaded nest trace t rest → time_of n ≡ t
-    → WindowRule loaded trace (opening loaded ++ rest) n → NestRule nest (opening loaded ++ rest) n → Said loaded nest trace t (rest ++ n ∷ [])
-said_push loaded nest trace t rest n s at w r =
+    → NoteFits loaded nest trace (opening loaded ++ rest) n → Said loaded nest trace t (rest ++ n ∷ [])
+said_push loaded nest trace t rest n s at f =
     record {
       in_time = each_push IsLater [] (opening loaded ++ rest) n s.in_time (at_end (time_of n) t (opening loaded ++ rest) at s.past);
-      windowed = each_push (WindowRule loaded trace) [] (opening loaded ++ rest) n s.windowed w;
-      nested = each_push (NestRule nest) (opening loaded) rest n s.nested r;
+      windowed = each_push (WindowRule loaded trace) [] (opening loaded ++ rest) n s.windowed f.window;
+      dead_safe = each_push (λ before n. IsSafe (reverse before) n) [] (opening loaded ++ rest) n s.dead_safe f.safe;
+      driven = each_push (λ before n. IsDriven (reverse before) n) [] (opening loaded ++ rest) n s.driven f.driven;
+      commutated = each_push (λ before n. TurnRule loaded.settings.advance (forward_at loaded.settings) (reverse before) n) [] (opening loaded ++ rest) n
+          s.commutated f.turns;
+      nested = each_push (NestRule nest) (opening loaded) rest n s.nested f.nesting;
+      waits = each_push (λ before n. TurnWaits (reverse before) n) [] (opening loaded ++ rest) n s.waits f.waits;
       past = All-push (λ x. time_of x ≤ t) (opening loaded ++ rest) n s.past (rw at (omega arith));
     }
 

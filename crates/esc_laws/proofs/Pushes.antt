@@ -8,7 +8,8 @@ use Rattle.esc_base.specs.declared.note.Note.{Note}
 use Rattle.settings_block.specs.declared.stored.Loaded.{Loaded}
 use Rattle.interrupt_machine.specs.declared.nest.Nest.{Nest}
 use Rattle.esc_laws.specs.Place.{next, nowhere, place}
-use Rattle.esc_laws.specs.Steps.{Turned, opening, notes_in, journal, past_stall, free, next_step, after, uses, own_next, own_steps, past_next, past_own, entered_next, entered_at, since_next, steps_since, called_next, called_from, called, EachStep}
+use Rattle.esc_laws.specs.Steps.{Turned, opening, notes_in, journal, past_stall, free, next_step, after, uses, own_next, own_steps, entered_next, entered_at, since_next, steps_since, called_next, called_from, called, EachStep}
+use Rattle.esc_laws.specs.World.{none_made, made_next, made}
 
 pub place-push : (notes : List Note) (n : Note) → place (notes ++ n ∷ []) ≡ next (place notes) n
 unfolding place
@@ -36,13 +37,13 @@ pub after-none : (cost : ℕ) (trace : List Event) → after cost trace [] ≡ f
 unfolding after
 after-none cost trace = refl
 
-pub past-push : (k : Kind) (log : List Turned) (e : Turned) → past_own k (log ++ e ∷ []) ≡ past_next k (past_own k log) e
-unfolding past_own
-past-push k log e = fold_push (past_next k) 0 log e
+pub made-push : (log : List Turned) (e : Turned) → made (log ++ e ∷ []) ≡ made_next e.kind e.enters e.tick (made log)
+unfolding made
+made-push log e = fold_push (λ m e. made_next e.kind e.enters e.tick m) none_made log e
 
-pub past-none : (k : Kind) → past_own k [] ≡ 0
-unfolding past_own
-past-none k = refl
+pub made-none : made [] ≡ none_made
+unfolding made
+made-none = refl
 
 pub own-push : (k : Kind) (log : List Turned) (e : Turned) → own_steps k (log ++ e ∷ []) ≡ own_next k (own_steps k log) e
 unfolding own_steps

@@ -23,13 +23,17 @@ use Rattle.interrupt_machine.specs.declared.nest.Nest.TheVariants.{One, Full}
 use Rattle.arming.specs.Controlled.{Controlled, FitsControl}
 use Rattle.arming.proofs.InOrder.{back_to, each_at}
 use Rattle.esc_laws.specs.Place.{Place}
+use Rattle.commutation.specs.Sectors.{low_of}
+use Rattle.commutation.specs.Commutated.{sector_at}
+use Rattle.gate_driver.specs.DeadSafe.{high_free_at}
+use Rattle.esc_laws.specs.Calls.{turned_at, turns_in, turn_was_due, low_is_on, postponed_at, HasTurned, HasCaughtUp}
 use Rattle.esc_laws.specs.Windowed.{verdict_note, Answers, WindowRule, WindowRuleAt, Windowed}
 use Rattle.esc_laws.specs.Nested.{IsAboveAll, NestRule, NestRuleAt, NestedAfter}
 use Rattle.esc_laws.specs.Steps.{opening}
 use Rattle.esc_laws.specs.World.{placed}
 use Rattle.esc_laws.specs.Rested.{first_rested}
 use Rattle.esc_laws.proofs.Rests.{first_more}
-use Rattle.esc_laws.specs.Refused.{first_two, frames, armed, enters, leaves, window, good, bad, found, nothing, ticks, arms, loses, acts, saves, ControlRefuses, one_edge, late_edge, WindowsRefuse, NestingRefuses}
+use Rattle.esc_laws.specs.Refused.{first_two, rows, frames, armed, switches, turns, crosses, started, late_low, enters, leaves, window, good, bad, found, nothing, ticks, arms, loses, acts, saves, ControlRefuses, one_edge, late_edge, WindowsRefuse, NestingRefuses}
 use Rattle.esc_laws.proofs.Stages.{placed-is}
 
 -- ---- control
@@ -68,6 +72,12 @@ control_refuses = record {
   save_that_nobody_asked_for = λ after h. (let e = (last_fits [] after (saves 2404 0) h).save in absurd (cc));
   saved_twice =
       λ after h. (let e = (last_fits (armed (frames 6 12 (acts 12000100 12 ∷ saves 12000200 0 ∷ []))) after (saves 12000300 0) h).save in absurd (cc));
+  stuck_after_59 = λ after h. (let e = (last_fits (ticks 2404 1 0 20 ∷ rows 60 []) after (ticks 4804 2 1 0) h).tick.marks_are in absurd (omega arith));
+  no_mark_after_60 = λ after h. (let e = (last_fits (ticks 2404 1 0 20 ∷ rows 61 []) after (ticks 4804 2 0 0) h).tick.marks_are in absurd (omega arith));
+  stuck_in_the_next_drive =
+      λ after h. (let e = (last_fits (ticks 2404 1 0 20 ∷ rows 61 (ticks 4804 2 1 0 ∷ [])) after (ticks 7204 3 1 0) h).tick.marks_are in absurd (omega arith));
+  row_that_a_crossing_ended =
+      λ after h. (let e = (last_fits (ticks 2404 1 0 20 ∷ rows 40 (crosses 3000 ∷ rows 40 [])) after (ticks 4804 2 1 0) h).tick.marks_are in absurd (omega arith));
 }
 
 -- ---- windows
@@ -149,9 +159,9 @@ windows_refuse = record {
 -- ---- nesting
 
 nest_fits : (nest : Nest) (loaded : Loaded) (notes after : List Note) (n : Note) → NestedAfter nest (opening loaded) (notes ++ n ∷ after)
-    → NestRuleAt nest (placed (reverse (opening loaded ++ notes))) n
+    → NestRuleAt nest (placed (reverse (opening loaded ++ notes))) (reverse (opening loaded ++ notes)) n
 nest_fits nest loaded notes after n whole =
-    subst (λ (p : Place). NestRuleAt nest p n) (sym (placed-is (opening loaded ++ notes))) (each_at (NestRule nest) (opening loaded) notes n after whole)
+    subst (λ (p : Place). NestRuleAt nest p (reverse (opening loaded ++ notes)) n) (sym (placed-is (opening loaded ++ notes))) (each_at (NestRule nest) (opening loaded) notes n after whole)
 
 -- no kind enters above itself or a higher one
 not_above : (nest : Nest) (j : Kind) (k : ℕ) → 0 < kind_number j → k ≤ kind_number j → IsAboveAll nest (j ∷ []) k → ⊥
@@ -166,6 +176,18 @@ two : (verdicts windows : ℕ) → verdicts ≡ 2 → (verdicts ≡ 1) ⊎ ((ver
 two verdicts windows v (inl e) = omega arith
 two verdicts windows v (inr e) = let f = e.0 in omega arith
 
+-- a COMM that returns has done neither
+not_both : (back : List Note) → (turns_in back ≡ 1 → (low_is_on back ≡ false) × (high_free_at (low_of (sector_at back)) back ≤ turned_at back))
+    → (turns_in back ≡ 0 → (turn_was_due back ≡ true) ⊎ (postponed_at back ≡ false) ⊎ (low_is_on back ≡ false)) → HasTurned back ⊎ HasCaughtUp back → ⊥
+not_both back one none (inl h) =
+    let o = one h.one in
+    elim h.low [ inl on ↦ (let z : true ≡ false = sym on ∙ o.0 in cc) | inr l ↦ (let f = o.1 in omega arith) ]
+not_both back one none (inr h) = elim (none h.none) [
+  | inl due ↦ (let z : true ≡ false = sym due ∙ h.not_due in cc)
+  | inr (inl p) ↦ (let z : false ≡ true = sym p ∙ h.postponed in cc)
+  | inr (inr off) ↦ (let z : false ≡ true = sym off ∙ h.low in cc)
+]
+
 pub nesting_refuses : NestingRefuses
 nesting_refuses = record {
   return_without_an_entry = λ nest loaded after h. (let e = (nest_fits nest loaded [] after (leaves 100 2) h).0 in absurd (cc));
@@ -179,8 +201,6 @@ nesting_refuses = record {
       (nest_fits One loaded (enters 2400 2 ∷ []) after (enters 2402 3) h).1).0 in absurd (omega arith));
   uart_enters = λ nest loaded after h. (nest_fits nest loaded [] after (enters 2400 1) h).0;
   cmp_enters = λ nest loaded after h. (nest_fits nest loaded [] after (enters 2400 4) h).0;
-  pwm_enters = λ nest loaded after h. (nest_fits nest loaded [] after (enters 2400 5) h).0;
-  comm_enters = λ nest loaded after h. (nest_fits nest loaded [] after (enters 2400 6) h).0;
   window_in_tick = λ nest loaded after h. (let e = nest_fits nest loaded (enters 2400 2 ∷ []) after (window 2402 0) h in absurd (cc));
   verdict_where_none_is_open = λ nest loaded after h. (let e = nest_fits nest loaded [] after (nothing 5000) h in absurd (cc));
   act_in_main = λ nest loaded after h. (let e = nest_fits nest loaded (enters 2400 0 ∷ []) after (acts 2402 3) h in absurd (cc));
@@ -198,4 +218,45 @@ nesting_refuses = record {
   main_returns_without_one = λ nest loaded after h. (let e = (nest_fits nest loaded (enters 2400 0 ∷ []) after (leaves 2404 0) h).1 in absurd (omega arith));
   main_returns_with_two = λ nest loaded after h. (let e = (nest_fits nest loaded (enters 2400 0 ∷ saves 2402 0 ∷ saves 2404 0 ∷ []) after
       (leaves 2406 0) h).1 in absurd (omega arith));
+  turn_in_tick = λ nest loaded after h. (let e = nest_fits nest loaded (enters 2400 2 ∷ []) after (turns 2402 1) h in absurd (cc));
+  turn_in_pwm = λ nest loaded after h. (let e = nest_fits nest loaded (enters 2400 5 ∷ []) after (turns 2402 1) h in absurd (cc));
+  word_changes_in_cap = λ nest loaded after h. nest_fits nest loaded (enters 2400 3 ∷ []) after (switches 2402 1 0) h;
+  word_changes_where_none_is_open = λ nest loaded after h. nest_fits nest loaded [] after (switches 2402 1 0) h;
+  crossing_in_comm = λ nest loaded after h. nest_fits nest loaded (enters 2400 6 ∷ []) after (crosses 2402) h;
+  comm_returns_with_two_turns =
+      λ nest loaded after h. not_both (reverse (opening loaded ++ started (enters 2410 6 ∷ turns 2420 1 ∷ turns 2422 2 ∷ []))) (λ e. absurd (omega arith))
+      (λ e. absurd (omega arith)) (nest_fits nest loaded (started (enters 2410 6 ∷ turns 2420 1 ∷ turns 2422 2 ∷ [])) after (leaves 2430 6) h).1;
+  comm_returns_without_a_turn =
+      λ nest loaded after h. not_both (reverse (opening loaded ++ started (enters 2410 6 ∷ []))) (λ e. absurd (omega arith))
+      (λ e. inl refl) (nest_fits nest loaded (started (enters 2410 6 ∷ [])) after (leaves 2430 6) h).1;
+  forced_turn_left_out =
+      λ nest loaded after h. not_both (reverse (opening loaded ++ late_low (enters 242424 6 ∷ switches 242430 0 2 ∷ []))) (λ e. absurd (omega arith))
+      (λ e. inl refl) (nest_fits nest loaded (late_low (enters 242424 6 ∷ switches 242430 0 2 ∷ [])) after (leaves 242440 6) h).1;
+  low_switch_left_off =
+      λ nest loaded after h. not_both (reverse (opening loaded ++ started (enters 2410 6 ∷ turns 2420 1 ∷ []))) (λ e. (refl, omega arith))
+      (λ e. absurd (omega arith)) (nest_fits nest loaded (started (enters 2410 6 ∷ turns 2420 1 ∷ [])) after (leaves 2430 6) h).1;
+  low_switch_postponed_for_nothing =
+      λ nest loaded after h. not_both
+      (reverse (opening loaded ++ started (enters 2410 6 ∷ switches 2411 2 0 ∷ switches 2412 0 0 ∷ turns 2460 1 ∷ []))) (λ e. (refl, omega arith))
+      (λ e. absurd (omega arith))
+      (nest_fits nest loaded (started (enters 2410 6 ∷ switches 2411 2 0 ∷ switches 2412 0 0 ∷ turns 2460 1 ∷ [])) after (leaves 2470 6) h).1;
+  comm_for_nothing =
+      λ nest loaded after h. not_both (reverse (opening loaded ++ enters 2410 6 ∷ [])) (λ e. absurd (omega arith)) (λ e. inr (inl refl))
+      (nest_fits nest loaded (enters 2410 6 ∷ []) after (leaves 2430 6) h).1;
+  postponed_switch_left_off =
+      λ nest loaded after h. not_both (reverse (opening loaded ++ late_low (enters 2470 6 ∷ []))) (λ e. absurd (omega arith)) (λ e. inr (inr refl))
+      (nest_fits nest loaded (late_low (enters 2470 6 ∷ [])) after (leaves 2480 6) h).1;
+  postponed_switch_twice =
+      λ nest loaded after h. not_both
+      (reverse (opening loaded ++ late_low (enters 2470 6 ∷ switches 2475 0 2 ∷ leaves 2480 6 ∷ enters 2490 6 ∷ []))) (λ e. absurd (omega arith))
+      (λ e. inr (inl refl))
+      (nest_fits nest loaded (late_low (enters 2470 6 ∷ switches 2475 0 2 ∷ leaves 2480 6 ∷ enters 2490 6 ∷ [])) after (leaves 2494 6) h).1;
+  low_switch_that_was_on =
+      λ nest loaded after h. not_both
+      (reverse (opening loaded ++ started (enters 2410 6 ∷ turns 2420 1 ∷ switches 2422 0 2 ∷ leaves 2430 6 ∷ enters 2440 6 ∷ []))) (λ e. absurd (omega arith))
+      (λ e. inr (inl refl))
+      (nest_fits nest loaded (started (enters 2410 6 ∷ turns 2420 1 ∷ switches 2422 0 2 ∷ leaves 2430 6 ∷ enters 2440 6 ∷ [])) after (leaves 2444 6) h).1;
+  pwm_without_a_demand = λ nest loaded after h. (let e : false ≡ true = (nest_fits nest loaded [] after (enters 4000 5) h).2 in absurd (cc));
+  pwm_for_no_edge = λ nest loaded after h. (let e : false ≡ true = (nest_fits nest loaded (started (enters 4000 5 ∷ leaves 4012 5 ∷ [])) after
+      (enters 4019 5) h).2 in absurd (cc));
 }

@@ -112,14 +112,14 @@ nothing_on loaded trace f r p back (note.Nothing t) o w h = absurd (answers_none
 nothing_on loaded trace f r p back (note.Bad t y) o w h = absurd (answers_none loaded trace p.signal f r p.cap_entered t.0 (note.Bad t y) h.signal w)
 nothing_on loaded trace f r p back n o w h = record { signal = h.signal; windows = h.windows; verdicts = h.verdicts }
 
-not_done : (f r : ℕ) (p : Place) → NothingYet f r p → HasDone kind.Cap p → ⊥
-not_done f r p h (inl v) = let z = h.verdicts in omega arith
-not_done f r p h (inr w) = let z = h.windows in let y = w.1 in omega arith
+not_done : (f r : ℕ) (p : Place) (back : List Note) → NothingYet f r p → HasDone kind.Cap p back → ⊥
+not_done f r p back h (inl v) = let z = h.verdicts in omega arith
+not_done f r p back h (inr w) = let z = h.windows in let y = w.1 in omega arith
 
 returns_not : (loaded : Loaded) (nest : Nest) (trace : List Event) (f r : ℕ) (before through after : List Note) (u : Tick) → NothingYet f r (place before)
     → All OpensNone through
     → Each (WindowRule loaded trace) before (through ++ note.Leave u 3 ∷ after) → Each (NestRule nest) before (through ++ note.Leave u 3 ∷ after) → ⊥
-returns_not loaded nest trace f r before [] after u h a w n = not_done f r (place before) h n.0.1
+returns_not loaded nest trace f r before [] after u h a w n = not_done f r (place before) (reverse before) h n.0.1
 returns_not loaded nest trace f r before (x ∷ through) after u h a w n =
     returns_not loaded nest trace f r (before ++ x ∷ []) through after u
     (rw (place-push before x) (nothing_on loaded trace f r (place before) (reverse before) x (All-head OpensNone x through a) w.0 h))

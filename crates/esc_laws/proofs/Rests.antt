@@ -8,7 +8,7 @@ use Rattle.std.proofs.lemmas.List.Elements.{All-nil, All-cons, All-head, All-tai
 use Rattle.esc_base.specs.declared.signal.Edge.{Edge}
 use Rattle.esc_base.specs.Times.{rest, least_pause}
 use Rattle.timer_regs.specs.Rest.{put_off}
-use Rattle.edge_capture.specs.Literal.{Rising}
+use Rattle.edge_capture.specs.Edges.{Rising}
 use Rattle.esc_laws.specs.Rested.{IsRested, FirstRestedTick, past_change, first_rested}
 use Rattle.esc_laws.specs.Tied.{IsSet, IsRestFrom}
 

@@ -9,7 +9,7 @@ use Rattle.interrupt_machine.specs.Open.{innermost, outer_ones, kind_of}
 use Rattle.esc_core.specs.Stepped.{Stepped}
 use Rattle.esc_laws.specs.Steps.{ReturnsLast}
 use Rattle.esc_laws.specs.World.{World, placed, so_far, onto, noted, step_notes, open_left}
-use Rattle.esc_laws.specs.Rooms.{AllFit, StepKeeps}
+use Rattle.esc_laws.specs.Rooms.{AllFit, StepTold, StepKeeps}
 
 abbrev depth : List Kind → ℕ
 depth [] = 0
@@ -51,10 +51,10 @@ returns_at false k t [] z = tt
 returns_at v k t (note.Leave u j ∷ notes) z = absurd (omega arith)
 returns_at v k t (n ∷ notes) z = returns_at v k t notes z
 
-pub returns_last : (k : Kind) (outer : List Kind) (w : World) (s : Stepped) → (so_far w).stack ≡ k ∷ outer → StepKeeps k outer w s
+pub returns_last : (k : Kind) (outer : List Kind) (w : World) (s : Stepped) → (so_far w).stack ≡ k ∷ outer → StepTold w s → StepKeeps k outer w s
     → ReturnsLast k (step_notes w.bank.time k s)
-returns_last k outer w s on keeps =
-    let all = all_left k w (step_notes w.bank.time k s) keeps.fits in
+returns_last k outer w s on told keeps =
+    let all = all_left k w (step_notes w.bank.time k s) (keeps.fits told) in
     let after : depth (placed (onto (step_notes w.bank.time k s) w.back)).stack ≡ depth (open_left k outer s) = ap depth keeps.stack_is in
     let before : depth (placed w.back).stack ≡ depth outer + 1 = ap depth on in
     returns_at s.over k (as_tick w.bank.time) s.notes (none_left s.over k (as_tick w.bank.time) outer s.notes (omega arith))

@@ -1,14 +1,17 @@
 -- What all rooms use: the shared ground after a note, and notes that fit.
-use Rattle.std.proofs.Common.{◌≡◌, Bool, true, false, if◌then◌else◌, List, ◌∷◌, None, Some, ap}
+use Rattle.std.proofs.Common.{◌≡◌, ◌≢◌, ◌∙◌, Bool, true, false, if◌then◌else◌, List, ◌∷◌, None, Some, ap}
 use Rattle.esc_base.specs.declared.kind.Kind.{Kind}
+use Rattle.esc_base.specs.declared.kind.Kind.TheVariants as kind
 use Rattle.esc_base.specs.declared.note.Note.{Note}
 use Rattle.arming.specs.Controlled.{IsSave, says}
 use Rattle.arming.specs.Stands.{changes_control}
 use Rattle.arming.proofs.FrameTies.{other_stands}
 use Rattle.interrupt_machine.specs.Open.{innermost, outer_ones}
 use Rattle.esc_core.specs.Stepped.{Stepped}
+use Rattle.interrupt_machine.specs.Did.{accessed}
+use Rattle.gate_driver.proofs.OffTimes.{gates_same}
 use Rattle.esc_laws.specs.World.{World, noted}
-use Rattle.esc_laws.specs.Rooms.{Ground, StepKeeps}
+use Rattle.esc_laws.specs.Rooms.{Ground, GatesKeep, StepKeeps}
 use Rattle.esc_laws.proofs.Saves.{changes_orders, orders_other}
 
 -- a note of another part of the core
@@ -21,6 +24,15 @@ ground_noted w n c s p o g = record {
   edges = g.edges;
   rested = g.rested;
   small = g.small;
+}
+
+-- a step that leaves the gates, of a handler without a part in the drive
+pub quiet_gates : (k : Kind) (w : World) (s : Stepped) → k ≢ kind.Pwm → s.core.drive.gates ≡ w.core.drive.gates
+    → (accessed w.bank s.access).hi ≡ w.bank.hi → (accessed w.bank s.access).lo ≡ w.bank.lo → GatesKeep k w s
+quiet_gates k w s ne e hi lo = record {
+  off_times = e ∙ gates_same w.core.drive.gates w.bank (accessed w.bank s.access) hi lo;
+  fits = λ told moved. absurd (moved hi lo);
+  drive = record { low = λ o d. lo; high = λ o p d. hi; chops = λ is own. absurd (ne is); back = λ is over. absurd (ne is); silent = λ is. absurd (ne is) };
 }
 
 pub inside : (stack : List Kind) (k : Kind) (outer : List Kind) → stack ≡ k ∷ outer → innermost stack ≡ Some k

@@ -23,7 +23,7 @@ use Rattle.arming.proofs.InOrder.{reverse-push}
 use Rattle.esc_core.specs.declared.orders.Orders.{Orders}
 use Rattle.esc_core.specs.Orders.{obeyed}
 use Rattle.esc_core.specs.Calls.{IsSaved, IsSpoilt}
-use Rattle.esc_laws.specs.Saves.{is_save, after_save, and_places, any_places, changed_by, erased_places, flash_at, refused_at, settings_at, FlashFits, Holds, HoldsSaves}
+use Rattle.esc_laws.specs.Saves.{is_save, after_save, and_places, any_places, changed_by, erased_places, flash_at, refused_at, settings_at, spun_by, FlashFits, Holds, HoldsSaves}
 use Rattle.esc_laws.specs.Steps.{first_notes, load_number}
 use Rattle.esc_laws.specs.Tied.{OrdersTied}
 
@@ -107,10 +107,19 @@ obeyed_save o (Extended true) e = refl
 obeyed_save o (Extended false) e = refl
 obeyed_save o (Spin side) e = rw (of_side (side == 0) 20 21 refl refl) refl
 
+obeyed_spin : (o : Orders) (act : Act) → (obeyed o act).spin ≡ spun_by (Some act) o.spin
+obeyed_spin o (Beacon beacon) = refl
+obeyed_spin o (Direction side) = refl
+obeyed_spin o (ThreeD is_on) = refl
+obeyed_spin o Save = refl
+obeyed_spin o (Extended is_on) = refl
+obeyed_spin o (Spin side) = refl
+
 pub obeyed_tied : (loaded : Loaded) (o : Orders) (act : Act) (t : Tick) (back : List Note) → act_of (number_of act) ≡ Some act → OrdersTied loaded o back
     → OrdersTied loaded (obeyed o act) (note.Command t (number_of act) ∷ back)
 obeyed_tied loaded o act t back e tied = record {
   settings_are = rw (obeyed_settings o act, e) (ap (λ (s : Settings). applied s act) tied.settings_are);
+  spin_is = rw (e, obeyed_spin o act) (ap (λ (s : ℕ). spun_by (Some act) s) tied.spin_is);
   save_is = obeyed_save o act e ∙ ap (λ (b : Bool). (number_of act == 12) || b) tied.save_is;
 }
 
@@ -119,11 +128,11 @@ pub orders_other : (loaded : Loaded) (o : Orders) (n : Note) (back : List Note) 
     → OrdersTied loaded o (n ∷ back)
 orders_other loaded o (note.Command t c) back h tied = absurd (let g = h in cc)
 orders_other loaded o (note.Saved t r) back h tied = absurd (let g = h in cc)
-orders_other loaded o n back h tied = record { settings_are = tied.settings_are; save_is = tied.save_is }
+orders_other loaded o n back h tied = record { settings_are = tied.settings_are; spin_is = tied.spin_is; save_is = tied.save_is }
 
 pub saved_tied : (loaded : Loaded) (o : Orders) (t : Tick) (r : ℕ) (back : List Note) → OrdersTied loaded o back
     → OrdersTied loaded (record o { save_asked = false }) (note.Saved t r ∷ back)
-saved_tied loaded o t r back tied = record { settings_are = tied.settings_are; save_is = refl }
+saved_tied loaded o t r back tied = record { settings_are = tied.settings_are; spin_is = tied.spin_is; save_is = refl }
 
 -- ---- notes other than saves leave what the flash holds, and how many saves it has refused
 

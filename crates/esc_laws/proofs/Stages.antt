@@ -1,5 +1,5 @@
 -- Each stage of a run, once for all handlers: an entry, an own step, time, an event.
-use Rattle.std.proofs.Common.{◌≡◌, ◌≤◌, ◌<◌, ℕ, Bool, true, false, ◌&&◌, ◌==◌, if◌then◌else◌, List, [], ◌∷◌, ◌++◌, reverse, Some, None, ◌⊎◌, refl, sym, ◌∙◌, ap, subst, arith, All, inl, inr, append-nil, append_assoc}
+use Rattle.std.proofs.Common.{◌≡◌, ◌≢◌, ◌≤◌, ◌<◌, ℕ, Bool, true, false, ◌&&◌, ◌==◌, if◌then◌else◌, List, [], ◌∷◌, ◌++◌, reverse, Some, None, ◌⊎◌, refl, sym, ◌∙◌, ap, subst, arith, All, inl, inr, append-nil, append_assoc}
 use Rattle.std.proofs.lemmas.Bool.{cases_Bool}
 use Rattle.std.proofs.lemmas.Bool.Decides.{nat_tests}
 use Rattle.std.proofs.lemmas.List.{reverse-append, reverse-reverse}
@@ -26,19 +26,24 @@ use Rattle.arming.proofs.InOrder.{reverse-push}
 use Rattle.esc_core.specs.Brain.{Brain}
 use Rattle.esc_core.specs.Stepped.{Stepped}
 use Rattle.esc_core.specs.Calls.{Answer}
-use Rattle.esc_core.specs.Firmware.{left_of, kind_step, counted_down, entered_core}
+use Rattle.esc_core.specs.Firmware.{left_of, need_of, kind_step, counted_down, entered_core}
 use Rattle.esc_laws.specs.Place.{Place, next, place}
-use Rattle.esc_laws.specs.Windowed.{WindowRuleAt, WindowRule}
-use Rattle.esc_laws.specs.Nested.{NestRuleAt, NestRule, IsAboveAll, IsBuilt}
+use Rattle.commutation.specs.Commutated.{TurnRule}
+use Rattle.gate_driver.specs.DeadSafe.{high_at, low_at, IsSafe, IsTied}
+use Rattle.gate_driver.proofs.OffTimes.{gates_same}
+use Rattle.gate_driver.proofs.DeadTime.{said_after}
+use Rattle.esc_laws.specs.Windowed.{WindowRuleAt}
+use Rattle.esc_laws.specs.Driven.{IsDriven}
+use Rattle.esc_laws.specs.Nested.{NestRuleAt, IsAboveAll, IsBuilt, IsAsked}
 use Rattle.esc_laws.specs.Steps.{opening, is_entry, ReturnsLast}
-use Rattle.esc_laws.specs.Saves.{is_save}
-use Rattle.esc_laws.specs.Tied.{GatesTied}
-use Rattle.esc_laws.specs.World.{World, placed, so_far, onto, noted, enters, after_enter, after_step, step_notes, all_notes, gated, counted, open_left, cap_since_step, at_time, after_event, after_outside}
-use Rattle.esc_laws.specs.Rooms.{Above, Ground, Tie, Ties, owner, AllFit, WordMoves, StepKeeps}
+use Rattle.esc_laws.specs.Saves.{is_save, forward_at}
+use Rattle.esc_laws.specs.Tied.{WordTold}
+use Rattle.esc_laws.specs.World.{Made, made_next, World, placed, so_far, onto, noted, enters, after_enter, after_step, step_notes, all_notes, gated, counted, open_left, at_time, after_event, after_outside}
+use Rattle.esc_laws.specs.Rooms.{Above, HoldsAlone, Past, Ground, Tie, Ties, owner, TurnWaits, AllFit, WordMoves, DriveKeeps, GatesKeep, StepTold, StepKeeps}
 use Rattle.esc_laws.proofs.Pushes.{All-later, place-push}
-use Rattle.esc_laws.proofs.Notes.{Said, said_push}
+use Rattle.esc_laws.proofs.Notes.{Said, NoteFits, said_push}
 use Rattle.esc_laws.proofs.Facts.{access_time}
-use Rattle.esc_laws.proofs.Lines.{edge_now, edge_bank, line_changes, line_same}
+use Rattle.esc_laws.proofs.Lines.{edge_now, edge_bank, line_changes, line_same, rising_push}
 use Rattle.esc_laws.proofs.Rests.{rest_now}
 use Rattle.esc_laws.proofs.RoomSteps.{ground_noted}
 use Rattle.esc_laws.proofs.Returns.{returns_last}
@@ -65,30 +70,47 @@ onto-reverse notes (n ∷ more) =
 
 -- ---- what holds between two steps, in the words of the rooms
 
-abbrev pub world_of : Loaded → Nest → List Event → Brain → Bank → ℕ → List Note → World
-world_of loaded nest trace c b since rest =
-    record { loaded = loaded; nest = nest; trace = trace; core = c; bank = b; back = reverse (opening loaded ++ rest); cap_since = since }
+abbrev pub world_of : Loaded → Nest → List Event → Brain → Bank → Made → List Note → World
+world_of loaded nest trace c b made rest =
+    record { loaded = loaded; nest = nest; trace = trace; core = c; bank = b; back = reverse (opening loaded ++ rest); made = made }
 
-pub record Stood (loaded : Loaded) (nest : Nest) (trace : List Event) (c : Brain) (b : Bank) (since : ℕ) (rest : List Note) (stack : List Kind) : Type 0 where
+pub record Stood (loaded : Loaded) (nest : Nest) (trace : List Event) (c : Brain) (b : Bank) (made : Made) (rest : List Note) (stack : List Kind) : Type 0 where
   pub said : Said loaded nest trace b.time rest
-  pub gates : GatesTied b.hi b.lo (reverse (opening loaded ++ rest))
-  pub ground : Ground (world_of loaded nest trace c b since rest)
-  pub ties : (j : Kind) → Tie j (world_of loaded nest trace c b since rest)
+  pub gates : WordTold c b (reverse (opening loaded ++ rest))
+  pub ground : Ground (world_of loaded nest trace c b made rest)
+  pub ties : (j : Kind) → Tie j (world_of loaded nest trace c b made rest)
   pub stack_is : (place (opening loaded ++ rest)).stack ≡ stack
+
+-- a note fits the place that it finds, and so the notes before it
+note_fits : (w : World) (before : List Note) (n : Note) → reverse before ≡ w.back → WindowRuleAt w.loaded w.trace (so_far w) w.back n → IsSafe w.back n
+    → IsDriven w.back n → TurnRule w.loaded.settings.advance (forward_at w.loaded.settings) w.back n → NestRuleAt w.nest (so_far w) w.back n
+    → TurnWaits w.back n → NoteFits w.loaded w.nest w.trace before n
+note_fits w before n e window safe driven turns nest waits =
+    let at : placed w.back ≡ place before = ap placed (sym e) ∙ placed-is before in
+    record {
+      window = rw (e, ← at) window;
+      safe = rw e safe;
+      driven = rw e driven;
+      turns = rw e turns;
+      nesting = rw (e, ← at) nest;
+      waits = rw e waits;
+    }
+
+-- a note of an own step is no G
+owned_safe : (n : Note) (k : Kind) (back : List Note) → owner n ≡ Some k → IsSafe back n
+owned_safe (note.Gate t hi lo) k back e = absurd (let z : None ≡ Some k = e in cc)
+owned_safe n k back e = tt
 
 -- notes that fit are said
 all_said : (k : Kind) (w : World) (rest notes : List Note) → reverse (opening w.loaded ++ rest) ≡ w.back → Said w.loaded w.nest w.trace w.bank.time rest
     → AllFit k w notes → Said w.loaded w.nest w.trace w.bank.time (rest ++ notes)
 all_said k w rest [] e s f = subst (λ (r : List Note). Said w.loaded w.nest w.trace w.bank.time r) (sym (append-nil rest)) s
 all_said k w rest (n ∷ notes) e s f =
-    let at : placed w.back ≡ place (opening w.loaded ++ rest) = ap placed (sym e) ∙ placed-is (opening w.loaded ++ rest) in
-    let window : WindowRule w.loaded w.trace (opening w.loaded ++ rest) n =
-    subst (λ (back : List Note). WindowRuleAt w.loaded w.trace (place (opening w.loaded ++ rest)) back n) (sym e)
-    (subst (λ (p : Place). WindowRuleAt w.loaded w.trace p w.back n) at f.0.window) in
-    let nest : NestRule w.nest (opening w.loaded ++ rest) n = subst (λ (p : Place). NestRuleAt w.nest p n) at f.0.nest in
+    let fits : NoteFits w.loaded w.nest w.trace (opening w.loaded ++ rest) n =
+    note_fits w (opening w.loaded ++ rest) n e f.0.window (owned_safe n k w.back f.0.owned) f.0.driven f.0.turns f.0.nest f.0.waits in
     subst (λ (r : List Note). Said w.loaded w.nest w.trace w.bank.time r) (append_assoc rest (n ∷ []) notes)
     (all_said k (noted w n) (rest ++ n ∷ []) notes (reverse-push (opening w.loaded ++ rest) n ∙ ap (λ (back : List Note). n ∷ back) e)
-    (said_push w.loaded w.nest w.trace w.bank.time rest n s f.0.at window nest) f.1)
+    (said_push w.loaded w.nest w.trace w.bank.time rest n s f.0.at fits) f.1)
 
 -- ---- an own step
 
@@ -117,33 +139,34 @@ all_own k w [] f = All-nil (IsOwn k w.bank.time)
 all_own k w (n ∷ notes) f =
     All-cons (IsOwn k w.bank.time) n notes (f.0.at, owned_no_entry n k f.0.owned, owned_save n k f.0.owned) (all_own k (noted w n) notes f.1)
 
--- they leave the newest G
-word_other : (n : Note) (k : Kind) (hi lo : ℕ) (back : List Note) → owner n ≡ Some k → GatesTied hi lo back → GatesTied hi lo (n ∷ back)
-word_other (note.Gate t h l) k hi lo back e g = absurd (let z : None ≡ Some k = e in cc)
-word_other n k hi lo back e g = record { high = g.high; low = g.low }
+-- they leave what the G before tell of the gates
+told_other : (n : Note) (k : Kind) (c : Brain) (b : Bank) (back : List Note) → owner n ≡ Some k → WordTold c b back → WordTold c b (n ∷ back)
+told_other (note.Gate t h l) k c b back e g = absurd (let z : None ≡ Some k = e in cc)
+told_other n k c b back e g = record { hi_is = g.hi_is; lo_is = g.lo_is; hi_free = g.hi_free; lo_free = g.lo_free }
 
-word_kept : (k : Kind) (w : World) (notes : List Note) (hi lo : ℕ) → AllFit k w notes → GatesTied hi lo w.back → GatesTied hi lo (onto notes w.back)
-word_kept k w [] hi lo f g = g
-word_kept k w (n ∷ notes) hi lo f g = word_kept k (noted w n) notes hi lo f.1 (word_other n k hi lo w.back f.0.owned g)
+told_kept : (k : Kind) (w : World) (notes : List Note) (c : Brain) (b : Bank) → AllFit k w notes → WordTold c b w.back → WordTold c b (onto notes w.back)
+told_kept k w [] c b f g = g
+told_kept k w (n ∷ notes) c b f g = told_kept k (noted w n) notes c b f.1 (told_other n k c b w.back f.0.owned g)
 
 -- after a step whose G, if it had one, was noted before it
 kept_stood : (k : Kind) (w : World) (rest : List Note) (outer : List Kind) (s : Stepped) → reverse (opening w.loaded ++ rest) ≡ w.back
-    → Said w.loaded w.nest w.trace w.bank.time rest → Ties w → GatesTied (accessed w.bank s.access).hi (accessed w.bank s.access).lo w.back
+    → Said w.loaded w.nest w.trace w.bank.time rest → Ties w → StepTold w s
     → StepKeeps k outer w s
-    → Stood w.loaded w.nest w.trace s.core (accessed w.bank s.access) (cap_since_step k w.bank.time w.cap_since) (rest ++ step_notes w.bank.time k s)
+    → Stood w.loaded w.nest w.trace s.core (accessed w.bank s.access) (made_next k false w.bank.time w.made) (rest ++ step_notes w.bank.time k s)
     (open_left k outer s)
-kept_stood k w rest outer s e said ties word keeps =
+kept_stood k w rest outer s e said ties told keeps =
     let after : Bank = accessed w.bank s.access in
+    let fits : AllFit k w (step_notes w.bank.time k s) = keeps.fits told in
     let notes : List Note = step_notes w.bank.time k s in
     let whole : List Note = opening w.loaded ++ (rest ++ notes) in
     let back : onto notes w.back ≡ reverse whole =
     ap (λ (ns : List Note). onto notes ns) (sym e) ∙ onto-reverse (opening w.loaded ++ rest) notes ∙ ap reverse (append_assoc (opening w.loaded) rest notes) in
     record {
-      said = subst (λ (t : ℕ). Said w.loaded w.nest w.trace t (rest ++ notes)) (sym (access_time w.bank s.access)) (all_said k w rest notes e said keeps.fits);
-      gates = subst (λ (ns : List Note). GatesTied after.hi after.lo ns) back (word_kept k w notes after.hi after.lo keeps.fits word);
+      said = subst (λ (t : ℕ). Said w.loaded w.nest w.trace t (rest ++ notes)) (sym (access_time w.bank s.access)) (all_said k w rest notes e said fits);
+      gates = subst (λ (ns : List Note). WordTold s.core after ns) back (told_kept k w notes s.core after fits told);
       ground = subst (λ (ns : List Note). Ground (record (after_step k w s) { back = ns })) back keeps.ground;
       ties = λ j. subst (λ (ns : List Note). Tie j (record (after_step k w s) { back = ns })) back (elim (same_kind j k) [
-        | inl e ↦ subst (λ (x : Kind). Tie x (after_step k w s)) (sym e) keeps.tie
+        | inl e ↦ subst (λ (x : Kind). Tie x (after_step k w s)) (sym e) (keeps.tie told)
         | inr ne ↦ keeps.others j ne (ties j)
       ]);
       stack_is = ap (λ (p : Place). p.stack) (sym (placed-is whole) ∙ ap placed (sym back)) ∙ keeps.stack_is;
@@ -161,13 +184,14 @@ record SameWord (b after : Bank) : Type 0 where
   low : after.lo ≡ b.lo
 
 record OtherWord (b after : Bank) : Type 0 where
+  test : ((after.hi == b.hi) && (after.lo == b.lo)) ≡ false
   one : gate_note b.hi b.lo after ≡ note.Gate (as_tick b.time) after.hi after.lo ∷ []
   moves : WordMoves b after
 
 word_after : (b after : Bank) → after.time ≡ b.time → SameWord b after ⊎ OtherWord b after
 word_after b after at = elim (cases_Bool ((after.hi == b.hi) && (after.lo == b.lo))) [
   | inl same ↦ inl (record { none = rw same refl; high = same_high after.hi b.hi after.lo b.lo same; low = same_low after.hi b.hi after.lo b.lo same })
-  | inr other ↦ inr (record { one = rw (other, at) refl; moves = other_word after.hi b.hi after.lo b.lo other })
+  | inr other ↦ inr (record { test = other; one = rw (other, at) refl; moves = other_word after.hi b.hi after.lo b.lo other })
 ]
   where
     same_high : (m n p q : ℕ) → ((m == n) && (p == q)) ≡ true → m ≡ n
@@ -179,47 +203,81 @@ word_after b after at = elim (cases_Bool ((after.hi == b.hi) && (after.lo == b.l
     other_word : (m n p q : ℕ) → ((m == n) && (p == q)) ≡ false → m ≡ n → p ≡ q → ⊥
     other_word m n p q e s t = grind (arith, nat_tests)
 
-pub step_made : (k : Kind) (answers : List Answer) (loaded : Loaded) (nest : Nest) (trace : List Event) (c : Brain) (b : Bank) (since : ℕ)
+-- where the word stays, what was told of the gates is so still
+told_same : (k : Kind) (w : World) (s : Stepped) → GatesKeep k w s → WordTold w.core w.bank w.back → SameWord w.bank (accessed w.bank s.access) → StepTold w s
+told_same k w s keep told same =
+    let after : Bank = accessed w.bank s.access in
+    let gates : s.core.drive.gates ≡ w.core.drive.gates = keep.off_times ∙ sym (gates_same w.core.drive.gates w.bank after same.high same.low) in
+    rw (gates, same.high, same.low) told
+
+-- and where it becomes another one, the G keeps the dead time and tells the rest
+gate_said : (k : Kind) (w : World) (s : Stepped) → GatesKeep k w s → WordTold w.core w.bank w.back → OtherWord w.bank (accessed w.bank s.access)
+    → IsSafe w.back (note.Gate (as_tick w.bank.time) (accessed w.bank s.access).hi (accessed w.bank s.access).lo)
+    × StepTold (gated w (accessed w.bank s.access)) s
+gate_said k w s keep told other =
+    let after : Bank = accessed w.bank s.access in
+    let at : after.time ≡ w.bank.time = access_time w.bank s.access in
+    let test : ((after.hi == high_at w.back) && (after.lo == low_at w.back)) ≡ false = rw (told.hi_is, told.lo_is) other.test in
+    let said = said_after w.core.drive.gates s.core.drive.gates w.bank after w.back at keep.off_times told (keep.fits told other.moves).dead_time in
+    let tied : IsTied s.core.drive.gates after.hi after.lo (note.Gate (as_tick after.time) after.hi after.lo ∷ w.back) =
+    subst (λ (v : Bool). IsTied s.core.drive.gates after.hi after.lo (if v then w.back else note.Gate (as_tick after.time) after.hi after.lo ∷ w.back)) test
+    said.tied in
+    (
+      subst (λ (t : ℕ). IsSafe w.back (note.Gate (as_tick t) after.hi after.lo)) at (said.safe test),
+      subst (λ (t : ℕ). IsTied s.core.drive.gates after.hi after.lo (note.Gate (as_tick t) after.hi after.lo ∷ w.back)) at tied,
+    )
+
+counted_need : (k : Kind) (c : Brain) (b : Bank) → need_of (counted_down c b) k ≡ need_of c k
+counted_need kind.Main c b = refl
+counted_need k c b = refl
+
+pub step_made : (k : Kind) (answers : List Answer) (loaded : Loaded) (nest : Nest) (trace : List Event) (c : Brain) (b : Bank) (made : Made)
     (rest : List Note) (outer : List Kind)
-    → Stood loaded nest trace c b since rest (k ∷ outer) → since ≤ b.time
-    → ((j : Kind) → kind_number k < kind_number j → left_of c j ≡ 0) → 0 < left_of c k
+    → Stood loaded nest trace c b made rest (k ∷ outer) → Past made b.time
+    → ((j : Kind) → kind_number k < kind_number j → left_of c j ≡ 0) → ((j : Kind) → j ≢ k → 8 < need_of c j) → 0 < left_of c k
     → Stood loaded nest trace (kind_step k answers (counted_down c b) b).core (accessed b (kind_step k answers (counted_down c b) b).access)
-    (cap_since_step k b.time since) (rest ++ all_notes b k (kind_step k answers (counted_down c b) b))
+    (made_next k false b.time made) (rest ++ all_notes b k (kind_step k answers (counted_down c b) b))
     (open_left k outer (kind_step k answers (counted_down c b) b))
     × All (IsOwn k b.time) (all_notes b k (kind_step k answers (counted_down c b) b))
     × ReturnsLast k (all_notes b k (kind_step k answers (counted_down c b) b))
-step_made k answers loaded nest trace c b since rest outer i past above left =
+    × DriveKeeps k (counted (world_of loaded nest trace c b made rest)) (kind_step k answers (counted_down c b) b)
+step_made k answers loaded nest trace c b made rest outer i past above alone left =
     let s : Stepped = kind_step k answers (counted_down c b) b in
     let after : Bank = accessed b s.access in
-    let before : World = world_of loaded nest trace c b since rest in
+    let before : World = world_of loaded nest trace c b made rest in
     let w : World = counted before in
     let g : Note = note.Gate (as_tick b.time) after.hi after.lo in
     let on : (so_far w).stack ≡ k ∷ outer = ap (λ (p : Place). p.stack) (placed-is (opening loaded ++ rest)) ∙ i.stack_is in
     let ties : Ties w = (λ j. counted_tie j before (i.ties j)) in
     let shut : Above k w = (λ j l. counted_left j c b ∙ above j l) in
     let some : 0 < left_of w.core k = rw (counted_left k c b) left in
-    let plain : StepKeeps k outer w s = (law k).steps w answers outer i.ground ties shut past on some in
+    let holds : HoldsAlone k w = (λ j ne. rw (counted_need j c b) (alone j ne)) in
+    let was : WordTold w.core w.bank w.back = i.gates in
+    let plain : StepKeeps k outer w s = (law k).steps w answers outer i.ground ties shut holds past on some in
     elim (word_after b after (access_time b s.access)) [
       | inl same ↦ rw same.none (
-        kept_stood k w rest outer s refl i.said ties (record { high = same.high ∙ i.gates.high; low = same.low ∙ i.gates.low }) plain,
-        all_own k w (step_notes b.time k s) plain.fits,
-        returns_last k outer w s on plain,
+        kept_stood k w rest outer s refl i.said ties (told_same k w s plain.gates was same) plain,
+        all_own k w (step_notes b.time k s) (plain.fits (told_same k w s plain.gates was same)),
+        returns_last k outer w s on (told_same k w s plain.gates was same) plain,
+        plain.gates.drive,
       )
       | inr other ↦ (
           let told : StepKeeps k outer (gated w after) s =
-          (law k).steps (gated w after) answers outer (ground_noted w g refl refl tt refl i.ground) (λ j. gate_tie j w after (ties j)) shut past on some in
-          let fits : NestRule nest (opening loaded ++ rest) g =
-          subst (λ (p : Place). NestRuleAt nest p g) (placed-is (opening loaded ++ rest)) (plain.gate i.gates other.moves) in
-          let said : Said loaded nest trace b.time (rest ++ g ∷ []) = said_push loaded nest trace b.time rest g i.said refl tt fits in
+          (law k).steps (gated w after) answers outer (ground_noted w g refl refl tt refl i.ground) (λ j. gate_tie j w after (ties j)) shut holds past on some in
+          let by = gate_said k w s plain.gates was other in
+          let gate = plain.gates.fits was other.moves in
+          let said : Said loaded nest trace b.time (rest ++ g ∷ []) =
+          said_push loaded nest trace b.time rest g i.said refl (note_fits w (opening loaded ++ rest) g refl tt by.0 gate.driven tt gate.nest tt) in
           let back : reverse (opening loaded ++ (rest ++ g ∷ [])) ≡ g ∷ reverse (opening loaded ++ rest) =
           ap reverse (sym (append_assoc (opening loaded) rest (g ∷ []))) ∙ reverse-push (opening loaded ++ rest) g in
           let stood =
-          kept_stood k (gated w after) (rest ++ g ∷ []) outer s back said (λ j. gate_tie j w after (ties j)) (record { high = refl; low = refl }) told in
+          kept_stood k (gated w after) (rest ++ g ∷ []) outer s back said (λ j. gate_tie j w after (ties j)) by.1 told in
           rw other.one (
-            subst (λ (ns : List Note). Stood loaded nest trace s.core after (cap_since_step k b.time since) ns (open_left k outer s))
+            subst (λ (ns : List Note). Stood loaded nest trace s.core after (made_next k false b.time made) ns (open_left k outer s))
                 (append_assoc rest (g ∷ []) (step_notes b.time k s)) stood,
-            All-cons (IsOwn k b.time) g (step_notes b.time k s) (refl, refl, λ e. cc) (all_own k (gated w after) (step_notes b.time k s) told.fits),
-            returns_last k outer (gated w after) s on told,
+            All-cons (IsOwn k b.time) g (step_notes b.time k s) (refl, refl, λ e. cc) (all_own k (gated w after) (step_notes b.time k s) (told.fits by.1)),
+            returns_last k outer (gated w after) s on by.1 told,
+            plain.gates.drive,
           ))
     ]
 
@@ -229,9 +287,9 @@ ground_enter : (k : Kind) (w : World) → Ground w → Ground (after_enter k w)
 ground_enter kind.Main w g = ground_noted w (enters kind.Main w.bank.time) refl refl tt refl g
 ground_enter k w g = ground_noted w (enters k w.bank.time) refl refl tt refl g
 
-enter_word : (k : Kind) (b : Bank) (back : List Note) → GatesTied b.hi b.lo back → GatesTied (after_entry b k).hi (after_entry b k).lo (enters k b.time ∷ back)
-enter_word kind.Main b back g = record { high = g.high; low = g.low }
-enter_word k b back g = record { high = g.high; low = g.low }
+enter_told : (k : Kind) (c : Brain) (b : Bank) (back : List Note) → WordTold c b back → WordTold (entered_core c k) (after_entry b k) (enters k b.time ∷ back)
+enter_told kind.Main c b back g = record { hi_is = g.hi_is; lo_is = g.lo_is; hi_free = g.hi_free; lo_free = g.lo_free }
+enter_told k c b back g = record { hi_is = g.hi_is; lo_is = g.lo_is; hi_free = g.hi_free; lo_free = g.lo_free }
 
 pub enter_time : (k : Kind) (b : Bank) → (after_entry b k).time ≡ b.time
 enter_time kind.Main b = refl
@@ -241,27 +299,35 @@ enter_stack : (k : Kind) (p : Place) (t : ℕ) → (next p (enters k t)).stack �
 enter_stack kind.Main p t = refl
 enter_stack k p t = refl
 
-built_number : (k : Kind) → IsBuilt k → IsBuilt (kind_of (kind_number k))
-built_number k built = rw (kind_of-number k) built
+-- an I fits where the kind is asked for and above all open ones
+enter_fits : (k : Kind) (w : World) (before : List Note) (stack : List Kind) → reverse before ≡ w.back → (place before).stack ≡ stack
+    → IsBuilt k × IsAsked k w.back w.bank.time → IsAboveAll w.nest stack (kind_number k) → NoteFits w.loaded w.nest w.trace before (enters k w.bank.time)
+enter_fits k w before stack e open_is asked above =
+    note_fits w before (enters k w.bank.time) e tt tt tt tt (
+      rw (kind_of-number k) asked.0,
+      subst (λ (st : List Kind). IsAboveAll w.nest st (kind_number k))
+          (sym (ap (λ (p : Place). p.stack) (ap placed (sym e) ∙ placed-is before) ∙ open_is)) above,
+      rw (kind_of-number k) asked.1,
+    ) tt
 
-pub enter_stood : (k : Kind) (loaded : Loaded) (nest : Nest) (trace : List Event) (c : Brain) (b : Bank) (since : ℕ) (rest : List Note)
+pub enter_stood : (k : Kind) (loaded : Loaded) (nest : Nest) (trace : List Event) (c : Brain) (b : Bank) (made : Made) (rest : List Note)
     (stack : List Kind)
-    → Stood loaded nest trace c b since rest stack → left_of c k ≡ 0 → due_now c.orders.save_asked b k ≡ true
-    → IsAboveAll nest stack (kind_number k) → Stood loaded nest trace (entered_core c k) (after_entry b k) since (rest ++ enters k b.time ∷ []) (k ∷ stack)
-enter_stood k loaded nest trace c b since rest stack i none due above =
-    let w : World = world_of loaded nest trace c b since rest in
+    → Stood loaded nest trace c b made rest stack → Past made b.time → left_of c k ≡ 0 → ((j : Kind) → 8 < need_of c j) → due_now c.orders.save_asked b k ≡ true
+    → IsAboveAll nest stack (kind_number k)
+    → Stood loaded nest trace (entered_core c k) (after_entry b k) (made_next k true b.time made) (rest ++ enters k b.time ∷ []) (k ∷ stack)
+enter_stood k loaded nest trace c b made rest stack i past none unheld due above =
+    let w : World = world_of loaded nest trace c b made rest in
     let n : Note = enters k b.time in
     let back : n ∷ reverse (opening loaded ++ rest) ≡ reverse (opening loaded ++ (rest ++ n ∷ [])) =
     sym (reverse-push (opening loaded ++ rest) n) ∙ ap reverse (append_assoc (opening loaded) rest (n ∷ [])) in
     record {
-      said = subst (λ (t : ℕ). Said loaded nest trace t (rest ++ n ∷ [])) (sym (enter_time k b)) (said_push loaded nest trace b.time rest n i.said refl tt
-          (built_number k ((law k).built w i.ties due), subst (λ (st : List Kind). IsAboveAll nest st (kind_number k)) (sym i.stack_is) above));
-      gates = subst (λ (ns : List Note). GatesTied (after_entry b k).hi (after_entry b k).lo ns) back
-          (enter_word k b (reverse (opening loaded ++ rest)) i.gates);
+      said = subst (λ (t : ℕ). Said loaded nest trace t (rest ++ n ∷ [])) (sym (enter_time k b)) (said_push loaded nest trace b.time rest n i.said refl
+          (enter_fits k w (opening loaded ++ rest) stack refl i.stack_is ((law k).asked w i.ground i.ties unheld due) above));
+      gates = subst (λ (ns : List Note). WordTold (entered_core c k) (after_entry b k) ns) back (enter_told k c b (reverse (opening loaded ++ rest)) i.gates);
       ground = subst (λ (ns : List Note). Ground (record (after_enter k w) { back = ns })) back (ground_enter k w i.ground);
       ties = λ j. subst (λ (ns : List Note). Tie j (record (after_enter k w) { back = ns })) back (elim (same_kind j k) [
-        | inl e ↦ subst (λ (x : Kind). Tie x (after_enter k w)) (sym e) ((law k).entered w i.ground i.ties none due)
-        | inr ne ↦ (law k).beside w j ne (i.ties j)
+        | inl e ↦ subst (λ (x : Kind). Tie x (after_enter k w)) (sym e) ((law k).entered w i.ground i.ties unheld none due past)
+        | inr ne ↦ (law k).beside w i.ground i.ties unheld none due past j ne
       ]);
       stack_is = ap (λ (ns : List Note). (place ns).stack) (sym (append_assoc (opening loaded) rest (n ∷ [])))
           ∙ ap (λ (p : Place). p.stack) (place-push (opening loaded ++ rest) n) ∙ enter_stack k (place (opening loaded ++ rest)) b.time
@@ -275,7 +341,7 @@ later_ground w u from small g = record {
   control = g.control;
   orders = g.orders;
   level = g.level;
-  edges = All-later (λ e. e.t.0) (line w.trace).edges w.bank.time u from g.edges;
+  edges = (All-later (λ e. e.t.0) (line w.trace).edges w.bank.time u from g.edges.0, g.edges.1);
   rested = g.rested;
   small = small;
 }
@@ -304,8 +370,11 @@ edge_ground true w level d g =
       control = g.control;
       orders = g.orders;
       level = ap (λ (l : Line). l.level) (sym new);
-      edges = rw new (All-push (λ y. y.t.0 ≤ w.bank.time) (line w.trace).edges (edge_now w.bank level) g.edges (omega arith));
-      rested = rw new (rest_now (line w.trace).edges (edge_now w.bank level) g.edges);
+      edges = rw new (
+        All-push (λ y. y.t.0 ≤ w.bank.time) (line w.trace).edges (edge_now w.bank level) g.edges.0 (omega arith),
+        rising_push (line w.trace).edges (edge_now w.bank level) 0 g.edges.1 g.edges.0 (omega arith),
+      );
+      rested = rw new (rest_now (line w.trace).edges (edge_now w.bank level) g.edges.0);
       small = g.small;
     }
 edge_ground false w level d g =

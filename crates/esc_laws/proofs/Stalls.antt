@@ -6,8 +6,7 @@ use Rattle.std.proofs.lemmas.List.Elements.{All-head, All-tail}
 use Rattle.esc_base.specs.declared.event.Event.{Event}
 use Rattle.esc_base.specs.declared.event.Event.TheVariants as event
 use Rattle.esc_base.specs.Trace.{tick_of}
-use Rattle.esc_laws.specs.Steps.{Turned, past_stall, free, next_step, after, uses}
-use Rattle.esc_laws.specs.Logged.{stall_end}
+use Rattle.esc_laws.specs.Steps.{stall_end, Turned, past_stall, free, next_step, after, uses}
 use Rattle.esc_laws.proofs.Pushes.{free-push, uses-more}
 
 -- ---- one event

@@ -1,5 +1,5 @@
 -- The log of a run that has made no step.
-use Rattle.std.proofs.Common.{◌≡◌, ◌≤◌, ℕ, false, List, [], ◌∷◌, reverse, refl, sym, ◌∙◌, ap, arith, lit<, All, Option, Some, None, ◌+◌}
+use Rattle.std.proofs.Common.{◌≡◌, ◌≤◌, ℕ, true, false, List, [], ◌∷◌, reverse, refl, sym, ◌∙◌, ap, arith, lit<, All, Option, Some, None, ◌+◌}
 use Rattle.std.proofs.lemmas.List.Elements.{All-nil, All-cons}
 use Rattle.esc_base.specs.declared.kind.Kind.{Kind}
 use Rattle.esc_base.specs.declared.kind.Kind.TheVariants as kind
@@ -22,14 +22,19 @@ use Rattle.arming.proofs.FrameTies.{start_stands, other_stands}
 use Rattle.esc_core.specs.Firmware.{left_of, need_of, new_core}
 use Rattle.esc_laws.specs.Place.{Listens, Place, place, nowhere}
 use Rattle.esc_laws.specs.Seen.{sees}
-use Rattle.esc_laws.specs.Steps.{first_notes, load_number, opening, journal, after, called}
+use Rattle.esc_laws.specs.Steps.{stall_end, first_notes, load_number, opening, journal, after, called}
 use Rattle.esc_laws.specs.Windowed.{Windowed}
-use Rattle.esc_laws.specs.Tied.{Keeps}
+use Rattle.esc_base.specs.declared.gate.Leg.{Leg}
+use Rattle.esc_base.specs.declared.gate.Leg.TheVariants as leg
+use Rattle.esc_base.specs.Legs.{is_on}
+use Rattle.gate_driver.specs.Gated.{at_leg, no_legs}
+use Rattle.esc_laws.specs.DriveTied.{DriveTied}
+use Rattle.esc_laws.specs.Tied.{Keeps, WordTold}
 use Rattle.esc_laws.specs.World.{world}
-use Rattle.esc_laws.specs.Rooms.{Ground, Tie}
-use Rattle.esc_laws.specs.Logged.{Marks, Logged, stall_end, first_bank}
+use Rattle.esc_laws.specs.Rooms.{Ground, Tie, drive_seen}
+use Rattle.esc_laws.specs.Logged.{Marks, Logged, first_bank}
 use Rattle.esc_laws.proofs.Notes.{Said}
-use Rattle.esc_laws.proofs.Pushes.{after-none, free-none, past-none, called-none}
+use Rattle.esc_laws.proofs.Pushes.{after-none, free-none, made-none, called-none}
 
 place-opening : (loaded : Loaded) → place (opening loaded) ≡ record nowhere { signal = Listens 0 0; windows = 1; last = 0 }
 unfolding place
@@ -68,7 +73,11 @@ pub start_said : (loaded : Loaded) (nest : Nest) (trace : List Event) (t : ℕ) 
 start_said loaded nest trace t = record {
   in_time = opening_in_time loaded;
   windowed = opening_windowed loaded trace;
+  dead_safe = (tt, (tt, tt));
+  driven = (tt, (tt, tt));
+  commutated = (tt, (tt, tt));
   nested = tt;
+  waits = (tt, (tt, tt));
   past = All-cons (λ n. time_of n ≤ t) (note.Up (as_tick 0) (load_number loaded.fault)) (note.Window (as_tick 0) 0 ∷ []) (omega arith)
       (All-cons (λ n. time_of n ≤ t) (note.Window (as_tick 0) 0) [] (omega arith) (All-nil (λ n. time_of n ≤ t)));
 }
@@ -95,14 +104,25 @@ start_keeps loaded = record {
     none_masked kind.Main n = omega arith
     none_masked k n = omega arith
 
+none_free : (x : Leg) → 0 ≡ at_leg no_legs x
+none_free leg.A = refl
+none_free leg.B = refl
+none_free leg.C = refl
+
+start_told : (loaded : Loaded) → WordTold (new_core loaded.settings) first_bank (reverse (journal loaded []))
+start_told loaded = record { hi_is = refl; lo_is = refl; hi_free = none_free; lo_free = none_free }
+
 start_marks : (loaded : Loaded) (nest : Nest) → Marks loaded nest [] first_bank [] []
 start_marks loaded nest = record {
   in_time = (start_said loaded nest [] 0).in_time;
   windowed = (start_said loaded nest [] 0).windowed;
+  dead_safe = (start_said loaded nest [] 0).dead_safe;
+  driven = (start_said loaded nest [] 0).driven;
+  commutated = (start_said loaded nest [] 0).commutated;
   nested = tt;
+  waits = (start_said loaded nest [] 0).waits;
   stack_is = ap (λ (p : Place). p.stack) (sym (place-opening loaded));
   past = (start_said loaded nest [] 0).past;
-  gates = record { high = refl; low = refl };
 }
 
 no_burst : [] ≡ burst (line []).edges 0 (mode_of 0)
@@ -111,11 +131,44 @@ no_burst = sym (ap (λ (l : Line). burst l.edges 0 (mode_of 0)) line-none ∙ bu
 start_ground : (loaded : Loaded) (nest : Nest) → Ground (world loaded nest [] (new_core loaded.settings) first_bank [])
 start_ground loaded nest = record {
   control = opening_stands loaded;
-  orders = record { settings_are = refl; save_is = refl };
+  orders = record { settings_are = refl; spin_is = refl; save_is = refl };
   level = ap (λ (l : Line). l.level) (sym line-none);
-  edges = rw line-none (All-nil (λ e. e.t.0 ≤ 0));
+  edges = rw line-none (All-nil (λ e. e.t.0 ≤ 0), tt);
   rested = rw line-none (record { over = All-nil (λ e. e.t.0 + 200 ≤ 0); first = λ t a. omega arith });
   small = lit< tt;
+}
+
+none_on : (x : Leg) → is_on 0 x ≡ true → ⊥
+none_on leg.A e = cc
+none_on leg.B e = cc
+none_on leg.C e = cc
+
+-- nothing drives
+start_drive : (loaded : Loaded) (nest : Nest) → DriveTied (drive_seen (world loaded nest [] (new_core loaded.settings) first_bank []))
+start_drive loaded nest = record {
+  sector_is = refl;
+  sectors = omega arith;
+  pair = record { high = λ x e. absurd (none_on x e); low = λ x e. absurd (none_on x e) };
+  held = λ x e. absurd (none_on x e);
+  soon = λ x. rw (← none_free x) (omega arith);
+  outer = λ s x ne. absurd (omega arith);
+  unused = λ z x. sym (none_free x);
+  past = omega arith;
+  since = λ s. absurd (omega arith);
+  to_is = λ e s. absurd (omega arith);
+  at_low = λ e. cc;
+  idle = λ z. refl;
+  due = λ d. absurd (omega arith);
+  first = λ z d. absurd (omega arith);
+  turned = λ d. absurd (omega arith);
+  forced = refl;
+  unforced = λ e. refl;
+  rest_unmarked = λ z. refl;
+  stuck = λ d. absurd (omega arith);
+  marked = λ d. absurd (omega arith);
+  place = tt;
+  low = λ e d. absurd (omega arith);
+  postponed = λ e d. absurd (omega arith);
 }
 
 -- the first window listens, and the other handlers are shut
@@ -125,9 +178,29 @@ start_ties loaded nest kind.Cap = (
   record { past = λ k d l. absurd (omega arith); order = λ x y le l. absurd (omega arith); few = omega arith },
   tt,
 )
-start_ties loaded nest kind.Tick = (tt, refl, omega arith)
+start_ties loaded nest kind.Tick = (
+  tt,
+  refl,
+  omega arith,
+  refl,
+  λ z. record {
+    rest = record { high_off = refl; low_off = refl; no_event = refl; disarmed = refl; prompt = refl; no_mark = refl };
+    pwm_shut = refl;
+    comm_shut = refl;
+  },
+)
 start_ties loaded nest kind.Main = tt
-start_ties loaded nest kind.Comm = (refl, record { high_off = refl; low_off = refl; no_duty = refl; no_event = refl; disarmed = refl; no_mark = refl })
+start_ties loaded nest kind.Pwm = (
+  tt,
+  record {
+    new = λ e. cc;
+    asks = λ l e. absurd (omega arith);
+    counted = λ l e c. absurd (omega arith);
+    only = λ l e. absurd (omega arith);
+    past = omega arith;
+  },
+)
+start_ties loaded nest kind.Comm = start_drive loaded nest
 start_ties loaded nest k = refl
 
 start_patient : (loaded : Loaded) (nest : Nest) → Patient nest 0 false [] (sees [] (journal loaded []) 0) (called loaded nest [] [])
@@ -146,6 +219,7 @@ logged_start loaded nest cost =
       keeps = start_keeps loaded;
       sorted = tt;
       marks = start_marks loaded nest;
+      gates = start_told loaded;
       ground = start_ground loaded nest;
       ties = start_ties loaded nest;
       patient = start_patient loaded nest;
@@ -153,8 +227,9 @@ logged_start loaded nest cost =
       reached = λ k o. cc;
       reached_by = λ k o. cc;
       fits = tt;
+      drives = tt;
       past = omega arith;
-      cap_past = (let z = past-none kind.Cap in omega arith);
+      made_past = rw made-none (record { cap = omega arith; comm = omega arith });
       awaits = record { open_step = λ o. omega arith; idle = λ o t from below f k. absurd (omega arith) };
       time = omega arith;
       put_off = λ u from below. absurd (omega arith);

@@ -6,6 +6,7 @@ use Rattle.esc_base.specs.declared.kind.Kind.{Kind}
 use Rattle.esc_base.specs.declared.kind.Kind.TheVariants as kind
 use Rattle.esc_base.specs.declared.event.Event.{Event}
 use Rattle.esc_base.specs.declared.note.Note.{Note}
+use Rattle.esc_base.specs.Numbers.{kind_number}
 use Rattle.esc_base.specs.Journal.{time_of}
 use Rattle.settings_block.specs.declared.stored.Loaded.{Loaded}
 use Rattle.timer_regs.specs.Bank.{Bank}
@@ -26,35 +27,36 @@ use Rattle.esc_core.specs.Firmware.{left_of, need_of, entered_core, kind_step, c
 use Rattle.esc_core.proofs.Bounds.{Bounds, need_some, mask_down, goes_bounds}
 use Rattle.esc_laws.specs.Place.{Place}
 use Rattle.esc_laws.specs.Seen.{sees, sees_at}
-use Rattle.esc_laws.specs.Steps.{Turned, notes_in, journal, after, uses, is_of, is_entry, ReturnsLast, own_steps, past_own, steps_since, entered_at, called, StepFits, Below}
-use Rattle.esc_laws.specs.Tied.{Keeps}
-use Rattle.esc_laws.specs.World.{world, enters, all_notes, open_left}
+use Rattle.esc_laws.specs.Steps.{Turned, opening, notes_in, journal, after, uses, is_of, is_entry, ReturnsLast, own_steps, steps_since, entered_at, called, StepFits, Below}
+use Rattle.esc_laws.specs.Tied.{Keeps, WordTold}
+use Rattle.esc_laws.specs.World.{made, world, enters, all_notes, open_left}
 use Rattle.esc_laws.specs.Rooms.{Ground, Tie}
 use Rattle.esc_laws.specs.Logged.{Logged}
-use Rattle.esc_laws.proofs.Pushes.{own-push, past-push, since-push}
+use Rattle.esc_laws.proofs.Pushes.{notes-push, own-push, made-push, since-push}
 use Rattle.esc_laws.proofs.Stalls.{free_ended}
 use Rattle.esc_laws.proofs.Facts.{of_self, of_other, some_open, outer_open, left_open, access_time}
 use Rattle.esc_laws.proofs.Laws.{law}
 use Rattle.esc_laws.proofs.Stages.{IsOwn, placed-is, enter_time, enter_stood, step_made}
-use Rattle.esc_laws.proofs.Entries.{entered_others, entered_most, entry_above_all, keeps_entry}
+use Rattle.esc_laws.proofs.Entries.{entry_above_kinds, unheld_down, holds_alone, entered_others, entered_most, entry_above_all, keeps_entry}
 use Rattle.esc_laws.proofs.OwnTurns.{steady, keeps_own}
+use Rattle.esc_laws.proofs.ChopSteps.{entry_chops, own_chops}
 use Rattle.esc_laws.proofs.Turns.{reached_on, reached_new, by_on, by_new, stood, logged_after}
 
 -- ---- what is seen due, and isn't open, is due
 
 waits_due : (loaded : Loaded) (nest : Nest) (trace : List Event) (c : Brain) (b : Bank) (stack : List Kind) (log : List Turned) → Keeps c b stack
-    → Ground (world loaded nest trace c b log) → ((j : Kind) → Tie j (world loaded nest trace c b log))
-    → (k : Kind) → sees trace (journal loaded log) b.time k ≡ true → is_open stack k ≡ false → due_now c.orders.save_asked b k ≡ true
-waits_due loaded nest trace c b stack log keeps g t k s f =
-    (law k).called (world loaded nest trace c b log) g t (keeps.shut k f)
+    → Ground (world loaded nest trace c b log) → ((j : Kind) → Tie j (world loaded nest trace c b log)) → WordTold c b (reverse (journal loaded log))
+    → ((j : Kind) → 8 < need_of c j) → (k : Kind) → sees trace (journal loaded log) b.time k ≡ true → is_open stack k ≡ false → due_now c.orders.save_asked b k ≡ true
+waits_due loaded nest trace c b stack log keeps g t told unheld k s f =
+    (law k).called (world loaded nest trace c b log) g t told unheld (keeps.shut k f)
     (subst (λ (p : Place). sees_at trace p (reverse (journal loaded log)) b.time k ≡ true) (sym (placed-is (journal loaded log))) s)
 
 pub sees_due : (loaded : Loaded) (nest : Nest) (trace : List Event) (c : Brain) (b : Bank) (stack : List Kind) (log : List Turned) → Keeps c b stack
-    → Ground (world loaded nest trace c b log) → ((j : Kind) → Tie j (world loaded nest trace c b log))
-    → (k : Kind) → is_waiting (sees trace (journal loaded log) b.time) stack k ≡ true → due_now c.orders.save_asked b k ≡ true
-sees_due loaded nest trace c b stack log keeps g t k e =
+    → Ground (world loaded nest trace c b log) → ((j : Kind) → Tie j (world loaded nest trace c b log)) → WordTold c b (reverse (journal loaded log))
+    → ((j : Kind) → 8 < need_of c j) → (k : Kind) → is_waiting (sees trace (journal loaded log) b.time) stack k ≡ true → due_now c.orders.save_asked b k ≡ true
+sees_due loaded nest trace c b stack log keeps g t told unheld k e =
     let parts = and_parts (sees trace (journal loaded log) b.time k) (not (is_open stack k)) e in
-    waits_due loaded nest trace c b stack log keeps g t k parts.0 (not-true (is_open stack k) parts.1)
+    waits_due loaded nest trace c b stack log keeps g t told unheld k parts.0 (not-true (is_open stack k) parts.1)
 
 -- ---- an entry
 
@@ -65,10 +67,10 @@ empty_open : (stack : List Kind) (k : Kind) → stack ≡ [] → is_open stack k
 empty_open stack k e = rw e refl
 
 entry_fits : (loaded : Loaded) (nest : Nest) (cost : ℕ) (trace : List Event) (c : Brain) (b : Bank) (stack : List Kind) (log : List Turned) (k : Kind)
-    → Logged loaded nest cost trace b.time c b stack log
+    → Logged loaded nest cost trace b.time c b stack log → b.masked ≡ false
     → next_entry nest stack (due_now c.orders.save_asked b) ≡ Some k → ((j : Kind) → called loaded nest trace (log ++ entry_of b.time k ∷ []) j ≤ 8)
     → StepFits loaded nest cost trace log (entry_of b.time k)
-entry_fits loaded nest cost trace c b stack log k l chosen calls = record {
+entry_fits loaded nest cost trace c b stack log k l down chosen calls = record {
   later = l.past;
   free_at = free_ended trace b.time b.time l.stalls (omega arith);
   open_step = λ o. l.at_next (λ e. o (sym l.marks.stack_is ∙ e));
@@ -76,7 +78,7 @@ entry_fits loaded nest cost trace c b stack log k l chosen calls = record {
   first = λ o. (
     refl,
     λ j s. highest_most (due_now c.orders.save_asked b) k j
-        (waits_due loaded nest trace c b stack log l.keeps l.ground l.ties j s (empty_open stack j (l.marks.stack_is ∙ o)))
+        (waits_due loaded nest trace c b stack log l.keeps l.ground l.ties l.gates (unheld_down c b stack l.keeps down) j s (empty_open stack j (l.marks.stack_is ∙ o)))
         (entry_highest nest stack (due_now c.orders.save_asked b) k chosen),
   );
   entry = λ e. refl;
@@ -137,18 +139,21 @@ entry_turn loaded nest cost trace c b stack log k some l down chosen =
       sorted = (entry_above nest stack (due_now c.orders.save_asked b) k chosen, l.sorted);
       time = enter_time k b;
       out =
-          rw (past-push kind.Cap log (entry_of b.time k))
-          (enter_stood k loaded nest trace c b (past_own kind.Cap log) (notes_in log) stack (stood loaded nest cost trace b.time c b stack log l) none due
+          rw (made-push log (entry_of b.time k))
+          (enter_stood k loaded nest trace c b (made log) (notes_in log) stack (stood loaded nest cost trace b.time c b stack log l) l.made_past none
+          (unheld_down c b stack l.keeps down) due
           (entry_above_all nest stack (due_now c.orders.save_asked b) k l.sorted chosen));
       patient =
           rw still
           (entry_patient nest stack (due_now c.orders.save_asked b) (sees trace (journal loaded log) b.time)
           (sees trace (journal loaded (log ++ entry_of b.time k ∷ [])) b.time) k c.hold (entered_core c k).hold (called loaded nest trace log)
-          (sees_due loaded nest trace c b stack log l.keeps l.ground l.ties) chosen (rw down at l.patient));
+          (sees_due loaded nest trace c b stack log l.keeps l.ground l.ties l.gates (unheld_down c b stack l.keeps down)) chosen (rw down at l.patient));
       owes = entry_owes c b stack log k l.owes;
       reached = entry_reached cost trace b stack log k l.at_next l.reached;
       reached_by = entry_by cost trace b stack log k l.at_next l.reached;
-      fits = entry_fits loaded nest cost trace c b stack log k l chosen;
+      fits = entry_fits loaded nest cost trace c b stack log k l down chosen;
+      drive = entry_chops loaded log b.time k (subst (λ (st : List Kind). All (λ j. kind_number j < kind_number k) st) l.marks.stack_is
+          (entry_above_kinds nest stack (due_now c.orders.save_asked b) k l.sorted chosen));
     })
 
 -- ---- an own step
@@ -217,25 +222,28 @@ own_turn loaded nest cost trace c b outer log k answers some l none =
     let left : 0 < left_of c k = l.keeps.live k inside in
     let held : b.masked ≡ true → 0 < c.hold = (λ m. (let a = l.keeps.enough m k refl in let n = need_some k c in omega arith)) in
     let bound : Bounds k c b s = goes_bounds k answers c b left l.keeps.hold (steady k c b (k ∷ outer) l.keeps refl) in
-    let made =
-    step_made k answers loaded nest trace c b (past_own kind.Cap log) (notes_in log) outer (stood loaded nest cost trace b.time c b (k ∷ outer) log l)
-    l.cap_past
-    (λ j above. l.keeps.shut j (closed_above (k ∷ outer) j l.sorted above)) left in
+    let step =
+    step_made k answers loaded nest trace c b (made log) (notes_in log) outer (stood loaded nest cost trace b.time c b (k ∷ outer) log l)
+    l.made_past
+    (λ j above. l.keeps.shut j (closed_above (k ∷ outer) j l.sorted above)) (holds_alone c b k outer l.keeps) left in
     logged_after loaded nest cost trace c s.core b b' (k ∷ outer) (open_left k outer s) log (own_of b.time k notes) some refl l (record {
       keeps = keeps_own k c b outer s l.sorted l.keeps bound;
       sorted = left_stack s.over k outer l.sorted;
       time = access_time b s.access;
-      out = rw (past-push kind.Cap log (own_of b.time k notes)) made.0;
+      out = rw (made-push log (own_of b.time k notes)) step.0;
       patient =
           own_patient nest k outer (open_left k outer s) (due_now c.orders.save_asked b) (sees trace (journal loaded log) b.time)
           (sees trace (journal loaded (log ++ own_of b.time k notes ∷ [])) b.time) b.masked b'.masked c.hold s.core.hold (called loaded nest trace log)
-          (λ m. sees_due loaded nest trace c b (k ∷ outer) log l.keeps l.ground l.ties) none
+          (λ m. sees_due loaded nest trace c b (k ∷ outer) log l.keeps l.ground l.ties l.gates (unheld_down c b (k ∷ outer) l.keeps m)) none
           (left_goes s.over b'.masked k outer (mask_down k (need_of c k) c.hold b s bound.mask)) held (λ m. bound.mask.most) bound.mask.less l.patient;
       owes = own_owes c s.core outer log k b.time notes s.over l.owes bound.moves.less (λ j ne. (bound.moves.others j ne).0);
       reached = λ j o. reached_on cost trace log (own_of b.time k notes) j refl (l.at_next (λ e. cc)) (l.reached j (left_open s.over k j outer o));
       reached_by = λ j o t below.
           by_on cost trace log (own_of b.time k notes) j t refl (l.at_next (λ e. cc)) (l.reached j (left_open s.over k j outer o)) below;
-      fits = own_fits loaded nest cost trace c b outer log k notes l made.1 made.2;
+      fits = own_fits loaded nest cost trace c b outer log k notes l step.1 step.2;
+      drive = own_chops loaded nest trace c b s log k l.gates
+          (subst (λ (ns : List Note). WordTold s.core b' (reverse (opening loaded ++ ns))) (sym (notes-push log (own_of b.time k notes))) step.0.gates)
+          (l.ties kind.Comm).sector_is step.3;
     })
 
 -- the open kinds after it, by what the handler did

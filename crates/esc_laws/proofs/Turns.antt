@@ -15,10 +15,13 @@ use Rattle.interrupt_machine.proofs.Waiting.{same_patient, patient_most}
 use Rattle.esc_core.specs.Brain.{Brain}
 use Rattle.esc_core.specs.Firmware.{left_of}
 use Rattle.esc_laws.specs.Seen.{sees}
-use Rattle.esc_laws.specs.Steps.{Turned, notes_in, journal, open_in, next_step, after, uses, is_of, own_steps, past_own, steps_since, entered_at, called, StepFits, Below}
+use Rattle.esc_laws.specs.Steps.{Turned, stall_end, notes_in, journal, open_in, next_step, after, uses, is_of, own_steps, steps_since, entered_at, called, StepFits, Below}
 use Rattle.esc_laws.specs.Tied.{Keeps}
-use Rattle.esc_laws.specs.Logged.{stall_end, Logged}
-use Rattle.esc_laws.proofs.Pushes.{All-later, notes-push, after-push, past-push, entered-push, since-push, called-push, uses-more, step-push}
+use Rattle.esc_laws.specs.ChopSteps.{ChopFits}
+use Rattle.esc_laws.specs.World.{Made, made_next, made}
+use Rattle.esc_laws.specs.Rooms.{Past}
+use Rattle.esc_laws.specs.Logged.{Logged}
+use Rattle.esc_laws.proofs.Pushes.{All-later, notes-push, after-push, made-push, entered-push, since-push, called-push, uses-more, step-push}
 use Rattle.esc_laws.proofs.Stalls.{free_ended}
 use Rattle.esc_laws.proofs.Stages.{Stood}
 
@@ -54,10 +57,19 @@ by_new cost trace log e j t f b = rw (since-push j log e, entered-push j log e, 
 -- ---- what holds between two steps, in the words of the rooms
 
 pub stood : (loaded : Loaded) (nest : Nest) (cost : ℕ) (trace : List Event) (next : ℕ) (c : Brain) (b : Bank) (stack : List Kind) (log : List Turned)
-    → Logged loaded nest cost trace next c b stack log → Stood loaded nest trace c b (past_own kind.Cap log) (notes_in log) stack
+    → Logged loaded nest cost trace next c b stack log → Stood loaded nest trace c b (made log) (notes_in log) stack
 stood loaded nest cost trace next c b stack log l = record {
-  said = record { in_time = l.marks.in_time; windowed = l.marks.windowed; nested = l.marks.nested; past = l.marks.past };
-  gates = l.marks.gates;
+  said = record {
+    in_time = l.marks.in_time;
+    windowed = l.marks.windowed;
+    dead_safe = l.marks.dead_safe;
+    driven = l.marks.driven;
+    commutated = l.marks.commutated;
+    nested = l.marks.nested;
+    waits = l.marks.waits;
+    past = l.marks.past;
+  };
+  gates = l.gates;
   ground = l.ground;
   ties = l.ties;
   stack_is = sym l.marks.stack_is;
@@ -78,10 +90,11 @@ pub record Given (loaded : Loaded) (nest : Nest) (cost : ℕ) (trace : List Even
   pub keeps : Keeps c' b' stack'
   pub sorted : IsStack stack'
   pub time : b'.time ≡ b.time
-  pub out : Stood loaded nest trace c' b' (past_own kind.Cap (log ++ e ∷ [])) (notes_in log ++ e.notes) stack'
+  pub out : Stood loaded nest trace c' b' (made (log ++ e ∷ [])) (notes_in log ++ e.notes) stack'
   pub patient : Patient nest c'.hold b'.masked stack' (sees trace (journal loaded (log ++ e ∷ [])) b.time)
       (λ k. counted_by loaded nest trace b.time stack stack' log e k)
   pub owes : (k : Kind) → is_open stack' k ≡ true → own_steps k (log ++ e ∷ []) + left_of c' k ≤ most k
+  pub drive : ChopFits loaded log e
   pub reached : (k : Kind) → is_open stack' k ≡ true
       → after cost trace (log ++ e ∷ []) ≡ uses cost trace (steps_since k (log ++ e ∷ []) + 1) (entered_at k (log ++ e ∷ []))
   pub reached_by : (k : Kind) → is_open stack' k ≡ true → (t : ℕ) → Below t (log ++ e ∷ [])
@@ -100,9 +113,9 @@ pub logged_after : (loaded : Loaded) (nest : Nest) (cost : ℕ) (trace : List Ev
     → e.tick ≡ b.time → Logged loaded nest cost trace b.time c b stack log → Given loaded nest cost trace c' b b' stack stack' log e
     → Logged loaded nest cost trace (b.time + cost) c' b' stack' (log ++ e ∷ [])
 logged_after loaded nest cost trace c c' b b' stack stack' log e some at l g =
-    let since : ℕ = past_own kind.Cap (log ++ e ∷ []) in
-    let out : Stood loaded nest trace c' b' since (notes_in (log ++ e ∷ [])) stack' =
-    subst (λ (r : List Note). Stood loaded nest trace c' b' since r stack') (sym (notes-push log e)) g.out in
+    let steps : Made = made (log ++ e ∷ []) in
+    let out : Stood loaded nest trace c' b' steps (notes_in (log ++ e ∷ [])) stack' =
+    subst (λ (r : List Note). Stood loaded nest trace c' b' steps r stack') (sym (notes-push log e)) g.out in
     let ends : All (λ x. stall_end x ≤ b.time + cost) trace = All-later stall_end trace b.time (b.time + cost) (omega arith) l.stalls in
     let next : after cost trace (log ++ e ∷ []) ≡ b.time + cost =
     after-push cost trace log e ∙ ap (λ (t : ℕ). next_step cost trace t) at ∙ free_ended trace b.time (b.time + cost) l.stalls (omega arith) in
@@ -120,11 +133,15 @@ logged_after loaded nest cost trace c c' b b' stack stack' log e some at l g =
       marks = record {
         in_time = out.said.in_time;
         windowed = out.said.windowed;
+        dead_safe = out.said.dead_safe;
+        driven = out.said.driven;
+        commutated = out.said.commutated;
         nested = out.said.nested;
+        waits = out.said.waits;
         stack_is = sym out.stack_is;
         past = out.said.past;
-        gates = out.gates;
       };
+      gates = out.gates;
       ground = out.ground;
       ties = out.ties;
       patient = subst
@@ -136,10 +153,10 @@ logged_after loaded nest cost trace c c' b b' stack stack' log e some at l g =
       fits = step-push (StepFits loaded nest cost trace) [] log e l.fits
           (g.fits
           (patient_most nest c'.hold b'.masked stack' (sees trace (journal loaded (log ++ e ∷ [])) b.time) (called loaded nest trace (log ++ e ∷ [])) patient));
+      drives = step-push (ChopFits loaded) [] log e l.drives g.drive;
       past = rw next (omega arith);
-      cap_past =
-          rw (past-push kind.Cap log e)
-          (past_soon (not e.enters && is_of kind.Cap e) e.tick (past_own kind.Cap log) (omega arith) (let p = l.cap_past in omega arith));
+      made_past = rw (made-push log e) (past_soon e.kind e.enters e.tick (made log) (omega arith)
+          (record { cap = (let p = l.made_past.cap in omega arith); comm = (let p = l.made_past.comm in omega arith) }));
       awaits = record { open_step = λ o. rw next (omega arith); idle = λ o t from below f k. absurd (let n = next in omega arith) };
       time = rw g.time (omega arith);
       put_off = λ u from below past f. absurd (let n = next in omega arith);
@@ -147,6 +164,10 @@ logged_after loaded nest cost trace c c' b b' stack stack' log e some at l g =
       at_next = λ o. sym next;
     }
   where
-    past_soon : (v : Bool) (t since : ℕ) → t + 1 ≤ b.time + cost → since ≤ b.time + cost → (if v then t + 1 else since) ≤ b.time + cost
-    past_soon true t since a c = a
-    past_soon false t since a c = c
+    past_soon : (k : Kind) (enters : Bool) (t : ℕ) (m : Made) → t + 1 ≤ b.time + cost → Past m (b.time + cost)
+        → Past (made_next k enters t m) (b.time + cost)
+    past_soon kind.Cap false t m a p = record { cap = a; comm = p.comm }
+    past_soon kind.Comm enters t m a p = record { cap = p.cap; comm = a }
+    past_soon kind.Pwm true t m a p = record { cap = p.cap; comm = p.comm }
+    past_soon kind.Pwm false t m a p = record { cap = p.cap; comm = p.comm }
+    past_soon k enters t m a p = p

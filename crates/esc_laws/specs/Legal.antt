@@ -7,15 +7,22 @@ use Rattle.esc_base.specs.Journal.{Journal}
 use Rattle.esc_base.specs.Range.{InRange}
 use Rattle.settings_block.specs.declared.stored.Loaded.{Loaded}
 use Rattle.interrupt_machine.specs.declared.nest.Nest.{Nest}
+use Rattle.interrupt_machine.specs.declared.nest.Nest.TheVariants.{Full}
 use Rattle.arming.specs.Controlled.{Controlled}
+use Rattle.commutation.specs.Commutated.{Commutated}
+use Rattle.gate_driver.specs.DeadSafe.{DeadSafe}
 use Rattle.esc_laws.specs.Windowed.{Windowed}
+use Rattle.esc_laws.specs.Driven.{Driven}
+use Rattle.esc_laws.specs.Chopped.{Chopped}
+use Rattle.esc_laws.specs.Saves.{forward_at}
 use Rattle.esc_laws.specs.Nested.{NestedAfter}
 use Rattle.esc_laws.specs.Steps.{Turned, opening, journal, notes_in, EachStep, StepFits, Awaits, OpenFew, Below}
 
 -- The journal is legal up to tick T for the settings that were loaded, a trace, a step cost and a nesting: it begins with
--- the load and the first window; each note's numbers are in the range of its line, and times never fall; windows, control and nesting keep their rules; and there is a log of
--- steps of which the other notes are the notes, whose steps stand at the ticks that the cost and the stalls give, each kind
--- in time, below T, and which lacks no step that is due below T.
+-- the load and the first window; each note's numbers are in the range of its line, and times never fall; windows, control,
+-- the dead time, the drive, sectors and nesting keep their rules, and with full nesting the chopping does; and there is a list
+-- of machine steps whose notes, joined, are the rest of the journal: each stands at a tick that the cost and the stalls give,
+-- below T, and each kind comes in time; no step that is due below T is left out.
 pub record Legal (loaded : Loaded) (nest : Nest) (cost : ℕ) (trace : List Event) (until : ℕ) (notes : List Note) : Type 0 where
   pub rest : List Note
   pub begins : notes ≡ opening loaded ++ rest
@@ -23,6 +30,10 @@ pub record Legal (loaded : Loaded) (nest : Nest) (cost : ℕ) (trace : List Even
   pub in_time : Journal notes
   pub windowed : Windowed loaded trace notes
   pub controlled : Controlled notes
+  pub dead_safe : DeadSafe notes
+  pub driven : Driven notes
+  pub commutated : Commutated loaded.settings.advance (forward_at loaded.settings) notes
+  pub chopped : nest ≡ Full → Chopped cost trace until notes
   pub nested : NestedAfter nest (opening loaded) rest
   pub log : List Turned
   pub steps_are : rest ≡ notes_in log
@@ -32,7 +43,7 @@ pub record Legal (loaded : Loaded) (nest : Nest) (cost : ℕ) (trace : List Even
   pub open_few : OpenFew loaded log
 
 -- What stands where a write failed: whole steps, and a front of the notes of one more step. The journal is legal but for
--- that step's later notes.
+-- that step's later notes. Of the chopping it claims the ticks below that step's.
 pub record LegalFront (loaded : Loaded) (nest : Nest) (cost : ℕ) (trace : List Event) (notes : List Note) : Type 0 where
   pub log : List Turned
   pub broken : Turned
@@ -44,6 +55,10 @@ pub record LegalFront (loaded : Loaded) (nest : Nest) (cost : ℕ) (trace : List
   pub in_time : Journal notes
   pub windowed : Windowed loaded trace notes
   pub controlled : Controlled notes
+  pub dead_safe : DeadSafe notes
+  pub driven : Driven notes
+  pub commutated : Commutated loaded.settings.advance (forward_at loaded.settings) notes
+  pub chopped : nest ≡ Full → Chopped cost trace broken.tick notes
   pub nested : NestedAfter nest (opening loaded) (notes_in log ++ front)
   pub fits : EachStep (StepFits loaded nest cost trace) [] (log ++ broken ∷ [])
   pub below : Below broken.tick log

@@ -5,10 +5,9 @@ use Rattle.std.proofs.Common.{inl, inr}
 use Rattle.esc_base.specs.declared.kind.Kind.{Kind}
 use Rattle.esc_base.specs.declared.kind.Kind.TheVariants as kind
 use Rattle.esc_base.specs.declared.event.Event.{Event}
-use Rattle.esc_base.specs.declared.event.Event.TheVariants as event
 use Rattle.esc_base.specs.declared.note.Note.{Note}
 use Rattle.esc_base.specs.Flash.{Told}
-use Rattle.esc_base.specs.Journal.{Journal, time_of}
+use Rattle.esc_base.specs.Journal.{Each, Journal, time_of}
 use Rattle.settings_block.specs.declared.stored.Loaded.{Loaded}
 use Rattle.timer_regs.specs.Bank.{Bank}
 use Rattle.timer_regs.specs.Effects.{reset, written}
@@ -21,31 +20,34 @@ use Rattle.interrupt_machine.specs.Turn.{Turn}
 use Rattle.esc_core.specs.Brain.{Brain}
 use Rattle.esc_core.specs.Calls.{IsMade}
 use Rattle.esc_core.specs.Firmware.{core_step, core_asked, entered_core, left_of}
+use Rattle.commutation.specs.Commutated.{Commutated}
+use Rattle.gate_driver.specs.DeadSafe.{DeadSafe}
 use Rattle.esc_laws.specs.Windowed.{Windowed}
+use Rattle.esc_laws.specs.Driven.{Driven}
+use Rattle.esc_laws.specs.Saves.{forward_at}
 use Rattle.esc_laws.specs.Nested.{NestedAfter}
 use Rattle.esc_laws.specs.Seen.{sees}
-use Rattle.esc_laws.specs.Steps.{Turned, opening, notes_in, journal, open_in, free, after, uses, own_steps, steps_since, entered_at, past_own, called, EachStep, StepFits, Awaits, Below}
-use Rattle.esc_laws.specs.Tied.{Keeps, GatesTied}
-use Rattle.esc_laws.specs.World.{world}
-use Rattle.esc_laws.specs.Rooms.{Ground, Tie}
+use Rattle.esc_laws.specs.Steps.{Turned, stall_end, opening, notes_in, journal, open_in, free, after, uses, own_steps, steps_since, entered_at, called, EachStep, StepFits, Awaits, Below}
+use Rattle.esc_laws.specs.Tied.{Keeps, WordTold}
+use Rattle.esc_laws.specs.ChopSteps.{ChopFits}
+use Rattle.esc_laws.specs.World.{made, world}
+use Rattle.esc_laws.specs.Rooms.{Past, Ground, Tie, TurnWaits}
 
 -- the registers at the start of a run: the first window is open in mode 0
 abbrev pub first_bank : Bank
 first_bank = written reset reg.CapArm 0
 
--- the journal keeps its laws, is no later than now, and its newest G tells the gate word
+-- the journal keeps its laws, and is no later than now
 pub record Marks (loaded : Loaded) (nest : Nest) (trace : List Event) (b : Bank) (stack : List Kind) (log : List Turned) : Type 0 where
   pub in_time : Journal (journal loaded log)
   pub windowed : Windowed loaded trace (journal loaded log)
+  pub dead_safe : DeadSafe (journal loaded log)
+  pub driven : Driven (journal loaded log)
+  pub commutated : Commutated loaded.settings.advance (forward_at loaded.settings) (journal loaded log)
   pub nested : NestedAfter nest (opening loaded) (notes_in log)
+  pub waits : Each (λ before n. TurnWaits (reverse before) n) [] (journal loaded log)
   pub stack_is : stack ≡ open_in loaded log
   pub past : All (λ n. time_of n ≤ b.time) (journal loaded log)
-  pub gates : GatesTied b.hi b.lo (reverse (journal loaded log))
-
--- the tick at which an event's stall is over, 0 for one that is none
-abbrev pub stall_end : Event → ℕ
-stall_end (event.Stall at n) = at.0 + n
-stall_end e = 0
 
 -- `next` is the tick of the next step, or earlier than it while nothing is due
 pub record Logged (loaded : Loaded) (nest : Nest) (cost : ℕ) (trace : List Event) (next : ℕ) (c : Brain) (b : Bank) (stack : List Kind)
@@ -53,6 +55,7 @@ pub record Logged (loaded : Loaded) (nest : Nest) (cost : ℕ) (trace : List Eve
   pub keeps : Keeps c b stack
   pub sorted : IsStack stack
   pub marks : Marks loaded nest trace b stack log
+  pub gates : WordTold c b (reverse (journal loaded log))
   pub ground : Ground (world loaded nest trace c b log)
   pub ties : (k : Kind) → Tie k (world loaded nest trace c b log)
   pub patient : Patient nest c.hold b.masked stack (sees trace (journal loaded log) b.time) (called loaded nest trace log)
@@ -61,8 +64,9 @@ pub record Logged (loaded : Loaded) (nest : Nest) (cost : ℕ) (trace : List Eve
   -- and the newest step of the log stands where `next_step` leads from the entry
   pub reached_by : (k : Kind) → is_open stack k ≡ true → (t : ℕ) → Below t log → uses cost trace (steps_since k log) (entered_at k log) < t
   pub fits : EachStep (StepFits loaded nest cost trace) [] log
+  pub drives : EachStep (ChopFits loaded) [] log
   pub past : after cost trace log ≤ next
-  pub cap_past : past_own kind.Cap log ≤ next
+  pub made_past : Past (made log) next
   pub awaits : Awaits loaded cost trace next log
   pub time : b.time ≤ next
   -- from now to the next step there is no tick that a step could have

@@ -1,6 +1,6 @@
 -- A law, or what a law is said with: what `Legal` means rests on this.
 -- How activations nest, and which notes belong to which activation.
-use Rattle.std.specs.Prelude.{◌≡◌, ◌<◌, ◌⊎◌, ℕ, List, Some, All}
+use Rattle.std.specs.Prelude.{◌≡◌, ◌<◌, ◌⊎◌, ℕ, true, List, reverse, Option, Some, None, All}
 use Rattle.esc_base.specs.declared.kind.Kind.{Kind}
 use Rattle.esc_base.specs.declared.kind.Kind.TheVariants as kind
 use Rattle.esc_base.specs.declared.note.Note.{Note}
@@ -11,6 +11,7 @@ use Rattle.interrupt_machine.specs.declared.nest.Nest.{Nest}
 use Rattle.interrupt_machine.specs.declared.nest.Nest.TheVariants.{One, Full}
 use Rattle.interrupt_machine.specs.Open.{kind_of, innermost}
 use Rattle.esc_laws.specs.Place.{Place, place}
+use Rattle.esc_laws.specs.Calls.{calls_pwm, HasTurned, HasCaughtUp}
 
 -- an entered kind has a higher number than each open one; with nest 1 none above MAIN is open
 abbrev pub IsAboveAll : Nest → List Kind → ℕ → Type 0
@@ -26,36 +27,56 @@ IsIn k p = innermost p.stack ≡ Some k
 abbrev pub IsBuilt : Kind → Type 0
 IsBuilt kind.Uart = ⊥
 IsBuilt kind.Cmp = ⊥
-IsBuilt kind.Pwm = ⊥
-IsBuilt kind.Comm = ⊥
 IsBuilt k = Unit {0}
 
--- a TICK that returns has one K; a CAP that returns has one F, or one W without an F; a MAIN that returns has one P
-abbrev pub HasDone : Kind → Place → Type 0
-HasDone kind.Tick p = p.ticks ≡ 1
-HasDone kind.Cap p = (p.verdicts ≡ 1) ⊎ ((p.verdicts ≡ 0) × (p.windows ≡ 1))
-HasDone kind.Main p = p.saves ≡ 1
-HasDone k p = ⊥
+-- PWM is entered at t only where it is called: between two neighbouring I of it a K with a demand stands, or an edge of the
+-- newest K's demand
+abbrev pub IsAsked : Kind → List Note → ℕ → Type 0
+IsAsked kind.Pwm back t = calls_pwm back t ≡ true
+IsAsked k back t = Unit {0}
 
--- the rule of a note at a place
-abbrev pub NestRuleAt : Nest → Place → Note → Type 0
-NestRuleAt nest p (note.Enter t k) = IsBuilt (kind_of k) × IsAboveAll nest p.stack k
-NestRuleAt nest p (note.Leave t k) = IsIn (kind_of k) p × HasDone (kind_of k) p
-NestRuleAt nest p (note.Window t m) = IsIn kind.Cap p
-NestRuleAt nest p (note.Good t v q) = IsIn kind.Cap p
-NestRuleAt nest p (note.Detected t m) = IsIn kind.Cap p
-NestRuleAt nest p (note.Nothing t) = IsIn kind.Cap p
-NestRuleAt nest p (note.Bad t w) = IsIn kind.Cap p
-NestRuleAt nest p (note.Command t c) = IsIn kind.Cap p
-NestRuleAt nest p (note.Control t n s d) = IsIn kind.Tick p
-NestRuleAt nest p (note.Armed t) = IsIn kind.Tick p
-NestRuleAt nest p (note.Lost t c) = IsIn kind.Tick p
-NestRuleAt nest p (note.Saved t r) = IsIn kind.Main p
+-- a TICK that returns has one K; a CAP that returns has one F, or one W without an F; a MAIN that returns has one P; a COMM
+-- that returns has one Q, or has turned a postponed low switch on
+abbrev pub HasDone : Kind → Place → List Note → Type 0
+HasDone kind.Tick p back = p.ticks ≡ 1
+HasDone kind.Cap p back = (p.verdicts ≡ 1) ⊎ ((p.verdicts ≡ 0) × (p.windows ≡ 1))
+HasDone kind.Main p back = p.saves ≡ 1
+HasDone kind.Comm p back = HasTurned back ⊎ HasCaughtUp back
+HasDone kind.Pwm p back = Unit {0}
+HasDone k p back = ⊥
+
+-- the gate word changes in COMM, PWM and TICK
+abbrev pub Switches : Kind → Type 0
+Switches kind.Comm = Unit {0}
+Switches kind.Pwm = Unit {0}
+Switches kind.Tick = Unit {0}
+Switches k = ⊥
+
+abbrev pub SwitchesIn : Option Kind → Type 0
+SwitchesIn None = ⊥
+SwitchesIn (Some k) = Switches k
+
+-- the rule of a note at a place, after these notes with the newest first
+abbrev pub NestRuleAt : Nest → Place → List Note → Note → Type 0
+NestRuleAt nest p back (note.Enter t k) = IsBuilt (kind_of k) × IsAboveAll nest p.stack k × IsAsked (kind_of k) back t.0
+NestRuleAt nest p back (note.Leave t k) = IsIn (kind_of k) p × HasDone (kind_of k) p back
+NestRuleAt nest p back (note.Gate t hi lo) = SwitchesIn (innermost p.stack)
+NestRuleAt nest p back (note.Step t s) = IsIn kind.Comm p
+NestRuleAt nest p back (note.Window t m) = IsIn kind.Cap p
+NestRuleAt nest p back (note.Good t v q) = IsIn kind.Cap p
+NestRuleAt nest p back (note.Detected t m) = IsIn kind.Cap p
+NestRuleAt nest p back (note.Nothing t) = IsIn kind.Cap p
+NestRuleAt nest p back (note.Bad t w) = IsIn kind.Cap p
+NestRuleAt nest p back (note.Command t c) = IsIn kind.Cap p
+NestRuleAt nest p back (note.Control t n s d) = IsIn kind.Tick p
+NestRuleAt nest p back (note.Armed t) = IsIn kind.Tick p
+NestRuleAt nest p back (note.Lost t c) = IsIn kind.Tick p
+NestRuleAt nest p back (note.Saved t r) = IsIn kind.Main p
 -- the others don't stand in a journal yet
-NestRuleAt nest p n = ⊥
+NestRuleAt nest p back n = ⊥
 
 abbrev pub NestRule : Nest → List Note → Note → Type 0
-NestRule nest before n = NestRuleAt nest (place before) n
+NestRule nest before n = NestRuleAt nest (place before) (reverse before) n
 
 -- the notes after `before` nest
 abbrev pub NestedAfter : Nest → List Note → List Note → Type 0

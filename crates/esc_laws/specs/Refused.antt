@@ -1,7 +1,7 @@
 -- Shown of the laws, and no law.
 -- What the laws refuse: small wrong journals, each with the sentence that it breaks. Each is proved to break its law, so whoever
 -- weakens a law meets them.
-use Rattle.std.specs.Prelude.{◌≡◌, ◌<◌, ◌≤◌, ◌+◌, ℕ, zero, suc, true, false, List, [], ◌∷◌, ◌++◌}
+use Rattle.std.specs.Prelude.{◌≡◌, ◌<◌, ◌≤◌, ◌+◌, ℕ, zero, suc, Bool, true, false, List, [], ◌∷◌, ◌++◌}
 use Rattle.esc_base.specs.declared.kind.Kind.{Kind}
 use Rattle.esc_base.specs.declared.kind.Kind.TheVariants as kind
 use Rattle.esc_base.specs.declared.event.Event.{Event}
@@ -13,10 +13,14 @@ use Rattle.settings_block.specs.declared.stored.Loaded.{Loaded}
 use Rattle.interrupt_machine.specs.declared.nest.Nest.{Nest}
 use Rattle.interrupt_machine.specs.declared.nest.Nest.TheVariants.{One, Full}
 use Rattle.arming.specs.Controlled.{Controlled}
+use Rattle.commutation.specs.Commutated.{Commutated}
+use Rattle.gate_driver.specs.DeadSafe.{DeadSafe}
 use Rattle.esc_laws.specs.Windowed.{Windowed}
+use Rattle.esc_laws.specs.Driven.{Driven}
+use Rattle.esc_laws.specs.Saves.{forward_at}
 use Rattle.esc_laws.specs.Nested.{NestedAfter}
 use Rattle.esc_laws.specs.Steps.{Turned, opening, open_in, own_steps, EachStep, StepFits, OpenFew}
-use Rattle.esc_laws.specs.Legal.{Legal}
+use Rattle.esc_laws.specs.Legal.{Legal, LegalFront}
 
 -- ---- notes, each at its tick
 
@@ -59,6 +63,16 @@ acts t command = note.Command (as_tick t) command
 abbrev pub saves : ℕ → ℕ → Note
 saves t result = note.Saved (as_tick t) result
 
+-- G, Q and Z
+abbrev pub switches : ℕ → ℕ → ℕ → Note
+switches t high low = note.Gate (as_tick t) high low
+
+abbrev pub turns : ℕ → ℕ → Note
+turns t sector = note.Step (as_tick t) sector
+
+abbrev pub crosses : ℕ → Note
+crosses t = note.Cross (as_tick t)
+
 -- the load of the settings, and the first window
 abbrev pub first_two : List Note
 first_two = note.Up (as_tick 0) 0 ∷ window 0 0 ∷ []
@@ -67,6 +81,11 @@ first_two = note.Up (as_tick 0) 0 ∷ window 0 0 ∷ []
 abbrev pub frames : ℕ → ℕ → List Note → List Note
 frames zero value rest = rest
 frames (suc n) value rest = good 100 value ∷ frames n value rest
+
+-- so many sector changes, and then these notes
+abbrev pub rows : ℕ → List Note → List Note
+rows zero rest = rest
+rows (suc n) rest = turns 2500 1 ∷ rows n rest
 
 -- ---- control
 
@@ -110,6 +129,11 @@ pub record ControlRefuses : Type 0 where
   -- a P stands only where command 12 has asked for it since the last one
   pub save_that_nobody_asked_for : Uncontrolled (saves 2404 0 ∷ [])
   pub saved_twice : Uncontrolled (armed (frames 6 12 (acts 12000100 12 ∷ saves 12000200 0 ∷ saves 12000300 0 ∷ [])))
+  -- stuck stands where 60 forced Q stood in a row since the newest K with demand 0; the first Q of a drive isn't forced
+  pub stuck_after_59 : Uncontrolled (ticks 2404 1 0 20 ∷ rows 60 (ticks 4804 2 1 0 ∷ []))
+  pub no_mark_after_60 : Uncontrolled (ticks 2404 1 0 20 ∷ rows 61 (ticks 4804 2 0 0 ∷ []))
+  pub stuck_in_the_next_drive : Uncontrolled (ticks 2404 1 0 20 ∷ rows 61 (ticks 4804 2 1 0 ∷ ticks 7204 3 1 0 ∷ []))
+  pub row_that_a_crossing_ended : Uncontrolled (ticks 2404 1 0 20 ∷ rows 40 (crosses 3000 ∷ rows 40 (ticks 4804 2 1 0 ∷ [])))
 
 -- ---- windows
 
@@ -149,11 +173,88 @@ pub record WindowsRefuse : Type 0 where
   -- it opens in the mode that control is in
   pub window_in_another_mode : (trace : List Event) → Unwindowed trace (enters 5000 3 ∷ found 5080 2 ∷ window 5084 1 ∷ [])
 
+-- ---- the gates
+
+-- these notes break the dead time, whatever stands behind them
+abbrev pub Unsafe : List Note → Type 0
+Unsafe notes = (after : List Note) → DeadSafe (notes ++ after) → ⊥
+
+pub record GatesRefuse : Type 0 where
+  -- each G has another word than before, which is 0 0 at first
+  pub word_of_the_start : Unsafe (switches 100 0 0 ∷ [])
+  pub word_for_the_second_time : Unsafe (switches 100 1 2 ∷ switches 200 1 2 ∷ [])
+  -- no leg has both switches on
+  pub both_switches_of_a_leg : Unsafe (switches 100 2 3 ∷ [])
+  -- a switch turns on 48 ticks after the other one of its leg went off, or later
+  pub low_after_47_ticks : Unsafe (switches 100 1 0 ∷ switches 200 0 0 ∷ switches 247 0 1 ∷ [])
+  pub high_after_47_ticks : Unsafe (switches 100 0 4 ∷ switches 200 0 0 ∷ switches 247 4 0 ∷ [])
+  pub leg_changes_over_at_once : Unsafe (switches 100 1 0 ∷ switches 200 0 1 ∷ [])
+  pub off_time_of_another_leg : Unsafe (switches 100 3 0 ∷ switches 150 1 0 ∷ switches 200 0 0 ∷ switches 210 0 1 ∷ [])
+
+-- ---- the drive
+
+-- these notes break the rules of the drive, whatever stands behind them
+abbrev pub Undriven : List Note → Type 0
+Undriven notes = (after : List Note) → Driven (notes ++ after) → ⊥
+
+-- a drive is on in sector 1, whose high leg is A and whose low one is B
+abbrev pub driving : List Note → List Note
+driving rest = ticks 2404 1 0 20 ∷ turns 2420 1 ∷ rest
+
+pub record DriveRefuses : Type 0 where
+  -- after a K with demand 0 no G turns a switch on, and no Q and no Z stands
+  pub high_on_after_demand_0 : Undriven (driving (ticks 4804 2 0 0 ∷ switches 4810 1 0 ∷ []))
+  pub low_on_after_demand_0 : Undriven (driving (ticks 4804 2 0 0 ∷ switches 4810 0 2 ∷ []))
+  pub turn_after_demand_0 : Undriven (driving (ticks 4804 2 0 0 ∷ turns 4810 2 ∷ []))
+  pub crossing_after_demand_0 : Undriven (driving (ticks 4804 2 0 0 ∷ crosses 4810 ∷ []))
+  -- TICK returns from it with all switches off
+  pub low_left_on_at_demand_0 : Undriven (driving (switches 2422 0 2 ∷ ticks 4804 2 0 0 ∷ leaves 4820 2 ∷ []))
+  pub high_left_on_at_demand_0 : Undriven (driving (switches 2422 1 0 ∷ ticks 4804 2 0 0 ∷ leaves 4820 2 ∷ []))
+  -- no Q stands before the first K with a demand
+  pub turn_before_any_demand : Undriven (turns 2410 1 ∷ [])
+  -- the switches that are on are in the pair of the newest Q, and none is before any
+  pub on_before_any_turn : Undriven (ticks 2404 1 0 20 ∷ switches 2420 1 0 ∷ [])
+  pub high_of_another_sector : Undriven (driving (switches 2422 4 0 ∷ []))
+  pub low_of_another_sector : Undriven (driving (switches 2422 0 1 ∷ []))
+  pub turn_with_the_old_high_on : Undriven (driving (switches 2422 1 0 ∷ turns 242420 2 ∷ []))
+  pub turn_with_the_old_low_on : Undriven (driving (switches 2422 0 2 ∷ turns 242420 3 ∷ []))
+  pub chop_of_the_sector_before : Undriven (driving (turns 242420 2 ∷ switches 242430 1 0 ∷ []))
+
+-- these notes break the rules of sectors for settings with advance 0, whatever stands behind them
+abbrev pub Unturned : (List Note → Bool) → List Note → Type 0
+Unturned forward notes = (after : List Note) → Commutated 0 forward (notes ++ after) → ⊥
+
+pub record TurnsRefuse : Type 0 where
+  -- the first Q of all is 1, and each later one the sector after the last one in the direction
+  pub first_sector_2 : (forward : List Note → Bool) → Unturned forward (ticks 2404 1 0 20 ∷ turns 2410 2 ∷ [])
+  pub sector_left_out : (forward : List Note → Bool) → Unturned forward (driving (turns 242420 3 ∷ []))
+  pub backward_where_it_is_forward : Unturned (λ back. true) (driving (turns 242420 6 ∷ []))
+  pub forward_where_it_is_backward : Unturned (λ back. false) (driving (turns 242420 2 ∷ []))
+  -- a start goes on from the last sector
+  pub first_sector_again : (forward : List Note → Bool) → Unturned forward (driving (ticks 4804 2 0 0 ∷ ticks 7204 3 0 20 ∷ turns 7210 1 ∷ []))
+  -- the direction is that after the acts of all M before the Q, whatever the settings were at the start of the drive
+  pub direction_of_the_start : (loaded : Loaded)
+      → Unturned (forward_at loaded.settings) (acts 100 7 ∷ acts 200 20 ∷ driving (acts 5000 21 ∷ turns 242420 2 ∷ []))
+  -- a Q stands within a drive alone; where no Z stands since the last one, it is 240000 ticks after that, or more
+  pub turn_without_a_drive : (forward : List Note → Bool) → Unturned forward (turns 2410 1 ∷ [])
+  pub turn_after_the_drive : (forward : List Note → Bool) → Unturned forward (driving (ticks 4804 2 0 0 ∷ turns 242420 2 ∷ []))
+  pub forced_after_239999 : (forward : List Note → Bool) → Unturned forward (driving (turns 242419 2 ∷ []))
+  -- after a Z it waits for half the interval, which is 24000 at first
+  pub crossed_after_11999 : (forward : List Note → Bool) → Unturned forward (driving (crosses 10000 ∷ turns 21999 2 ∷ []))
+
 -- ---- nesting
 
 -- these notes, behind the first two, don't nest, whatever stands behind them
 abbrev pub Unnested : Nest → List Note → Type 0
 Unnested nest notes = (loaded : Loaded) (after : List Note) → NestedAfter nest (opening loaded) (notes ++ after) → ⊥
+
+-- TICK has started a drive
+abbrev pub started : List Note → List Note
+started rest = enters 2400 2 ∷ ticks 2404 1 0 20 ∷ leaves 2408 2 ∷ rest
+
+-- and COMM has changed to sector 1, but its low switch has to wait, since the high one of that leg went off a moment ago
+abbrev pub late_low : List Note → List Note
+late_low rest = started (enters 2410 6 ∷ switches 2411 2 0 ∷ switches 2416 0 0 ∷ turns 2420 1 ∷ leaves 2430 6 ∷ rest)
 
 pub record NestingRefuses : Type 0 where
   -- O stands for the innermost open kind
@@ -166,8 +267,6 @@ pub record NestingRefuses : Type 0 where
   -- kinds that aren't built don't enter
   pub uart_enters : (nest : Nest) → Unnested nest (enters 2400 1 ∷ [])
   pub cmp_enters : (nest : Nest) → Unnested nest (enters 2400 4 ∷ [])
-  pub pwm_enters : (nest : Nest) → Unnested nest (enters 2400 5 ∷ [])
-  pub comm_enters : (nest : Nest) → Unnested nest (enters 2400 6 ∷ [])
   -- W, F and M stand in CAP; K, A and X in TICK; P in MAIN
   pub window_in_tick : (nest : Nest) → Unnested nest (enters 2400 2 ∷ window 2402 0 ∷ [])
   pub verdict_where_none_is_open : (nest : Nest) → Unnested nest (nothing 5000 ∷ [])
@@ -185,6 +284,30 @@ pub record NestingRefuses : Type 0 where
   -- a MAIN that returns has one P
   pub main_returns_without_one : (nest : Nest) → Unnested nest (enters 2400 0 ∷ leaves 2404 0 ∷ [])
   pub main_returns_with_two : (nest : Nest) → Unnested nest (enters 2400 0 ∷ saves 2402 0 ∷ saves 2404 0 ∷ leaves 2406 0 ∷ [])
+  -- Q stands in COMM; the word changes in COMM, PWM and TICK; no Z stands yet
+  pub turn_in_tick : (nest : Nest) → Unnested nest (enters 2400 2 ∷ turns 2402 1 ∷ [])
+  pub turn_in_pwm : (nest : Nest) → Unnested nest (enters 2400 5 ∷ turns 2402 1 ∷ [])
+  pub word_changes_in_cap : (nest : Nest) → Unnested nest (enters 2400 3 ∷ switches 2402 1 0 ∷ [])
+  pub word_changes_where_none_is_open : (nest : Nest) → Unnested nest (switches 2402 1 0 ∷ [])
+  pub crossing_in_comm : (nest : Nest) → Unnested nest (enters 2400 6 ∷ crosses 2402 ∷ [])
+  -- a COMM that returns has at most one Q, and has one where a sector change was due at its entry
+  pub comm_returns_with_two_turns : (nest : Nest) → Unnested nest (started (enters 2410 6 ∷ turns 2420 1 ∷ turns 2422 2 ∷ leaves 2430 6 ∷ []))
+  pub comm_returns_without_a_turn : (nest : Nest) → Unnested nest (started (enters 2410 6 ∷ leaves 2430 6 ∷ []))
+  pub forced_turn_left_out : (nest : Nest) → Unnested nest (late_low (enters 242424 6 ∷ switches 242430 0 2 ∷ leaves 242440 6 ∷ []))
+  -- it returns with the low switch of its Q's pair on, or where the high one of that leg went off 48 ticks before the Q at most
+  pub low_switch_left_off : (nest : Nest) → Unnested nest (started (enters 2410 6 ∷ turns 2420 1 ∷ leaves 2430 6 ∷ []))
+  pub low_switch_postponed_for_nothing : (nest : Nest)
+      → Unnested nest (started (enters 2410 6 ∷ switches 2411 2 0 ∷ switches 2412 0 0 ∷ turns 2460 1 ∷ leaves 2470 6 ∷ []))
+  -- a COMM without a Q turns the low switch on that the one with the newest Q had left off, once after each Q
+  pub comm_for_nothing : (nest : Nest) → Unnested nest (enters 2410 6 ∷ leaves 2430 6 ∷ [])
+  pub postponed_switch_left_off : (nest : Nest) → Unnested nest (late_low (enters 2470 6 ∷ leaves 2480 6 ∷ []))
+  pub postponed_switch_twice : (nest : Nest)
+      → Unnested nest (late_low (enters 2470 6 ∷ switches 2475 0 2 ∷ leaves 2480 6 ∷ enters 2490 6 ∷ leaves 2494 6 ∷ []))
+  pub low_switch_that_was_on : (nest : Nest)
+      → Unnested nest (started (enters 2410 6 ∷ turns 2420 1 ∷ switches 2422 0 2 ∷ leaves 2430 6 ∷ enters 2440 6 ∷ leaves 2444 6 ∷ []))
+  -- PWM is entered for a K with a demand, or for the start of a period or the end of the demand in one since its last entry
+  pub pwm_without_a_demand : (nest : Nest) → Unnested nest (enters 4000 5 ∷ [])
+  pub pwm_for_no_edge : (nest : Nest) → Unnested nest (started (enters 4000 5 ∷ leaves 4012 5 ∷ enters 4019 5 ∷ []))
 
 -- ---- steps
 
@@ -218,6 +341,16 @@ cap_rests =
     entry 2400 kind.Tick ∷ own 2402 kind.Tick (ticks 2402 1 0 0 ∷ leaves 2402 2 ∷ []) ∷ entry 4800 kind.Tick ∷ own 4802 kind.Tick (ticks 4802 2 0 0 ∷ leaves 4802 2 ∷ [])
     ∷ entry 5000 kind.Cap ∷ own 5002 kind.Cap (nothing 5002 ∷ leaves 5002 3 ∷ []) ∷ []
 
+-- TICK has started a drive, which calls COMM and PWM, and goes on for nine steps
+abbrev pub drive_waits : List Turned
+drive_waits =
+    entry 2400 kind.Tick ∷ own 2402 kind.Tick (ticks 2402 1 0 20 ∷ []) ∷ own 2404 kind.Tick [] ∷ own 2406 kind.Tick [] ∷ own 2408 kind.Tick []
+    ∷ own 2410 kind.Tick [] ∷ own 2412 kind.Tick [] ∷ own 2414 kind.Tick [] ∷ own 2416 kind.Tick [] ∷ own 2418 kind.Tick [] ∷ own 2420 kind.Tick [] ∷ []
+
+-- it has returned
+abbrev pub drive_starts : List Turned
+drive_starts = entry 2400 kind.Tick ∷ own 2402 kind.Tick (ticks 2402 1 0 20 ∷ leaves 2402 2 ∷ []) ∷ []
+
 pub record StepsRefuse : Type 0 where
   -- an entry is its I and no more, and an own step has none
   pub entry_without_its_note : (trace : List Event) (before : List Turned)
@@ -249,5 +382,14 @@ pub record StepsRefuse : Type 0 where
   pub open_after_48_steps : (loaded : Loaded) (log : List Turned) → open_in loaded log ≡ kind.Tick ∷ [] → own_steps kind.Tick log ≡ 48 → OpenFew loaded log → ⊥
   -- a kind that is due, and above the open ones, waits for no more than 8 steps of those
   pub cap_waits_for_nine_steps : (loaded : Loaded) (cost : ℕ) → EachStep (StepFits loaded Full cost two_edges) [] cap_waits → ⊥
+  pub comm_waits_for_nine_steps : (loaded : Loaded) (cost : ℕ) → EachStep (StepFits loaded Full cost []) [] drive_waits → ⊥
+  pub pwm_waits_for_nine_steps : (loaded : Loaded) (cost : ℕ) → EachStep (StepFits loaded Full cost []) [] drive_waits → ⊥
+  -- a start calls COMM first
+  pub pwm_enters_before_comm : Unmade [] drive_starts (entry 2404 kind.Pwm)
+  pub start_waits_for_a_step : (loaded : Loaded) (nest : Nest) → StepFits loaded nest 2 [] drive_starts (entry 2405 kind.Comm) → ⊥
   -- no step that is due is left out
   pub control_tick_left_out : (loaded : Loaded) (nest : Nest) (cost : ℕ) → Legal loaded nest cost [] 2401 (opening loaded) → ⊥
+  pub closed_window_left_out : (loaded : Loaded) (nest : Nest) (cost : ℕ) → cost ≤ 16
+      → Legal loaded nest cost two_edges 4201 (opening loaded ++ (enters 2400 2 ∷ ticks 2402 1 0 0 ∷ leaves 2402 2 ∷ [])) → ⊥
+  -- nor before the step whose notes a failed write broke off
+  pub broken_step_too_late : (loaded : Loaded) (nest : Nest) (cost : ℕ) → LegalFront loaded nest cost [] (opening loaded ++ enters 4800 2 ∷ []) → ⊥

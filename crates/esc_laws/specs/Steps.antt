@@ -59,6 +59,11 @@ past_stall t (event.Edge at level) = t
 past_stall t (event.Comp at level) = t
 past_stall t (event.Serial at byte) = t
 
+-- the tick at which an event's stall is over, 0 for one that is none
+abbrev pub stall_end : Event → ℕ
+stall_end (event.Stall at n) = at.0 + n
+stall_end e = 0
+
 -- the least tick from t on that lies in no stall, for stalls in the order of their ticks
 unfoldable pub free : List Event → ℕ → ℕ
 free trace t = fold past_stall t trace
@@ -94,13 +99,6 @@ entered_next k t e = if e.enters && is_of k e then e.tick else t
 
 unfoldable pub entered_at : Kind → List Turned → ℕ
 entered_at k log = fold (entered_next k) 0 log
-
--- the first tick after a kind's newest own step, 0 before its first one
-abbrev pub past_next : Kind → ℕ → Turned → ℕ
-past_next k t e = if not e.enters && is_of k e then e.tick + 1 else t
-
-unfoldable pub past_own : Kind → List Turned → ℕ
-past_own k log = fold (past_next k) 0 log
 
 -- how many steps have been made since a kind's newest entry
 abbrev pub since_next : Kind → ℕ → Turned → ℕ

@@ -27,8 +27,8 @@ use Rattle.esc_core.specs.declared.state.MainAt.TheVariants as main
 use Rattle.esc_core.specs.declared.orders.Orders.{Orders}
 use Rattle.esc_core.specs.Brain.{Brain}
 use Rattle.esc_core.specs.Firmware.{left_of, need_of}
-use Rattle.esc_laws.specs.Gates.{high_at, low_at}
-use Rattle.esc_laws.specs.Saves.{settings_at}
+use Rattle.gate_driver.specs.DeadSafe.{IsTied}
+use Rattle.esc_laws.specs.Saves.{settings_at, spin_at}
 use Rattle.esc_laws.specs.Rested.{IsRested, first_rested}
 use Rattle.esc_laws.specs.Place.{Signal, Listens, Judged, Rests, Place}
 
@@ -165,8 +165,7 @@ abbrev pub TickTied : TickAt → ℕ → ℕ → ℕ → Type 0
 TickTied tick.Shut read time ticks = Unit {0}
 TickTied tick.Raise read time ticks = (read < time / 2400) × (ticks ≡ 0)
 TickTied tick.Read read time ticks = (read < time / 2400) × (ticks ≡ 0)
-TickTied tick.Lower read time ticks = ticks ≡ 1
-TickTied tick.Back read time ticks = ticks ≡ 1
+TickTied at read time ticks = ticks ≡ 1
 
 -- how far MAIN has come: whether a save is asked for, and the P since its entry
 abbrev pub MainTied : MainAt → Bool → ℕ → Type 0
@@ -174,15 +173,15 @@ MainTied main.Shut save saves = Unit {0}
 MainTied main.Work save saves = (save ≡ true) × (saves ≡ 0)
 MainTied main.Back save saves = saves ≡ 1
 
--- the settings in memory, and whether a save is asked for, are what the notes say, the newest first
+-- the settings in memory, the spin, and whether a save is asked for, are what the notes say, the newest first
 pub record OrdersTied (loaded : Loaded) (o : Orders) (back : List Note) : Type 0 where
   pub settings_are : o.settings ≡ settings_at loaded.settings back
+  pub spin_is : o.spin ≡ spin_at back
   pub save_is : o.save_asked ≡ asked_at back
 
--- the switches that are on are those of the newest G
-pub record GatesTied (hi lo : ℕ) (back : List Note) : Type 0 where
-  pub high : hi ≡ high_at back
-  pub low : lo ≡ low_at back
+-- the notes tell the word of switches, and when each went off
+abbrev pub WordTold : Brain → Bank → List Note → Type 0
+WordTold c b back = IsTied c.drive.gates b.hi b.lo back
 
 -- what holds between any two steps of the core, the registers and the open kinds
 pub record Keeps (c : Brain) (b : Bank) (stack : List Kind) : Type 0 where

@@ -1,6 +1,7 @@
 -- Machinery, and no law: how a run is proved to be legal. Nothing that `Legal` means rests on this.
 -- What a step finds: the trace, the core, the registers, and the notes so far.
-use Rattle.std.specs.Prelude.{ℕ, ◌+◌, ◌==◌, if◌then◌else◌, List, [], ◌∷◌, ◌++◌, reverse}
+use Rattle.std.specs.Prelude.{ℕ, ◌+◌, ◌==◌, Bool, true, false, if◌then◌else◌, List, [], ◌∷◌, ◌++◌, reverse}
+use Rattle.std.specs.List.{fold}
 use Rattle.esc_base.specs.declared.kind.Kind.{Kind}
 use Rattle.esc_base.specs.declared.kind.Kind.TheVariants as kind
 use Rattle.esc_base.specs.declared.event.Event.{Event}
@@ -18,7 +19,30 @@ use Rattle.esc_core.specs.Brain.{Brain}
 use Rattle.esc_core.specs.Firmware.{entered_core, counted_down}
 use Rattle.esc_core.specs.Stepped.{Stepped}
 use Rattle.esc_laws.specs.Place.{Place, next, nowhere}
-use Rattle.esc_laws.specs.Steps.{Turned, journal, past_own}
+use Rattle.esc_laws.specs.Steps.{Turned, journal}
+
+-- what the ticks of the steps so far say
+pub record Made : Type 0 where
+  -- from this tick on CAP has made no step of its own, and COMM none at all
+  pub cap_past : ℕ
+  pub comm_past : ℕ
+  -- how many own steps PWM has made since its newest entry, and the tick of its newest second one, at which it reads the position
+  pub pwm_own : ℕ
+  pub sampled : ℕ
+
+abbrev pub none_made : Made
+none_made = record { cap_past = 0; comm_past = 0; pwm_own = 0; sampled = 0 }
+
+-- after a step of a kind at t: its entry, or an own one
+abbrev pub made_next : Kind → Bool → ℕ → Made → Made
+made_next kind.Cap false t m = record m { cap_past = t + 1 }
+made_next kind.Comm enters t m = record m { comm_past = t + 1 }
+made_next kind.Pwm true t m = record m { pwm_own = 0 }
+made_next kind.Pwm false t m = record m { pwm_own = m.pwm_own + 1; sampled = if m.pwm_own == 1 then t else m.sampled }
+made_next k enters t m = m
+
+unfoldable pub made : List Turned → Made
+made log = fold (λ m e. made_next e.kind e.enters e.tick m) none_made log
 
 pub record World : Type 0 where
   pub loaded : Loaded
@@ -28,12 +52,12 @@ pub record World : Type 0 where
   pub bank : Bank
   -- the notes so far, the newest first
   pub back : List Note
-  -- from this tick on CAP has made no step of its own
-  pub cap_since : ℕ
+  -- and the steps so far
+  pub made : Made
 
 abbrev pub world : Loaded → Nest → List Event → Brain → Bank → List Turned → World
 world loaded nest trace c b log =
-    record { loaded = loaded; nest = nest; trace = trace; core = c; bank = b; back = reverse (journal loaded log); cap_since = past_own kind.Cap log }
+    record { loaded = loaded; nest = nest; trace = trace; core = c; bank = b; back = reverse (journal loaded log); made = made log }
 
 -- the place after these notes, the newest first
 abbrev pub placed : List Note → Place
@@ -57,7 +81,12 @@ abbrev pub enters : Kind → ℕ → Note
 enters k t = note.Enter (as_tick t) (kind_number k)
 
 abbrev pub after_enter : Kind → World → World
-after_enter k w = record w { core = entered_core w.core k; bank = after_entry w.bank k; back = enters k w.bank.time ∷ w.back }
+after_enter k w = record w {
+  core = entered_core w.core k;
+  bank = after_entry w.bank k;
+  back = enters k w.bank.time ∷ w.back;
+  made = made_next k true w.bank.time w.made;
+}
 
 -- the notes of a step, with its return
 abbrev pub step_notes : ℕ → Kind → Stepped → List Note
@@ -71,15 +100,12 @@ all_notes b k s = gate_note b.hi b.lo (accessed b s.access) ++ step_notes b.time
 abbrev pub gated : World → Bank → World
 gated w after = noted w (note.Gate (as_tick w.bank.time) after.hi after.lo)
 
-abbrev pub cap_since_step : Kind → ℕ → ℕ → ℕ
-cap_since_step k t since = if kind_number kind.Cap == kind_number k then t + 1 else since
-
 abbrev pub after_step : Kind → World → Stepped → World
 after_step k w s = record w {
   core = s.core;
   bank = accessed w.bank s.access;
   back = onto (step_notes w.bank.time k s) w.back;
-  cap_since = cap_since_step k w.bank.time w.cap_since;
+  made = made_next k false w.bank.time w.made;
 }
 
 -- a masked step is counted

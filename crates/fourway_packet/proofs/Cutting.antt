@@ -11,7 +11,8 @@ use Rattle.fourway_packet.specs.Cut.{len_of, is_complete, packet_of, bytes_of, i
 
 -- ---- bytes in time
 
-more_at : (b : Bool) (r : Received) (xs ys more : List Received) → ys ≡ xs ++ more → (m : List Received) × ((if b then [] else r ∷ ys) ≡ (if b then [] else r ∷ xs) ++ m)
+more_at : (b : Bool) (r : Received) (xs ys more : List Received) → ys ≡ xs ++ more
+    → (m : List Received) × ((if b then [] else r ∷ ys) ≡ (if b then [] else r ∷ xs) ++ m)
 more_at true r xs ys more e = ([], refl)
 more_at false r xs ys more e = (more, ap (λ (l : List Received). r ∷ l) e)
 
@@ -32,7 +33,8 @@ pub shorter : (a b : ℕ) (e : Bool) → (suc a == suc b) ≡ e → (a == b) ≡
 shorter a b true e = grind (arith, nat_tests)
 shorter a b false e = grind (arith, nat_tests)
 
-stops_at : (b : Bool) (r : Received) (xs ys rest : List Received) → ((length xs == length rest) ≡ false → ys ≡ xs) → (length (if b then [] else r ∷ xs) == length (r ∷ rest)) ≡ false
+stops_at : (b : Bool) (r : Received) (xs ys rest : List Received) → ((length xs == length rest) ≡ false → ys ≡ xs)
+    → (length (if b then [] else r ∷ xs) == length (r ∷ rest)) ≡ false
     → (if b then [] else r ∷ ys) ≡ (if b then [] else r ∷ xs)
 stops_at true r xs ys rest h e = refl
 stops_at false r xs ys rest h e = ap (λ (l : List Received). r ∷ l) (h (shorter (length xs) (length rest) false e))
@@ -106,12 +108,14 @@ shut_late false b c e = refl
 still_less : (a b c : ℕ) → a ≤ b → b ≤ c → (a == b) ≡ false → (a == c) ≡ false
 still_less a b c ab bc e = grind (arith, nat_tests)
 
-same_front_at : (b c e : Bool) (first : Received) (rest ys : List Received) → begins first ≡ b → is_complete (run_of first rest) ≡ c → (length (in_time first.t rest) == length rest) ≡ e
+same_front_at : (b c e : Bool) (first : Received) (rest ys : List Received) → begins first ≡ b → is_complete (run_of first rest) ≡ c
+    → (length (in_time first.t rest) == length rest) ≡ e
     → (b && not c && e) ≡ false → SameFront first rest (rest ++ ys)
 same_front_at false c e first rest ys hb hc he not_open = record { packets = rw hb refl; pass = rw hb refl; shut = rw hb refl }
 same_front_at true true e first rest ys hb hc he not_open =
     let m = more_in_time first.t rest ys in
-    let runs : run_of first (rest ++ ys) ≡ run_of first rest ++ bytes_of m.0 = ap (λ (l : List Received). first.byte ∷ bytes_of l) m.1 ∙ ap (λ (l : List ℕ). first.byte ∷ l) (map-append (λ r. r.byte) (in_time first.t rest) m.0) in
+    let runs : run_of first (rest ++ ys) ≡ run_of first rest ++ bytes_of m.0 =
+    ap (λ (l : List Received). first.byte ∷ bytes_of l) m.1 ∙ ap (λ (l : List ℕ). first.byte ∷ l) (map-append (λ r. r.byte) (in_time first.t rest) m.0) in
     let s = stays_complete (run_of first rest) (bytes_of m.0) hc in
     let s_len : len_of (run_of first (rest ++ ys)) ≡ len_of (run_of first rest) = ap (λ (l : List ℕ). len_of l) runs ∙ s.len in
     let s_complete : is_complete (run_of first (rest ++ ys)) ≡ true = ap (λ (l : List ℕ). is_complete l) runs ∙ s.complete in
@@ -127,7 +131,8 @@ same_front_at true true e first rest ys hb hc he not_open =
           ap (λ (b : Bool). front_passed b (run_of first (rest ++ ys)) (length (in_time first.t (rest ++ ys)))) hb
           ∙ whole_passed (run_of first (rest ++ ys)) (length (in_time first.t (rest ++ ys))) s_complete
           ∙ ap (λ (n : ℕ). n - 1) s_len
-          ∙ sym (ap (λ (b : Bool). front_passed b (run_of first rest) (length (in_time first.t rest))) hb ∙ whole_passed (run_of first rest) (length (in_time first.t rest)) hc);
+          ∙ sym (ap (λ (b : Bool). front_passed b (run_of first rest) (length (in_time first.t rest))) hb
+          ∙ whole_passed (run_of first rest) (length (in_time first.t rest)) hc);
       shut = shut_whole (begins first) (is_complete (run_of first (rest ++ ys))) (length (in_time first.t (rest ++ ys)) == length (rest ++ ys)) s_complete;
     }
 same_front_at true false true first rest ys hb hc he not_open = absurd (let f = not_open in cc)
@@ -140,7 +145,8 @@ same_front_at true false false first rest ys hb hc he not_open =
           let few : length (in_time first.t rest) ≤ length rest = length-in_time first.t rest in
           let more : length rest ≤ length (rest ++ ys) = simp length-append (omega arith) in
           let late : (length (in_time first.t (rest ++ ys)) == length (rest ++ ys)) ≡ false =
-          ap (λ (l : List Received). length l == length (rest ++ ys)) same ∙ still_less (length (in_time first.t rest)) (length rest) (length (rest ++ ys)) few more he in
+          ap (λ (l : List Received). length l == length (rest ++ ys)) same
+          ∙ still_less (length (in_time first.t rest)) (length rest) (length (rest ++ ys)) few more he in
           shut_late (begins first) (is_complete (run_of first (rest ++ ys))) (length (in_time first.t (rest ++ ys)) == length (rest ++ ys)) late;
     }
 
@@ -207,7 +213,8 @@ unfolding cut_behind
 cut_at true first rest ys e ih =
     let o = opened first rest e in
     let none : packets_at first rest ++ cut_behind (passed first rest) rest ≡ [] =
-    ap (λ (l : List Packet). l ++ cut_behind (passed first rest) rest) (open_packets first rest o) ∙ ap (λ (n : ℕ). cut_behind n rest) (open_passed first rest o) ∙ behind_all rest in
+    ap (λ (l : List Packet). l ++ cut_behind (passed first rest) rest) (open_packets first rest o)
+    ∙ ap (λ (n : ℕ). cut_behind n rest) (open_passed first rest o) ∙ behind_all rest in
     ap (λ (l : List Packet). l ++ cut (first ∷ (rest ++ ys))) (sym none)
 cut_at false first rest ys e ih =
     let s = same_front first rest ys e in

@@ -63,11 +63,13 @@ digit_of n false lt e = grind (arith, nat_tests)
 
 -- what the sum is, by the bit that leaves and the bit that comes
 sums : (p l : ℕ) (high bit : Bool)
-    → bit_xor (bit_xor p (bit_xor (digit high * 2 ^ 16) l)) (digit bit * 2 ^ 16) ≡ bit_xor (bit_xor p (if xor high bit then 69665 else 0)) (if xor high bit then bit_xor l 4129 else l)
+    → bit_xor (bit_xor p (bit_xor (digit high * 2 ^ 16) l)) (digit bit * 2 ^ 16)
+    ≡ bit_xor (bit_xor p (if xor high bit then 69665 else 0)) (if xor high bit then bit_xor l 4129 else l)
 sums p l true true = cancels p 65536 l refl ∙ ap (λ (n : ℕ). bit_xor n l) (sym (xor_zero_r p))
 sums p l true false = xor_zero_r (bit_xor p (bit_xor 65536 l)) ∙ sym (meets p 65536 4129 l refl)
 sums p l false true =
-    ap (λ (n : ℕ). bit_xor (bit_xor p n) 65536) (xor_zero_l l) ∙ xor_assoc p l 65536 ∙ ap (λ (n : ℕ). bit_xor p n) (xor_comm l 65536) ∙ sym (meets p 65536 4129 l refl)
+    ap (λ (n : ℕ). bit_xor (bit_xor p n) 65536) (xor_zero_l l) ∙ xor_assoc p l 65536
+    ∙ ap (λ (n : ℕ). bit_xor p n) (xor_comm l 65536) ∙ sym (meets p 65536 4129 l refl)
 sums p l false false = xor_zero_r (bit_xor p (bit_xor 0 l)) ∙ ap (λ (n : ℕ). bit_xor p n) (xor_zero_l l) ∙ ap (λ (n : ℕ). bit_xor n l) (sym (xor_zero_r p))
 
 high_digit : (r : ℕ) → r < 2 ^ 16 → r * 2 ≡ r / 2 ^ 15 * 2 ^ 16 + r * 2 % 2 ^ 16
@@ -83,7 +85,8 @@ divides_on m p r bit lt e =
     let high = r / 2 ^ 15 == 1 in
     let low = r * 2 % 2 ^ 16 in
     let leaves : digit high ≡ r / 2 ^ 15 = digit_of (r / 2 ^ 15) high (omega arith) refl in
-    let split : r * 2 ≡ bit_xor (digit high * 2 ^ 16) low = high_digit r lt ∙ ap (λ (n : ℕ). n * 2 ^ 16 + low) (sym leaves) ∙ sym (in_front (digit high) low (omega arith)) in
+    let split : r * 2 ≡ bit_xor (digit high * 2 ^ 16) low =
+    high_digit r lt ∙ ap (λ (n : ℕ). n * 2 ^ 16 + low) (sym leaves) ∙ sym (in_front (digit high) low (omega arith)) in
     let comes : (m * 2 + digit bit) * 2 ^ 16 ≡ bit_xor (m * 2 * 2 ^ 16) (digit bit * 2 ^ 16) =
     ap (λ (n : ℕ). n * 2 ^ 16) (sym (appended m (digit bit) (digit_lt bit))) ∙ sym (high_moves (m * 2) (digit bit)) in
     let before : m * 2 * 2 ^ 16 ≡ m * 2 ^ 16 * 2 = omega arith in
@@ -118,7 +121,9 @@ divided_by_all (bit ∷ bits) m r d =
     record {
       below = shifted_lt r bit;
       quotient = d.quotient ++ xor (r / 2 ^ 15 == 1) bit ∷ [];
-      is = divides_on m (product d.quotient) r bit d.below d.is ∙ ap (λ (n : ℕ). bit_xor n (shifted r bit)) (sym (product-push d.quotient (xor (r / 2 ^ 15 == 1) bit)));
+      is =
+          divides_on m (product d.quotient) r bit d.below d.is
+          ∙ ap (λ (n : ℕ). bit_xor n (shifted r bit)) (sym (product-push d.quotient (xor (r / 2 ^ 15 == 1) bit)));
     }
     )
 

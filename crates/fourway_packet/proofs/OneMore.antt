@@ -23,7 +23,8 @@ Timely t (r ∷ rest) = (is_late t r.t ≡ false) × Timely r.t rest
 none_of_some : (n : ℕ) → (0 == suc n) ≡ true → ⊥
 none_of_some n e = grind (arith, nat_tests)
 
-timely_at : (b : Bool) (r : Received) (xs rest : List Received) → (length (if b then [] else r ∷ xs) == length (r ∷ rest)) ≡ true → (b ≡ false) × ((length xs == length rest) ≡ true)
+timely_at : (b : Bool) (r : Received) (xs rest : List Received) → (length (if b then [] else r ∷ xs) == length (r ∷ rest)) ≡ true
+    → (b ≡ false) × ((length xs == length rest) ≡ true)
 timely_at true r xs rest e = absurd (none_of_some (length rest) e)
 timely_at false r xs rest e = (refl, shorter (length xs) (length rest) true e)
 
@@ -42,7 +43,8 @@ unfolding Timely
 late_one t [] r h e = rw e refl
 late_one t (x ∷ rest) r h e = rw h.0 (ap (λ (l : List Received). x ∷ l) (late_one x.t rest r h.1 e))
 
-timely_one : (t : Tick) (rest : List Received) (r : Received) → Timely t rest → is_late (newest_of t rest) r.t ≡ false → in_time t (rest ++ r ∷ []) ≡ rest ++ r ∷ []
+timely_one : (t : Tick) (rest : List Received) (r : Received) → Timely t rest → is_late (newest_of t rest) r.t ≡ false
+    → in_time t (rest ++ r ∷ []) ≡ rest ++ r ∷ []
 unfolding Timely
 timely_one t [] r h e = rw e refl
 timely_one t (x ∷ rest) r h e = rw h.0 (ap (λ (l : List Received). x ∷ l) (timely_one x.t rest r h.1 e))
@@ -102,11 +104,14 @@ record Front (first : Received) (rest : List Received) (packets : List Packet) (
   packets_is : packets_at first rest ≡ packets
   passed_is : passed first rest ≡ n
 
-cut_by : (first : Received) (rest : List Received) (packets : List Packet) (n : ℕ) → Front first rest packets n → cut (first ∷ rest) ≡ packets ++ cut_behind n rest
+cut_by : (first : Received) (rest : List Received) (packets : List Packet) (n : ℕ) → Front first rest packets n
+    → cut (first ∷ rest) ≡ packets ++ cut_behind n rest
 unfolding cut_behind
-cut_by first rest packets n f = ap (λ (l : List Packet). l ++ cut_behind (passed first rest) rest) f.packets_is ∙ ap (λ (m : ℕ). packets ++ cut_behind m rest) f.passed_is
+cut_by first rest packets n f =
+    ap (λ (l : List Packet). l ++ cut_behind (passed first rest) rest) f.packets_is ∙ ap (λ (m : ℕ). packets ++ cut_behind m rest) f.passed_is
 
-shut_by : (first : Received) (rest : List Received) (packets : List Packet) (n : ℕ) → Front first rest packets n → is_open first rest ≡ false → unfinished (first ∷ rest) ≡ unfinished_behind n rest
+shut_by : (first : Received) (rest : List Received) (packets : List Packet) (n : ℕ) → Front first rest packets n → is_open first rest ≡ false
+    → unfinished (first ∷ rest) ≡ unfinished_behind n rest
 unfolding unfinished_behind
 shut_by first rest packets n f shut =
     shut_behind (is_open first rest) (first ∷ rest) (unfinished_behind (passed first rest) rest) shut ∙ ap (λ (m : ℕ). unfinished_behind m rest) f.passed_is
@@ -120,17 +125,21 @@ unfolding unfinished_behind
 opens first rest e = open_by (is_open first rest) (first ∷ rest) (unfinished_behind (passed first rest) rest) e
 
 -- a front without a whole packet
-short_front : (first : Received) (rest : List Received) (n : ℕ) → begins first ≡ true → is_complete (run_of first rest) ≡ false → length (in_time first.t rest) ≡ n → Front first rest [] n
+short_front : (first : Received) (rest : List Received) (n : ℕ) → begins first ≡ true → is_complete (run_of first rest) ≡ false
+    → length (in_time first.t rest) ≡ n → Front first rest [] n
 short_front first rest n begun short len = record {
   packets_is = ap (λ (b : Bool). front_packets b (run_of first rest)) begun ∙ no_packets (run_of first rest) short;
-  passed_is = ap (λ (b : Bool). front_passed b (run_of first rest) (length (in_time first.t rest))) begun ∙ all_passed (run_of first rest) (length (in_time first.t rest)) short ∙ len;
+  passed_is =
+      ap (λ (b : Bool). front_passed b (run_of first rest) (length (in_time first.t rest))) begun
+      ∙ all_passed (run_of first rest) (length (in_time first.t rest)) short ∙ len;
 }
 
 not_one_more : (n m : ℕ) → m ≡ n + 1 → (n == m) ≡ false
 not_one_more n m e = grind (arith, nat_tests)
 
 -- the byte is late
-late_step : (first : Received) (rest : List Received) (r : Received) → Open first rest → is_late (newest_of first.t rest) r.t ≡ true → Step (first ∷ rest) r (with_byte [] r.byte)
+late_step : (first : Received) (rest : List Received) (r : Received) → Open first rest → is_late (newest_of first.t rest) r.t ≡ true
+    → Step (first ∷ rest) r (with_byte [] r.byte)
 late_step first rest r o late =
     let h = timely first.t rest o.timely in
     let same : in_time first.t (rest ++ r ∷ []) ≡ rest = late_one first.t rest r h late in
@@ -142,7 +151,8 @@ late_step first rest r o late =
     ap (λ (l : List Received). length l == length (rest ++ r ∷ [])) same ∙ not_one_more (length rest) (length (rest ++ r ∷ [])) (length-append rest (r ∷ [])) in
     let shut : is_open first (rest ++ r ∷ []) ≡ false =
     shut_late (begins first) (is_complete (run_of first (rest ++ r ∷ []))) (length (in_time first.t (rest ++ r ∷ [])) == length (rest ++ r ∷ [])) fewer in
-    let begun_is : unfinished (first ∷ (rest ++ r ∷ [])) ≡ unfinished (r ∷ []) = shut_by first (rest ++ r ∷ []) [] (length rest) front shut ∙ unfinished_front rest (r ∷ []) in
+    let begun_is : unfinished (first ∷ (rest ++ r ∷ [])) ≡ unfinished (r ∷ []) =
+    shut_by first (rest ++ r ∷ []) [] (length rest) front shut ∙ unfinished_front rest (r ∷ []) in
     let alone = alone_at (begins r) r refl in
     record {
       packet = cut_by first (rest ++ r ∷ []) [] (length rest) front ∙ cut_front rest (r ∷ []) ∙ alone.packet;
@@ -170,7 +180,8 @@ record Longer (first : Received) (rest : List Received) (r : Received) : Type 0 
   timely : in_time first.t (rest ++ r ∷ []) ≡ rest ++ r ∷ []
   run_is : run_of first (rest ++ r ∷ []) ≡ longer first rest r
 
-timely_step : (c : Bool) (first : Received) (rest : List Received) (r : Received) → Longer first rest r → is_complete (longer first rest r) ≡ c → Step (first ∷ rest) r (longer first rest r)
+timely_step : (c : Bool) (first : Received) (rest : List Received) (r : Received) → Longer first rest r → is_complete (longer first rest r) ≡ c
+    → Step (first ∷ rest) r (longer first rest r)
 timely_step true first rest r l complete =
     let run_complete : is_complete (run_of first (rest ++ r ∷ [])) ≡ true = ap (λ (b : List ℕ). is_complete b) l.run_is ∙ complete in
     let exact : len_of (longer first rest r) ≡ length (longer first rest r) = exact_len (bytes_of (first ∷ rest)) r.byte l.short complete in
@@ -189,7 +200,8 @@ timely_step true first rest r l complete =
           ∙ one_less (length (longer first rest r)) (length (rest ++ r ∷ [])) (longer_len first rest r);
     } in
     let shut : is_open first (rest ++ r ∷ []) ≡ false =
-    shut_whole (begins first) (is_complete (run_of first (rest ++ r ∷ []))) (length (in_time first.t (rest ++ r ∷ [])) == length (rest ++ r ∷ [])) run_complete in
+    shut_whole (begins first) (is_complete (run_of first (rest ++ r ∷ [])))
+    (length (in_time first.t (rest ++ r ∷ [])) == length (rest ++ r ∷ [])) run_complete in
     let begun_is : unfinished (first ∷ (rest ++ r ∷ [])) ≡ [] =
     shut_by first (rest ++ r ∷ []) (packet_of (longer first rest r) ∷ []) (length (rest ++ r ∷ [])) front shut ∙ unfinished_all (rest ++ r ∷ []) in
     record {
@@ -257,7 +269,8 @@ some_step true first rest r o e = late_step first rest r o e
 some_step false first rest r o e =
     rw (with_one first.byte r.byte (bytes_of rest)) (timely_step (is_complete (longer first rest r)) first rest r (longer_of first rest r o e) refl)
 
-pub one_more : (begun : List Received) (r : Received) (newest : Tick) → IsOpen begun → newest_of newest begun ≡ newest → Step begun r (grown_of (bytes_of begun) newest r)
+pub one_more : (begun : List Received) (r : Received) (newest : Tick) → IsOpen begun → newest_of newest begun ≡ newest
+    → Step begun r (grown_of (bytes_of begun) newest r)
 unfolding IsOpen
 one_more [] r newest h e = rw (kept_none (is_late newest r.t) []) (alone_at (begins r) r refl)
 one_more (first ∷ rest) r newest h e =
@@ -289,7 +302,8 @@ taken_cut q next r packet taken t h =
     ∙ cut-append taken (r ∷ [])
     ∙ ap (λ (l : List Packet). cut taken ++ l) ((step_of q r taken h).packet ∙ ap (λ (o : Option Packet). option_to_list o) (sym t.packet_is))
 
-pub taken_on : (q next : Queue) (r : Received) (packet : Option Packet) (taken : List Received) → Takes q next r packet → HasTaken q taken → HasTaken next (taken ++ take 1 q.waiting)
+pub taken_on : (q next : Queue) (r : Received) (packet : Option Packet) (taken : List Received) → Takes q next r packet → HasTaken q taken
+    → HasTaken next (taken ++ take 1 q.waiting)
 taken_on q next r packet taken t h =
     let step = step_of q r taken h in
     let one = first_taken q.waiting r t.first in
@@ -297,5 +311,7 @@ taken_on q next r packet taken t h =
     sym (unfinished-append taken (r ∷ [])) ∙ ap (λ (l : List Received). unfinished (taken ++ l)) (sym one) in
     record {
       part_is = t.part_is ∙ sym step.part ∙ ap (λ (l : List Received). bytes_of l) begun;
-      newest_is = ap (λ (l : List Received). newest_of next.newest l) (sym begun) ∙ ap (λ (t : Tick). newest_of t (unfinished (unfinished taken ++ r ∷ []))) t.newest_is ∙ step.newest ∙ sym t.newest_is;
+      newest_is =
+          ap (λ (l : List Received). newest_of next.newest l) (sym begun)
+          ∙ ap (λ (t : Tick). newest_of t (unfinished (unfinished taken ++ r ∷ []))) t.newest_is ∙ step.newest ∙ sym t.newest_is;
     }

@@ -22,9 +22,11 @@ sums : (bytes : List ℕ) (covered addr sum crc : ℕ) → IsReadOf bytes covere
     → (crc_of (take (covered_of bytes) bytes) == big_number 2 (drop (covered_of bytes) bytes)) ≡ (sum == crc)
 sums bytes covered addr sum crc r =
     let crc_is : crc ≡ big_number 2 (drop covered bytes) = r.crc_is ∙ ap (big_number 2) (whole_rest covered bytes) in
-    ap (λ (n : ℕ). crc_of (take n bytes) == big_number 2 (drop n bytes)) (sym r.covered_is) ∙ sym (ap (λ (n : ℕ). n == crc) r.sum_is ∙ ap (λ (n : ℕ). crc_of (take covered bytes) == n) crc_is)
+    ap (λ (n : ℕ). crc_of (take n bytes) == big_number 2 (drop n bytes)) (sym r.covered_is)
+    ∙ sym (ap (λ (n : ℕ). n == crc) r.sum_is ∙ ap (λ (n : ℕ). crc_of (take covered bytes) == n) crc_is)
 
-pub whole_read : (bytes params : List ℕ) (covered addr sum crc : ℕ) → IsReadOf bytes covered addr sum crc → sum ≡ crc → params ≡ take (covered - 5) (drop 5 bytes)
+pub whole_read : (bytes params : List ℕ) (covered addr sum crc : ℕ) → IsReadOf bytes covered addr sum crc → sum ≡ crc
+    → params ≡ take (covered - 5) (drop 5 bytes)
     → Whole (slice_index bytes 1) addr params ≡ packet_of bytes
 unfolding packet_of
 whole_read bytes params covered addr sum crc r same is =
@@ -35,7 +37,8 @@ whole_read bytes params covered addr sum crc r same is =
     ∙ ap (λ (l : List ℕ). Whole (slice_index bytes 1) (big_number 2 (drop 2 bytes)) l) params_is
     ∙ sym (ap (λ (b : Bool). packet_by b bytes) right)
 
-pub bad_read : (bytes : List ℕ) (covered addr sum crc : ℕ) → IsReadOf bytes covered addr sum crc → (sum ≡ crc → ⊥) → BadCrc (slice_index bytes 1) addr ≡ packet_of bytes
+pub bad_read : (bytes : List ℕ) (covered addr sum crc : ℕ) → IsReadOf bytes covered addr sum crc → (sum ≡ crc → ⊥)
+    → BadCrc (slice_index bytes 1) addr ≡ packet_of bytes
 unfolding packet_of
 bad_read bytes covered addr sum crc r other =
     let wrong = sums bytes covered addr sum crc r ∙ ne_eqb sum crc other in

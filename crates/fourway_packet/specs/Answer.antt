@@ -1,4 +1,4 @@
--- What answers say, and what they do to the flash. Each condition on a packet stands in Command.
+-- What answers say, and what they do to the flash. The conditions on a packet stand in `Command.antt`.
 use Rattle.std.specs.Prelude.{◌≡◌, ℕ, ◌+◌, ◌*◌, Bool, false, List, [], length, take, drop, Option, Some, None, Result, Ok, Err}
 use Rattle.std.specs.Option.{option_map}
 use Rattle.esc_base.specs.Flash.{erased, programmed, ChangesWithin, IsRead}
@@ -32,7 +32,7 @@ admitted_of (BadCrc cmd addr) active armed = Err ack.WrongCrc
 
 -- ---- what a command does: `before` and `after` are what the flash tells of its bytes
 
--- so many bytes from an address on were read
+-- the content is the `count` bytes of the flash from an address on
 pub record ReadsOut (at count : ℕ) (before : Option (List ℕ)) (content : List ℕ) : Type 0 where
   pub len : length content ≡ count
   pub read : IsRead before at content
@@ -42,7 +42,7 @@ abbrev pub HasOthers : Option (List ℕ) → ℕ → List ℕ → Type 0
 HasOthers None at bytes = Unit {0}
 HasOthers (Some cells) at bytes = ¬ (bytes ≡ take (length bytes) (drop at cells))
 
--- it is done: the reply's parameters, and the flash
+-- the command was carried out: what the reply's parameters are, and what the flash then holds
 abbrev pub IsDone : Command → ℕ → List ℕ → Option (List ℕ) → List ℕ → Option (List ℕ) → Type 0
 IsDone cmd.PageErase addr params before content after = (content ≡ nothing) × (after ≡ option_map (λ cells. erased cells (first_of params)) before)
 IsDone cmd.Read addr params before content after = ReadsOut addr (count_of (first_of params)) before content × (after ≡ before)
@@ -52,7 +52,7 @@ IsDone cmd.WriteEeprom addr params before content after = (content ≡ nothing) 
 IsDone cmd.Verify addr params before content after = (content ≡ nothing) × IsRead before addr params × (after ≡ before)
 IsDone c addr params before content after = (content ≡ content_of c) × (after ≡ before)
 
--- the flash failed: what it then holds. No other command calls it
+-- the flash failed: what it then holds; commands that don't call the flash can't fail so
 abbrev pub HasFailed : Command → ℕ → List ℕ → Option (List ℕ) → Option (List ℕ) → Type 0
 HasFailed cmd.PageErase addr params before after = ChangesWithin (first_of params * 1024) 1024 before after
 HasFailed cmd.Read addr params before after = after ≡ before
@@ -62,7 +62,7 @@ HasFailed cmd.WriteEeprom addr params before after = KeepsBelow 31744 before aft
 HasFailed cmd.Verify addr params before after = after ≡ before
 HasFailed c addr params before after = ⊥
 
--- the flash holds other bytes than those to verify
+-- the flash holds other bytes than those to verify, and is left as it was
 abbrev pub HasDiffered : Command → ℕ → List ℕ → Option (List ℕ) → Option (List ℕ) → Type 0
 HasDiffered cmd.Verify addr params before after = HasOthers before addr params × (after ≡ before)
 HasDiffered c addr params before after = ⊥
@@ -76,7 +76,7 @@ IsCarriedOut c addr params before (Err why) after = ⊥
 
 -- ---- what a packet's reply says
 
--- what comes of a packet: a refusal, and nothing else happens, or that of its command
+-- what comes of a packet: it is refused, and the flash is left as it was, or its command is carried out
 abbrev pub ComesOf : Result Command Ack → Packet → Option (List ℕ) → Result (List ℕ) Ack → Option (List ℕ) → Type 0
 ComesOf (Err why) packet before outcome after = (outcome ≡ Err why) × (after ≡ before)
 ComesOf (Ok c) packet before outcome after = IsCarriedOut c (addr_of packet) (params_of packet) before outcome after
@@ -89,19 +89,19 @@ abbrev pub said_ack : Result (List ℕ) Ack → ℕ
 said_ack (Ok content) = 0
 said_ack (Err why) = ack_number why
 
--- the reply to a packet, with the session and whether the motor is armed
+-- the reply to a packet, where a session is active or not, and the motor armed or not
 pub record IsAnswered (packet : Packet) (active armed : Bool) (before : Option (List ℕ)) (reply : Reply) (after : Option (List ℕ)) : Type 0 where
   pub outcome : Result (List ℕ) Ack
   pub comes : ComesOf (admitted_of packet active armed) packet before outcome after
   pub params : reply.params ≡ said_params outcome
   pub ack : reply.ack ≡ said_ack outcome
 
--- the session is active behind the packet
+-- whether the session is active after the packet
 abbrev pub session_behind : Result Command Ack → Bool → Bool
 session_behind (Err why) active = active
 session_behind (Ok c) active = session_after c active
 
--- the packet calls the flash
+-- whether the packet calls the flash
 abbrev pub reaches_flash : Result Command Ack → Bool
 reaches_flash (Err why) = false
 reaches_flash (Ok c) = calls_flash c

@@ -8,6 +8,7 @@ use Rattle.fourway_packet.specs.declared.command.Command.TheVariants as cmd
 use Rattle.fourway_packet.specs.declared.ack.Ack.{Ack}
 use Rattle.fourway_packet.specs.declared.ack.Ack.TheVariants as ack
 
+-- the command with this number
 abbrev pub command_of : ℕ → Option Command
 command_of n =
     if n == 0x30 then Some cmd.Alive
@@ -39,7 +40,7 @@ has_channel cmd.Reset = true
 has_channel cmd.InitFlash = true
 has_channel c = false
 
--- it calls the flash
+-- the command calls the flash
 abbrev pub calls_flash : Command → Bool
 calls_flash cmd.PageErase = true
 calls_flash cmd.Read = true
@@ -49,16 +50,16 @@ calls_flash cmd.WriteEeprom = true
 calls_flash cmd.Verify = true
 calls_flash c = false
 
--- no session begins while armed, and the flash is for a session that is active, while not armed
+-- the command is locked: no session begins while armed, and flash commands need an active session, while not armed
 abbrev pub is_locked : Command → Bool → Bool → Bool
 is_locked cmd.InitFlash active armed = armed
 is_locked c active armed = calls_flash c && (armed || not active)
 
--- the settings of 48 bytes that are a valid block
+-- the settings of these bytes, if they are a block of 48 without a fault
 abbrev pub settings_in : List ℕ → Option Settings
 settings_in bytes = if length bytes == 48 then result_ok (read_of bytes) else None
 
--- address and parameters are what the command takes
+-- the command takes this address and these parameters
 abbrev pub takes : Command → ℕ → List ℕ → Bool
 takes cmd.PageErase addr params = nat_lt (first_of params) 32
 takes cmd.Read addr params = nat_le (addr + count_of (first_of params)) 0x8000
@@ -69,13 +70,13 @@ takes cmd.SetMode addr params = first_of params == 4
 takes cmd.Verify addr params = nat_le (addr + length params) 0x8000
 takes c addr params = true
 
--- it would change one of the first four pages
+-- the command would change one of the first four pages, which hold the start code
 abbrev pub is_reserved : Command → ℕ → List ℕ → Bool
 is_reserved cmd.PageErase addr params = nat_lt (first_of params) 4
 is_reserved cmd.Write addr params = nat_lt addr 0x1000
 is_reserved c addr params = false
 
--- the session is active behind it
+-- whether the session is active after the command
 abbrev pub session_after : Command → Bool → Bool
 session_after cmd.Exit active = false
 session_after cmd.Reset active = false
@@ -94,7 +95,7 @@ content_of cmd.InterfaceVersion = 200 ∷ 4 ∷ []
 content_of cmd.InitFlash = 0x06 ∷ 0x1F ∷ 0x00 ∷ 0x04 ∷ []
 content_of c = nothing
 
--- a command may be carried out, or the first reason against it
+-- the command that may be carried out, or the first reason against it
 abbrev pub judged : Option Command → ℕ → List ℕ → Bool → Bool → Result Command Ack
 judged None addr params active armed = Err ack.UnknownCommand
 judged (Some c) addr params active armed =

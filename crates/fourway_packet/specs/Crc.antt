@@ -1,4 +1,4 @@
--- CRC-16 with polynomial 0x1021: what is left of the bits, read as a polynomial, on division by x^16 + x^12 + x^5 + 1.
+-- CRC-16 with polynomial 0x1021: the remainder of the bits, read as a polynomial, on division by x^16 + x^12 + x^5 + 1.
 use Rattle.std.specs.Prelude.{◌≡◌, ◌<◌, ℕ, zero, suc, ◌*◌, ◌+◌, ◌/◌, ◌%◌, ◌^◌, Bool, true, false, not, ◌==◌, if◌then◌else◌, List, [], ◌∷◌, bit_xor}
 use Rattle.std.specs.List.{fold, flat_map}
 
@@ -10,19 +10,20 @@ abbrev pub xor : Bool → Bool → Bool
 xor true b = not b
 xor false b = b
 
--- the low bits of a number, so many of them, the most significant first
+-- the lowest k bits of a number, the most significant first
 abbrev pub low_bits : ℕ → ℕ → List Bool
 low_bits zero n = []
 low_bits (suc k) n = (n / 2 ^ k % 2 == 1) ∷ low_bits k n
 
--- what is left after one bit more
+-- the CRC after one more bit
 abbrev pub shifted : ℕ → Bool → ℕ
 shifted crc bit = if xor (crc / 2 ^ 15 == 1) bit then bit_xor (crc * 2 % 2 ^ 16) 4129 else crc * 2 % 2 ^ 16
 
--- what is left after the eight bits of a byte
+-- the CRC after the eight bits of one more byte
 unfoldable pub shifted_by_byte : ℕ → ℕ → ℕ
 shifted_by_byte crc byte = fold shifted crc (low_bits 8 byte)
 
+-- the CRC of these bytes, from 0 on
 unfoldable pub crc_of : List ℕ → ℕ
 crc_of bytes = fold shifted_by_byte 0 bytes
 
@@ -32,11 +33,11 @@ crc_of bytes = fold shifted_by_byte 0 bytes
 unfoldable pub number : List Bool → ℕ
 number bits = fold (λ n bit. n * 2 + digit bit) 0 bits
 
--- a polynomial by x^16 + x^12 + x^5 + 1: a product without carries
+-- a polynomial times x^16 + x^12 + x^5 + 1, multiplied without carries
 unfoldable pub product : List Bool → ℕ
 product bits = fold (λ n bit. bit_xor (n * 2) (if bit then 69665 else 0)) 0 bits
 
--- the bits, followed by sixteen zeros, are a multiple of the polynomial and this remainder
+-- this is the remainder of the bits, followed by sixteen zeros, on division by the polynomial
 pub record IsRemainder (bits : List Bool) (remainder : ℕ) : Type 0 where
   pub below : remainder < 2 ^ 16
   pub quotient : List Bool

@@ -9,17 +9,17 @@ use Rattle.fourway_packet.specs.declared.packets.Received.{Received}
 use Rattle.fourway_packet.specs.Command.{count_of}
 use Rattle.fourway_packet.specs.Crc.{crc_of}
 
--- ---- one packet: 2F, command, address, length, parameters, CRC
+-- ---- one packet: 0x2F, command, two bytes of address, length, parameters, two bytes of CRC
 
 -- how many bytes of it the CRC covers
 abbrev pub covered_of : List ℕ → ℕ
 covered_of bytes = 5 + count_of (slice_index bytes 4)
 
--- how many bytes it has: 7 more than its length byte says
+-- how many bytes it has: 7 more than its parameters
 abbrev pub len_of : List ℕ → ℕ
 len_of bytes = covered_of bytes + 2
 
--- the bytes hold a whole packet. Before the length byte is there, 263 bytes are asked for, so that they don't
+-- the bytes hold a whole packet; while the length byte isn't there it counts as 0, so that 263 bytes are asked for
 abbrev pub is_complete : List ℕ → Bool
 is_complete bytes = nat_le (len_of bytes) (length bytes)
 
@@ -37,11 +37,11 @@ packet_of bytes = packet_by (crc_of (take (covered_of bytes) bytes) == big_numbe
 abbrev pub bytes_of : List Received → List ℕ
 bytes_of received = map (λ r. r.byte) received
 
--- it arrives more than 2,400,000 ticks, 50 milliseconds, after this tick
+-- t is more than 2,400,000 ticks, 50 milliseconds, after the tick before
 abbrev pub is_late : Tick → Tick → Bool
 is_late before t = nat_lt (before.0 + 2400000) t.0
 
--- those up to and without the first that is late, each against the one before it
+-- the bytes up to and without the first that is late after the one before it
 abbrev pub in_time : Tick → List Received → List Received
 in_time before [] = []
 in_time before (r ∷ rest) = if is_late before r.t then [] else r ∷ in_time r.t rest
@@ -49,7 +49,7 @@ in_time before (r ∷ rest) = if is_late before r.t then [] else r ∷ in_time r
 abbrev pub begins : Received → Bool
 begins r = r.byte == 0x2F
 
--- a byte, and those behind it up to and without the first that is late
+-- a byte, and those after it up to and without the first that is late
 abbrev pub run_of : Received → List Received → List ℕ
 run_of first rest = bytes_of (first ∷ in_time first.t rest)
 
@@ -57,15 +57,15 @@ run_of first rest = bytes_of (first ∷ in_time first.t rest)
 abbrev pub packets_at : Received → List Received → List Packet
 packets_at first rest = if begins first && is_complete (run_of first rest) then packet_of (take (len_of (run_of first rest)) (run_of first rest)) ∷ [] else []
 
--- how many bytes are passed over with the first one: none where it isn't a 2F, else the rest of the packet, or, where a
--- byte within it is late, those up to that one. If the bytes end before, all are passed over
+-- how many bytes after the first one are passed over with it: none where it isn't a 0x2F, else the rest of its packet, or, where
+-- a byte of that is late or the bytes end before, all up to there
 abbrev pub passed : Received → List Received → ℕ
 passed first rest =
     if begins first
     then (if is_complete (run_of first rest) then len_of (run_of first rest) - 1 else length (in_time first.t rest))
     else 0
 
--- the packets in what stands behind so many bytes
+-- the packets in what follows the first n bytes
 unfoldable pub cut_behind : ℕ → List Received → List Packet
 cut_behind n [] = []
 cut_behind (suc n) (first ∷ rest) = cut_behind n rest
@@ -77,7 +77,7 @@ cut received = cut_behind 0 received
 
 -- ---- the packet that has begun when the bytes end
 
--- the bytes begin a packet, and end before it does
+-- the bytes begin a packet, and end before it does, with none of them late
 abbrev pub is_open : Received → List Received → Bool
 is_open first rest = begins first && not (is_complete (run_of first rest)) && (length (in_time first.t rest) == length rest)
 

@@ -1,4 +1,4 @@
--- The serial bytes that wait, and what was begun by those taken before.
+-- The serial bytes that wait, and the packet that those taken before have begun.
 use Rattle.std.specs.Prelude.{◌≡◌, ℕ, List, [], ◌∷◌, length}
 use Rattle.esc_base.specs.declared.tick.Tick.{Tick}
 use Rattle.fourway_packet.specs.declared.packets.Received.{Received}
@@ -12,7 +12,7 @@ pub record Queue : Type 0 where
 abbrev pub IsFull : Queue → Type 0
 IsFull q = length q.waiting ≡ 512
 
--- when the last of these arrived, or a tick where there is none
+-- when the last of these bytes arrived, or t where there is none
 abbrev pub newest_of : Tick → List Received → Tick
 newest_of t [] = t
 newest_of t (r ∷ rest) = newest_of r.t rest

@@ -5,11 +5,11 @@ use Rattle.fourway_packet.specs.declared.reply.Reply.{Reply}
 use Rattle.fourway_packet.specs.declared.reply.TheConstants.{REPLY}
 use Rattle.fourway_packet.specs.Crc.{crc_of}
 
--- before the parameters: length 0 stands for 256
+-- the bytes before the parameters; length 0 stands for 256
 abbrev pub head_of : Reply → List ℕ
 head_of r = REPLY ∷ r.cmd ∷ [] ++ big_bytes 2 r.addr ++ length r.params % 256 ∷ []
 
--- what the CRC covers
+-- the bytes that the CRC covers
 abbrev pub body_of : Reply → List ℕ
 body_of r = head_of r ++ r.params ++ r.ack ∷ []
 

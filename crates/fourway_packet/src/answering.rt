@@ -36,11 +36,11 @@ pub struct Session {
 pub fn answer<D: FlashDev>(p: &Packet, s: &mut Session, armed: bool, dev: &mut D) -> Reply
     ensures cmd { result.cmd ≡ cmd_of p.now }
     ensures addr { result.addr ≡ addr_of p.now }
-    ensures answered { IsAnswered p.now s.old.active armed (D.bytes dev.old) result (D.bytes dev.new) }
+    ensures answered { IsAnswered p.now s.old.active armed (D.told dev.old).bytes result (D.told dev.new).bytes }
     ensures session { s.new.active ≡ session_behind (admitted_of p.now s.old.active armed) s.old.active }
     ensures untouched { reaches_flash (admitted_of p.now s.old.active armed) ≡ false → dev.new ≡ dev.old }
-    ensures no_fewer { D.faults dev.old ≤ D.faults dev.new }
-    ensures failed { result.ack ≡ 6 → Rose (D.faults dev.old) (D.faults dev.new) }
+    ensures no_fewer { (D.told dev.old).faults ≤ (D.told dev.new).faults }
+    ensures failed { result.ack ≡ 6 → Rose (D.told dev.old).faults (D.told dev.new).faults }
 {
     match p {
         Packet::Whole { cmd, addr, params } => {
@@ -83,11 +83,12 @@ fn carried<D: FlashDev>(
     armed: bool,
     dev: &mut D,
 ) -> Result<Params, Ack>
-    ensures comes { ComesOf (admitted_of (Packet.Whole cmd addr params.now) s.old.active armed) (Packet.Whole cmd addr params.now) (D.bytes dev.old) result (D.bytes dev.new) }
+    ensures comes { ComesOf (admitted_of (Packet.Whole cmd addr params.now) s.old.active armed) (Packet.Whole cmd addr params.now)
+        (D.told dev.old).bytes result (D.told dev.new).bytes }
     ensures session { s.new.active ≡ session_behind (admitted_of (Packet.Whole cmd addr params.now) s.old.active armed) s.old.active }
     ensures untouched { reaches_flash (admitted_of (Packet.Whole cmd addr params.now) s.old.active armed) ≡ false → dev.new ≡ dev.old }
-    ensures no_fewer { D.faults dev.old ≤ D.faults dev.new }
-    ensures failed { IsErrOf result Ack.FlashFailed → Rose (D.faults dev.old) (D.faults dev.new) }
+    ensures no_fewer { (D.told dev.old).faults ≤ (D.told dev.new).faults }
+    ensures failed { IsErrOf result Ack.FlashFailed → Rose (D.told dev.old).faults (D.told dev.new).faults }
 {
     let command = admitted(cmd, addr, params, s.active, armed)?;
     s.active = command.session_after(s.active);
@@ -102,10 +103,10 @@ fn carry_out<D: FlashDev>(
     dev: &mut D,
 ) -> Result<Params, Ack>
     requires { takes command addr params.now ≡ true }
-    ensures carried { IsCarriedOut command addr params.now (D.bytes dev.old) result (D.bytes dev.new) }
+    ensures carried { IsCarriedOut command addr params.now (D.told dev.old).bytes result (D.told dev.new).bytes }
     ensures untouched { calls_flash command ≡ false → dev.new ≡ dev.old }
-    ensures no_fewer { D.faults dev.old ≤ D.faults dev.new }
-    ensures failed { IsErrOf result Ack.FlashFailed → Rose (D.faults dev.old) (D.faults dev.new) }
+    ensures no_fewer { (D.told dev.old).faults ≤ (D.told dev.new).faults }
+    ensures failed { IsErrOf result Ack.FlashFailed → Rose (D.told dev.old).faults (D.told dev.new).faults }
 {
     match command {
         Command::PageErase => {

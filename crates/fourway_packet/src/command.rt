@@ -49,7 +49,7 @@ const PAGE: usize = 0x400;
 /// The first pages hold the controller's own start code: they are neither erased nor written.
 const RESERVED_PAGES: u8 = 4;
 
-/// The address behind those pages.
+/// The first address after those pages.
 const RESERVED: u16 = 0x1000;
 
 /// The one mode of the interface.
@@ -95,7 +95,7 @@ impl Command {
         matches!(self, Command::Reset | Command::InitFlash)
     }
 
-    /// Whether it is locked: no session begins while armed, and the flash is only for a session while not armed.
+    /// Whether it is locked: no session begins while armed, and flash commands need a session, while not armed.
     pub(crate) fn is_locked(self, is_active: bool, is_armed: bool) -> bool
         ensures { result ≡ is_locked self is_active is_armed }
     {
@@ -140,7 +140,7 @@ impl Command {
         }
     }
 
-    /// Whether the session is active behind it.
+    /// Whether the session is active after it.
     pub(crate) fn session_after(self, is_active: bool) -> bool
         ensures { result ≡ session_after self is_active }
     {

@@ -9,15 +9,15 @@ use crate::{Ack, Command, Params};
 use esc_base::{Block48, FlashDev};
 use settings_block::{Settings, read_block, save};
 
-/// Reads so many bytes from an address on.
+/// Reads `count` bytes from an address on.
 pub(crate) fn read<D: FlashDev>(at: u16, count: usize, dev: &mut D) -> Result<Params, Ack>
     requires some { 0 < count }
     requires most { count ≤ 256 }
     requires within { at + count ≤ 32768 }
-    ensures read { IfOk result (λ content. ReadsOut at count (D.bytes dev.old) content) }
-    ensures failed { IfErr result (λ ack. (ack ≡ Ack.FlashFailed) × Rose (D.faults dev.old) (D.faults dev.new)) }
-    ensures unchanged { D.bytes dev.new ≡ D.bytes dev.old }
-    ensures no_fewer { D.faults dev.old ≤ D.faults dev.new }
+    ensures read { IfOk result (λ content. ReadsOut at count (D.told dev.old).bytes content) }
+    ensures failed { IfErr result (λ ack. (ack ≡ Ack.FlashFailed) × Rose (D.told dev.old).faults (D.told dev.new).faults) }
+    ensures unchanged { (D.told dev.new).bytes ≡ (D.told dev.old).bytes }
+    ensures no_fewer { (D.told dev.old).faults ≤ (D.told dev.new).faults }
 {
     let mut buffer = [0; 256];
     let bytes = &mut buffer[..count];
@@ -30,9 +30,9 @@ pub(crate) fn verify<D: FlashDev>(at: u16, expected: &[u8], dev: &mut D) -> Resu
     requires some { 0 < length expected.now }
     requires most { length expected.now ≤ 256 }
     requires within { at + length expected.now ≤ 32768 }
-    ensures carried { IsCarriedOut Command.Verify at expected.now (D.bytes dev.old) result (D.bytes dev.new) }
-    ensures failed { IsErrOf result Ack.FlashFailed → Rose (D.faults dev.old) (D.faults dev.new) }
-    ensures no_fewer { D.faults dev.old ≤ D.faults dev.new }
+    ensures carried { IsCarriedOut Command.Verify at expected.now (D.told dev.old).bytes result (D.told dev.new).bytes }
+    ensures failed { IsErrOf result Ack.FlashFailed → Rose (D.told dev.old).faults (D.told dev.new).faults }
+    ensures no_fewer { (D.told dev.old).faults ≤ (D.told dev.new).faults }
 {
     let mut buffer = [0; 256];
     let bytes = &mut buffer[..expected.len()];
@@ -48,9 +48,9 @@ pub(crate) fn verify<D: FlashDev>(at: u16, expected: &[u8], dev: &mut D) -> Resu
 /// Saves a block of settings.
 pub(crate) fn save_block<D: FlashDev>(bytes: &[u8], dev: &mut D) -> Result<Params, Ack>
     requires { IsSome (settings_of bytes.now) }
-    ensures carried { IsCarriedOut Command.WriteEeprom 0 bytes.now (D.bytes dev.old) result (D.bytes dev.new) }
-    ensures failed { IsErrOf result Ack.FlashFailed → Rose (D.faults dev.old) (D.faults dev.new) }
-    ensures no_fewer { D.faults dev.old ≤ D.faults dev.new }
+    ensures carried { IsCarriedOut Command.WriteEeprom 0 bytes.now (D.told dev.old).bytes result (D.told dev.new).bytes }
+    ensures failed { IsErrOf result Ack.FlashFailed → Rose (D.told dev.old).faults (D.told dev.new).faults }
+    ensures no_fewer { (D.told dev.old).faults ≤ (D.told dev.new).faults }
 {
     match settings_in(bytes) {
         Some(settings) => {
@@ -61,7 +61,7 @@ pub(crate) fn save_block<D: FlashDev>(bytes: &[u8], dev: &mut D) -> Result<Param
     }
 }
 
-/// The settings of 48 bytes that are a valid block.
+/// The settings of these bytes, if they are a block of 48 without a fault.
 pub(crate) fn settings_in(bytes: &[u8]) -> Option<Settings>
     ensures settings { result ≡ settings_of bytes.now }
     ensures block { IfSome result (λ s. block_of s ≡ bytes.now) }

@@ -18,7 +18,7 @@ pub enum Packet {
 /// The bytes before the parameters: 0x2F, command, address, length.
 const HEAD: usize = 5;
 
-/// The packet that these bytes hold, if they reach its end: behind the parameters stand two bytes of CRC.
+/// The packet that these bytes hold, if they reach its end: two bytes of CRC follow the parameters.
 pub(crate) fn packet_in(bytes: &[u8]) -> Option<Packet>
     ensures packet { result ≡ (if is_complete bytes.now then Some (packet_of bytes.now) else None) }
     ensures short { IfNone result (length bytes.now < 263) }
@@ -33,7 +33,7 @@ pub(crate) fn packet_in(bytes: &[u8]) -> Option<Packet>
     Some(read_packet(bytes, covered))
 }
 
-/// The packet whose CRC stands behind so many bytes.
+/// The packet whose CRC follows the first `covered` bytes.
 fn read_packet(bytes: &[u8], covered: usize) -> Packet
     requires covered { covered ≡ 5 + count_of (slice_index bytes.now 4) }
     requires some { 5 < covered }

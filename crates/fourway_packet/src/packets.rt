@@ -54,7 +54,7 @@ impl Packets {
         }
     }
 
-    /// Keeps a byte that arrived at `t`, unless 512 bytes wait.
+    /// Keeps a byte that arrived at `t`, in ticks of 48 MHz, unless 512 bytes wait already.
     pub fn push(&mut self, t: Tick, b: u8) -> Arrived
         ensures lost { (result ≡ Arrived.Lost) ↔ IsFull self.old }
         ensures kept { result ≡ Arrived.Kept → self.new.waiting ≡ self.old.waiting ++ record { t = t; byte = b } ∷ [] }
@@ -67,7 +67,7 @@ impl Packets {
         }
     }
 
-    /// How many bytes wait.
+    /// How many bytes wait, at most 512.
     pub fn waiting(&self) -> usize
         ensures waiting { result ≡ length self.now.waiting }
         ensures most { result ≤ 512 }

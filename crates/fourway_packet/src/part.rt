@@ -14,7 +14,7 @@ const PAUSE: u64 = 2_400_000;
 /// The byte that a packet begins with.
 const REQUEST: u8 = 0x2F;
 
-/// The bytes from a 0x2F on, fewer than a packet has, and when the newest serial byte arrived.
+/// The bytes from a 0x2F on, fewer than their packet has, and when the newest serial byte arrived.
 #[derive(Debug, Drop)]
 pub struct Part {
     bytes: ArrayVec<u8, 263>,
@@ -36,7 +36,8 @@ impl Part {
     /// Goes on with a byte, and answers the packet that it completes.
     pub(crate) fn take(&mut self, received: Received) -> Option<Packet>
         ensures packet { result ≡ packet_or_none (grown_of self.old.bytes.items self.old.newest received) }
-        ensures bytes { self.new.bytes.items ≡ (if is_complete (grown_of self.old.bytes.items self.old.newest received) then [] else grown_of self.old.bytes.items self.old.newest received) }
+        ensures bytes { self.new.bytes.items ≡ (if is_complete (grown_of self.old.bytes.items self.old.newest received)
+            then [] else grown_of self.old.bytes.items self.old.newest received) }
         ensures newest { self.new.newest ≡ received.t }
     {
         self.drop_before(received.t);

@@ -18,7 +18,8 @@ on_and_at : (a v m : ℕ) (t : Bool) → (bit_and a m == 0) ≡ t → not (bit_a
 on_and_at a v m false f e = rw f refl
 on_and_at a v m true f e =
     let z : bit_and a m ≡ 0 = is_zero (bit_and a m) f in
-    let y : bit_and (bit_and a v) m ≡ 0 = and_assoc m a v ∙ ap (λ (w : ℕ). bit_and a w) (and_comm v m) ∙ sym (and_assoc v a m) ∙ ap (λ (w : ℕ). bit_and w v) z ∙ and_zero_l v in
+    let y : bit_and (bit_and a v) m ≡ 0 =
+    and_assoc m a v ∙ ap (λ (w : ℕ). bit_and a w) (and_comm v m) ∙ sym (and_assoc v a m) ∙ ap (λ (w : ℕ). bit_and w v) z ∙ and_zero_l v in
     absurd (let p = zero_is _ y in cc)
 
 pub on_and : (a v : ℕ) (x : Leg) → is_on (bit_and a v) x ≡ true → is_on a x ≡ true

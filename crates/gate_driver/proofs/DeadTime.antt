@@ -19,7 +19,8 @@ pub record MayTurnOn (other since : ℕ) (x : Leg) (t : ℕ) : Type 0 where
   pub off : is_on other x ≡ false
   pub free : since ≤ t
 
-may_at : (v w : Bool) (other free : ℕ) (x : Leg) (t : ℕ) → is_on other x ≡ v → nat_lt t free ≡ w → (if v then Some (t + 48) else if w then Some free else None) ≡ None → MayTurnOn other free x t
+may_at : (v w : Bool) (other free : ℕ) (x : Leg) (t : ℕ) → is_on other x ≡ v → nat_lt t free ≡ w
+    → (if v then Some (t + 48) else if w then Some free else None) ≡ None → MayTurnOn other free x t
 may_at true w other free x t e f n = absurd (cc)
 may_at false true other free x t e f n = absurd (cc)
 may_at false false other free x t e f n = record { off = e; free = grind (arith, nat_tests) }
@@ -54,7 +55,8 @@ low_off_keeps g b b' mask e f apart = record {
 }
 
 -- a leg's high switch goes on, and may
-pub high_on_keeps : (g g' : Gated) (b b' : Bank) (h : Leg) → b'.hi ≡ bit_or b.hi (mask_of h) → b'.lo ≡ b.lo → g' ≡ gates_after g b b' → high_wait g b h ≡ None → IsApart b.hi b.lo → KeepsDeadTime b g' b'
+pub high_on_keeps : (g g' : Gated) (b b' : Bank) (h : Leg) → b'.hi ≡ bit_or b.hi (mask_of h) → b'.lo ≡ b.lo → g' ≡ gates_after g b b' → high_wait g b h ≡ None
+    → IsApart b.hi b.lo → KeepsDeadTime b g' b'
 high_on_keeps g g' b b' h e f k none apart =
     let may = may_turn_on b.lo (at_leg g.lo_free h) h b.time none in
     record {
@@ -63,14 +65,16 @@ high_on_keeps g g' b b' h e f k none apart =
         | inr o ↦ apart x o
       ]);
       high_waits = λ x on off. elim (or_is b.hi h x (ap (λ (w : ℕ). is_on w x) (sym e) ∙ on)) [
-        | inl s ↦ rw k (subst (λ (y : Leg). at_leg (offs g.lo_free b.lo b'.lo b.time) y ≤ b.time) s (rw (off_stays g.lo_free b.lo b'.lo b.time h may.off) may.free))
+        | inl s ↦
+            rw k (subst (λ (y : Leg). at_leg (offs g.lo_free b.lo b'.lo b.time) y ≤ b.time) s (rw (off_stays g.lo_free b.lo b'.lo b.time h may.off) may.free))
         | inr o ↦ absurd (cc)
       ];
       low_waits = λ x on off. absurd (let o : is_on b.lo x ≡ true = ap (λ (w : ℕ). is_on w x) (sym f) ∙ on in cc);
     }
 
 -- a leg's low switch goes on, and may
-pub low_on_keeps : (g g' : Gated) (b b' : Bank) (h : Leg) → b'.hi ≡ b.hi → b'.lo ≡ bit_or b.lo (mask_of h) → g' ≡ gates_after g b b' → low_wait g b h ≡ None → IsApart b.hi b.lo → KeepsDeadTime b g' b'
+pub low_on_keeps : (g g' : Gated) (b b' : Bank) (h : Leg) → b'.hi ≡ b.hi → b'.lo ≡ bit_or b.lo (mask_of h) → g' ≡ gates_after g b b' → low_wait g b h ≡ None
+    → IsApart b.hi b.lo → KeepsDeadTime b g' b'
 low_on_keeps g g' b b' h e f k none apart =
     let may = may_turn_on b.hi (at_leg g.hi_free h) h b.time none in
     record {
@@ -80,7 +84,8 @@ low_on_keeps g g' b b' h e f k none apart =
       ]));
       high_waits = λ x on off. absurd (let o : is_on b.hi x ≡ true = ap (λ (w : ℕ). is_on w x) (sym e) ∙ on in cc);
       low_waits = λ x on off. elim (or_is b.lo h x (ap (λ (w : ℕ). is_on w x) (sym f) ∙ on)) [
-        | inl s ↦ rw k (subst (λ (y : Leg). at_leg (offs g.hi_free b.hi b'.hi b.time) y ≤ b.time) s (rw (off_stays g.hi_free b.hi b'.hi b.time h may.off) may.free))
+        | inl s ↦
+            rw k (subst (λ (y : Leg). at_leg (offs g.hi_free b.hi b'.hi b.time) y ≤ b.time) s (rw (off_stays g.hi_free b.hi b'.hi b.time h may.off) may.free))
         | inr o ↦ absurd (cc)
       ];
     }
@@ -88,7 +93,8 @@ low_on_keeps g g' b b' h e f k none apart =
 -- ---- the same in a journal
 
 -- a G that is safe by what is kept is so by the notes
-said_gate : (g : Gated) (b b' : Bank) (back : List Note) → ((b'.hi == high_at back) && (b'.lo == low_at back)) ≡ false → b'.time ≡ b.time → IsTied g b.hi b.lo back → KeepsDeadTime b (gates_after g b b') b'
+said_gate : (g : Gated) (b b' : Bank) (back : List Note) → ((b'.hi == high_at back) && (b'.lo == low_at back)) ≡ false → b'.time ≡ b.time
+    → IsTied g b.hi b.lo back → KeepsDeadTime b (gates_after g b b') b'
     → GateSafe back b'.time b'.hi b'.lo (note.Gate (as_tick b'.time) b'.hi b'.lo ∷ back)
 said_gate g b b' back other at t k =
     let after : IsTied (gates_after g b b') b'.hi b'.lo (note.Gate (as_tick b'.time) b'.hi b'.lo ∷ back) = tied_at false g b b' back other at t in
@@ -99,7 +105,8 @@ said_gate g b b' back other at t k =
       low_waits = λ x on off. rw (after.hi_free x, at) (k.low_waits x on (ap (λ (w : ℕ). is_on w x) (sym t.lo_is) ∙ off));
     }
 
-pub said_after : (g g' : Gated) (b b' : Bank) (back : List Note) → b'.time ≡ b.time → g' ≡ gates_after g b b' → IsTied g b.hi b.lo back → KeepsDeadTime b g' b' → IsSaid back g' b'
+pub said_after : (g g' : Gated) (b b' : Bank) (back : List Note) → b'.time ≡ b.time → g' ≡ gates_after g b b' → IsTied g b.hi b.lo back → KeepsDeadTime b g' b'
+    → IsSaid back g' b'
 said_after g g' b b' back at e t k = subst (λ (h : Gated). IsSaid back h b') (sym e) (record {
   safe = λ other. said_gate g b b' back other at t (subst (λ (h : Gated). KeepsDeadTime b h b') e k);
   tied = tied_after g b b' back at t;

@@ -43,7 +43,8 @@ both_same a b c d e = (grind (arith, nat_tests), grind (arith, nat_tests))
 
 -- ---- the tie
 
-pub tied_at : (v : Bool) (g : Gated) (b b' : Bank) (back : List Note) → ((b'.hi == high_at back) && (b'.lo == low_at back)) ≡ v → b'.time ≡ b.time → IsTied g b.hi b.lo back
+pub tied_at : (v : Bool) (g : Gated) (b b' : Bank) (back : List Note) → ((b'.hi == high_at back) && (b'.lo == low_at back)) ≡ v → b'.time ≡ b.time
+    → IsTied g b.hi b.lo back
     → IsTied (gates_after g b b') b'.hi b'.lo (if v then back else note.Gate (as_tick b'.time) b'.hi b'.lo ∷ back)
 tied_at false g b b' back e at t = record {
   hi_is = refl;
@@ -57,5 +58,6 @@ tied_at true g b b' back e at t =
     let lo : b'.lo ≡ b.lo = same.1 ∙ t.lo_is in
     rw (sym (gates_same g b b' hi lo), hi, lo) t
 
-pub tied_after : (g : Gated) (b b' : Bank) (back : List Note) → b'.time ≡ b.time → IsTied g b.hi b.lo back → IsTied (gates_after g b b') b'.hi b'.lo (with_gate back b'.time b'.hi b'.lo)
+pub tied_after : (g : Gated) (b b' : Bank) (back : List Note) → b'.time ≡ b.time → IsTied g b.hi b.lo back
+    → IsTied (gates_after g b b') b'.hi b'.lo (with_gate back b'.time b'.hi b'.lo)
 tied_after g b b' back at t = tied_at ((b'.hi == high_at back) && (b'.lo == low_at back)) g b b' back refl at t

@@ -32,7 +32,8 @@ pub record Kept {P : Type 0} (g : Gated) (b : Bank) (s : Acted P) : Type 0 where
   pub dead_time : IsApart b.hi b.lo → KeepsDeadTime b s.gates (accessed b s.access)
 
 -- a step that leaves the gates
-quiet : {P : Type 0} (g : Gated) (b : Bank) (s : Acted P) → (accessed b s.access).time ≡ b.time → (accessed b s.access).accesses ≤ b.accesses + 1 → (accessed b s.access).hi ≡ b.hi → (accessed b s.access).lo ≡ b.lo → s.gates ≡ g → Kept g b s
+quiet : {P : Type 0} (g : Gated) (b : Bank) (s : Acted P) → (accessed b s.access).time ≡ b.time → (accessed b s.access).accesses ≤ b.accesses + 1
+    → (accessed b s.access).hi ≡ b.hi → (accessed b s.access).lo ≡ b.lo → s.gates ≡ g → Kept g b s
 quiet {P} g b s at count hi lo e = record {
   time = at;
   count = count;
@@ -90,8 +91,18 @@ duty_step_keeps true c g b = quiet g b (duty_step true c g) refl (omega arith) r
 duty_step_keeps false c g b = quiet g b (duty_step false c g) refl (omega arith) refl refl refl
 
 place_keeps : (at : ChangeAt) (c : Change) (g : Gated) (b : Bank) → Kept g b (place_step at c g b)
-place_keeps change.ClearHigh c g b = record { time = refl; count = omega arith; off_times = refl; dead_time = high_off_keeps _ b _ (7 - (7 - mask_of (high_of c.to))) refl refl }
-place_keeps change.ClearLow c g b = record { time = refl; count = omega arith; off_times = refl; dead_time = low_off_keeps _ b _ (7 - (7 - mask_of (low_of c.to))) refl refl }
+place_keeps change.ClearHigh c g b = record {
+  time = refl;
+  count = omega arith;
+  off_times = refl;
+  dead_time = high_off_keeps _ b _ (7 - (7 - mask_of (high_of c.to))) refl refl;
+}
+place_keeps change.ClearLow c g b = record {
+  time = refl;
+  count = omega arith;
+  off_times = refl;
+  dead_time = low_off_keeps _ b _ (7 - (7 - mask_of (low_of c.to))) refl refl;
+}
 place_keeps change.SetSector c g b = quiet g b (place_step change.SetSector c g b) refl (omega arith) refl refl refl
 place_keeps change.Low c g b = low_step_keeps (low_wait g b (low_of c.to)) c g b refl
 place_keeps change.Position c g b = quiet g b (place_step change.Position c g b) refl (omega arith) refl refl refl
@@ -102,15 +113,18 @@ place_keeps change.Over c g b = quiet g b (place_step change.Over c g b) refl (o
 pub change_keeps : (c : Change) (g : Gated) (b : Bank) → Kept g b (change_step c g b)
 change_keeps c g b = place_keeps c.at c g b
 
-low_changed : (wait : Option ℕ) (c : Change) (g : Gated) (b : Bank) → (wait ≡ None → is_on (accessed b (low_step wait c g b).access).lo (low_of c.to) ≡ true) × ((accessed b (low_step wait c g b).access).hi ≡ b.hi)
+low_changed : (wait : Option ℕ) (c : Change) (g : Gated) (b : Bank)
+    → (wait ≡ None → is_on (accessed b (low_step wait c g b).access).lo (low_of c.to) ≡ true) × ((accessed b (low_step wait c g b).access).hi ≡ b.hi)
 low_changed None c g b = (λ e. or_on b.lo (low_of c.to), refl)
 low_changed (Some t) c g b = (λ e. absurd (cc), refl)
 
-high_changed : (wait : Option ℕ) (c : Change) (g : Gated) (b : Bank) → (wait ≡ None → is_on (accessed b (high_step wait c g b).access).hi (high_of c.to) ≡ true) × ((accessed b (high_step wait c g b).access).lo ≡ b.lo)
+high_changed : (wait : Option ℕ) (c : Change) (g : Gated) (b : Bank)
+    → (wait ≡ None → is_on (accessed b (high_step wait c g b).access).hi (high_of c.to) ≡ true) × ((accessed b (high_step wait c g b).access).lo ≡ b.lo)
 high_changed None c g b = (λ e. or_on b.hi (high_of c.to), refl)
 high_changed (Some t) c g b = (λ e. absurd (cc), refl)
 
-duty_changed : (v : Bool) (c : Change) (g : Gated) (b : Bank) → ((accessed b (duty_step v c g).access).hi ≡ b.hi) × ((accessed b (duty_step v c g).access).lo ≡ b.lo)
+duty_changed : (v : Bool) (c : Change) (g : Gated) (b : Bank)
+    → ((accessed b (duty_step v c g).access).hi ≡ b.hi) × ((accessed b (duty_step v c g).access).lo ≡ b.lo)
 duty_changed true c g b = (refl, refl)
 duty_changed false c g b = (refl, refl)
 
@@ -125,11 +139,13 @@ has_changed (change.Duty position) c g b = duty_changed (nat_lt position b.duty)
 has_changed change.High c g b = high_changed (high_wait g b (high_of c.to)) c g b
 has_changed change.Over c g b = (refl, refl)
 
-low_spends : (wait : Option ℕ) (c : Change) (g : Gated) (b : Bank) → c.at ≡ change.Low → Spends 4 (low_step wait c g b).answer (change_left (low_step wait c g b).place.at)
+low_spends : (wait : Option ℕ) (c : Change) (g : Gated) (b : Bank) → c.at ≡ change.Low
+    → Spends 4 (low_step wait c g b).answer (change_left (low_step wait c g b).place.at)
 low_spends None c g b e = record { more = λ m. (lit< tt, lit< tt); done = λ d. cc; at_most = lit≤ tt }
 low_spends (Some t) c g b e = rw e (record { more = λ m. cc; done = λ d. cc; at_most = lit≤ tt })
 
-high_spends : (wait : Option ℕ) (c : Change) (g : Gated) (b : Bank) → c.at ≡ change.High → Spends 1 (high_step wait c g b).answer (change_left (high_step wait c g b).place.at)
+high_spends : (wait : Option ℕ) (c : Change) (g : Gated) (b : Bank) → c.at ≡ change.High
+    → Spends 1 (high_step wait c g b).answer (change_left (high_step wait c g b).place.at)
 high_spends None c g b e = record { more = λ m. cc; done = λ d. refl; at_most = lit≤ tt }
 high_spends (Some t) c g b e = rw e (record { more = λ m. cc; done = λ d. cc; at_most = lit≤ tt })
 
@@ -137,7 +153,8 @@ duty_spends : (v : Bool) (c : Change) (g : Gated) → Spends 2 (duty_step v c g)
 duty_spends true c g = record { more = λ m. (lit< tt, lit< tt); done = λ d. cc; at_most = lit≤ tt }
 duty_spends false c g = record { more = λ m. cc; done = λ d. refl; at_most = lit≤ tt }
 
-change_spends : (at : ChangeAt) (c : Change) (g : Gated) (b : Bank) → c.at ≡ at → Spends (change_left at) (place_step at c g b).answer (change_left (place_step at c g b).place.at)
+change_spends : (at : ChangeAt) (c : Change) (g : Gated) (b : Bank) → c.at ≡ at
+    → Spends (change_left at) (place_step at c g b).answer (change_left (place_step at c g b).place.at)
 change_spends change.ClearHigh c g b e = record { more = λ m. (lit< tt, lit< tt); done = λ d. cc; at_most = lit≤ tt }
 change_spends change.ClearLow c g b e = record { more = λ m. (lit< tt, lit< tt); done = λ d. cc; at_most = lit≤ tt }
 change_spends change.SetSector c g b e = record { more = λ m. (lit< tt, lit< tt); done = λ d. cc; at_most = lit≤ tt }

@@ -14,6 +14,7 @@ all_off_step High g b = switches Low g b reg.GhClr 7 More
 all_off_step Low g b = switches Over g b reg.GlClr 7 Done
 all_off_step Over g b = ends Over g NoAccess
 
+-- the accesses that are left
 abbrev pub all_off_left : AllOff → ℕ
 all_off_left High = 2
 all_off_left Low = 1

@@ -26,17 +26,17 @@ change_to s = record { to = s; at = change.ClearHigh }
 abbrev pub next : Change → ChangeAt → Change
 next c at = record { to = c.to; at = at }
 
--- the low switch turns on, or has to wait and is asked for again
+-- the pair's low switch turns on, or has to wait until t and is asked for again
 abbrev pub low_step : Option ℕ → Change → Gated → Bank → Acted Change
 low_step None c g b = switches (next c change.Position) g b reg.GlSet (mask_of (low_of c.to)) More
 low_step (Some t) c g b = waits c g t
 
--- the same of the high one
+-- the pair's high switch turns on, or has to wait until t and is asked for again
 abbrev pub high_step : Option ℕ → Change → Gated → Bank → Acted Change
 high_step None c g b = switches (next c change.Over) g b reg.GhSet (mask_of (high_of c.to)) Done
 high_step (Some t) c g b = waits c g t
 
--- the high switch is asked for where the position is below the duty
+-- the duty is read: where the position is below it, the high switch is turned on next, else the program is done
 abbrev pub duty_step : Bool → Change → Gated → Acted Change
 duty_step true c g = goes (next c change.High) g (Reads reg.Duty)
 duty_step false c g = ends (next c change.Over) g (Reads reg.Duty)
@@ -54,6 +54,7 @@ place_step change.Over c g b = ends (next c change.Over) g NoAccess
 abbrev pub change_step : Change → Gated → Bank → Acted Change
 change_step c g b = place_step c.at c g b
 
+-- the accesses that are left at most
 abbrev pub change_left : ChangeAt → ℕ
 change_left change.ClearHigh = 7
 change_left change.ClearLow = 6
@@ -64,7 +65,8 @@ change_left (change.Duty position) = 2
 change_left change.High = 1
 change_left change.Over = 0
 
--- what a step at each place leaves of the word
+-- what a step at each place does to the switches: of the side that it clears only the pair's may stay on, the one that it turns on
+-- is on if it may be, and the other side stays as it is
 abbrev pub HasChanged : ChangeAt → ℕ → Gated → Bank → Bank → Type 0
 HasChanged change.ClearHigh to g b b' = IsOnly b'.hi (high_of to) × (b'.lo ≡ b.lo)
 HasChanged change.ClearLow to g b b' = IsOnly b'.lo (low_of to) × (b'.hi ≡ b.hi)

@@ -1,4 +1,5 @@
--- The program that chops: under the mask it looks where in the period it is and turns the pair's high switch on or off.
+-- The program that chops: under the mask it reads where in the period it is, and turns the pair's high switch on, or all high
+-- switches off.
 use Rattle.std.specs.Prelude.{◌≡◌, ℕ, Bool, true, false, not, ◌&&◌, ◌==◌, if◌then◌else◌, nat_lt, Option, Some, None}
 use Rattle.esc_base.specs.declared.gate.Leg.{Leg}
 use Rattle.esc_base.specs.Legs.{mask_of, is_on}
@@ -17,7 +18,7 @@ use Rattle.gate_driver.specs.Acted.{Acted, goes, switches, ends, waits}
 abbrev pub chopped_leg : Bool → ℕ → Option Leg
 chopped_leg below s = if below && not (s == 0) then Some (high_of s) else None
 
--- it turns on, or has to wait and is left off
+-- the leg's high switch turns on, or may not yet and is left off
 abbrev pub on_step : Option ℕ → Leg → Gated → Bank → Acted Chop
 on_step None x g b = switches chop.Lower g b reg.GhSet (mask_of x) More
 on_step (Some t) x g b = waits chop.Lower g t
@@ -35,6 +36,7 @@ chop_step (chop.Write leg) g b = write_step leg g b
 chop_step chop.Lower g b = ends chop.Over g (Writes reg.Mask 0)
 chop_step chop.Over g b = ends chop.Over g NoAccess
 
+-- the accesses that are left at most
 abbrev pub chop_left : Chop → ℕ
 chop_left chop.Raise = 6
 chop_left chop.Position = 5

@@ -29,7 +29,7 @@ pub record Gated : Type 0 where
 abbrev pub never_off : Gated
 never_off = record { hi_free = no_legs; lo_free = no_legs }
 
--- ---- a word of switches becomes another one at t: those that go off go off now
+-- ---- a word of switches becomes another one at t: the ones that are no longer on went off then
 
 abbrev pub went_off : ℕ → ℕ → Leg → Bool
 went_off word word' x = is_on word x && not (is_on word' x)

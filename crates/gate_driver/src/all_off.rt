@@ -28,7 +28,7 @@ impl AllOff {
         AllOff::High
     }
 
-    /// One step: two write, the second one is the last.
+    /// One step of two, each of which writes a register.
     pub fn step(&mut self, gates: &mut Gates, regs: &mut Regs) -> Progress
         requires { regs.old.accesses < 2 ^ 63 }
         ensures step { IsActed regs.old (all_off_step self.old gates.old regs.old) result self.new gates.new regs.new }
@@ -39,7 +39,8 @@ impl AllOff {
         ensures one_access { regs.new.accesses ≤ regs.old.accesses + 1 }
         ensures no_time { regs.new.time ≡ regs.old.time }
         ensures dead_time { IsApart regs.old.hi regs.old.lo → KeepsDeadTime regs.old gates.new regs.new }
-        ensures dead_safe { (back : List Note) → IsTied gates.old regs.old.hi regs.old.lo back → IsApart regs.old.hi regs.old.lo → IsSaid back gates.new regs.new }
+        ensures dead_safe { (back : List Note) → IsTied gates.old regs.old.hi regs.old.lo back → IsApart regs.old.hi regs.old.lo →
+            IsSaid back gates.new regs.new }
     {
         self.act(gates, regs)
     }

@@ -14,17 +14,17 @@ use commutation::pair;
 use esc_base::{Leg, Sector};
 use timer_regs::{Reg, Regs};
 
-/// Chops once, under the interrupt mask, so that what is read is still so when it is written. Named by the step that
-/// comes next.
+/// Chops once, under the interrupt mask, so that position, duty and sector are still as they were read when the switch
+/// is written. Each place is named by the step that comes next.
 #[derive(Clone, Copy, Debug, PartialEq, Eq, Drop)]
 pub enum Chop {
     /// Raises the mask.
     Raise,
-    /// Reads the position in the period.
+    /// Reads the position in the period of pulse width modulation, 0 to 1999.
     Position,
     /// Reads the duty, to compare it with the position.
     Duty(u32),
-    /// Reads the sector; the position may be below the duty.
+    /// Reads the sector; carries whether the position is below the duty.
     Sector(bool),
     /// Turns this leg's high switch on, or all high switches off.
     Write(Option<Leg>),
@@ -54,7 +54,8 @@ impl Chop {
         ensures one_access { regs.new.accesses ≤ regs.old.accesses + 1 }
         ensures no_time { regs.new.time ≡ regs.old.time }
         ensures dead_time { IsApart regs.old.hi regs.old.lo → KeepsDeadTime regs.old gates.new regs.new }
-        ensures dead_safe { (back : List Note) → IsTied gates.old regs.old.hi regs.old.lo back → IsApart regs.old.hi regs.old.lo → IsSaid back gates.new regs.new }
+        ensures dead_safe { (back : List Note) → IsTied gates.old regs.old.hi regs.old.lo back → IsApart regs.old.hi regs.old.lo →
+            IsSaid back gates.new regs.new }
     {
         self.act(gates, regs)
     }

@@ -9,10 +9,10 @@ use esc_base::{GateWord, Leg, Tick};
 use std::marker::Model;
 use timer_regs::{Reg, Regs};
 
-/// A switch turns on only where the other one of its leg has been off for so many ticks: a microsecond.
+/// The dead time: a switch turns on only where the other one of its leg has been off for these 48 ticks, a microsecond.
 const DEAD_TIME: u64 = 48;
 
-/// For each leg the tick from which on its switch no longer keeps the other one off.
+/// For each leg the tick from which on the switch of one side no longer keeps that of the other side off.
 #[derive(Debug, Drop)]
 struct FreeFrom {
     a: Tick,
@@ -49,7 +49,7 @@ impl FreeFrom {
         }
     }
 
-    /// A word of switches became another one, at now.
+    /// A word of switches became another one, at now: notes those that went off.
     fn note(&mut self, before: u8, after: u8, now: Tick)
         requires { now.0 < 2 ^ 31 }
         ensures { self.new ≡ offs self.old before after now.0 }
@@ -60,7 +60,7 @@ impl FreeFrom {
     }
 }
 
-/// When each switch last went off. All off and never on at first.
+/// When each switch last went off. At first all are off, and never were on.
 #[derive(Debug, Drop)]
 pub struct Gates {
     high: FreeFrom,
@@ -93,21 +93,22 @@ impl Gates {
         self.high.of(leg)
     }
 
-    /// The same of the low switch.
+    /// The tick from which on the low switch of a leg no longer keeps the high one off: 48 after it last went off,
+    /// 0 if it never did.
     pub fn low_free(&self, leg: Leg) -> Tick
         ensures { result.0 ≡ at_leg self.now.lo_free leg }
     {
         self.low.of(leg)
     }
 
-    /// From when on the high switch of a leg may turn on, if it may not now.
+    /// The tick from which on the high switch of a leg may turn on, or `None` where it may now.
     pub fn high_wait(&self, regs: &Regs, leg: Leg) -> Option<Tick>
         ensures { tick_of result ≡ wait_of_high self.now regs.now leg }
     {
         wait_of(regs.gates().lo, self.low.of(leg), leg, regs.now())
     }
 
-    /// From when on the low switch of a leg may turn on, if it may not now.
+    /// The tick from which on the low switch of a leg may turn on, or `None` where it may now.
     pub fn low_wait(&self, regs: &Regs, leg: Leg) -> Option<Tick>
         ensures { tick_of result ≡ wait_of_low self.now regs.now leg }
     {
@@ -167,7 +168,8 @@ fn free_after(before: u8, after: u8, leg: Leg, now: Tick, free: Tick) -> Tick
     }
 }
 
-/// `other` is the word of the other switches, and `free` when that of this leg no longer keeps this one off.
+/// When a leg's switch may turn on: `other` is the word of the other side's switches, and `free` the tick from which on
+/// the leg's one no longer keeps this one off.
 fn wait_of(other: u8, free: Tick, leg: Leg, now: Tick) -> Option<Tick>
     requires { now.0 < 2 ^ 31 }
     ensures { tick_of result ≡ wait_for other free.0 leg now.0 }

@@ -27,7 +27,7 @@ pub enum ChangeAt {
     SetSector,
     /// Turns the pair's low switch on.
     Low,
-    /// Reads the position in the period of pulse width modulation.
+    /// Reads the position in the period of pulse width modulation, 0 to 1999.
     Position,
     /// Reads the duty, to compare it with the position.
     Duty(u32),
@@ -68,7 +68,7 @@ impl ToSector {
         }
     }
 
-    /// The sector.
+    /// The sector that is changed to, 1 to 6.
     pub fn to(&self) -> Sector
         ensures sector { result.0 ≡ self.now.to }
         ensures range { IsSector self.now.to }
@@ -83,8 +83,8 @@ impl ToSector {
         self.at
     }
 
-    /// One step of at most seven and those that wait. Where a switch may not turn on yet it answers `Later`, makes no
-    /// access, and the next step asks again.
+    /// One step of at most seven, waits not counted. Where a switch may not turn on yet the step answers `Later` and
+    /// makes no access, and the next step asks again.
     pub fn step(&mut self, gates: &mut Gates, regs: &mut Regs) -> Progress
         requires { regs.old.accesses < 2 ^ 63 }
         ensures step { IsActed regs.old (change_step self.old gates.old regs.old) result self.new gates.new regs.new }
@@ -96,7 +96,8 @@ impl ToSector {
         ensures one_access { regs.new.accesses ≤ regs.old.accesses + 1 }
         ensures no_time { regs.new.time ≡ regs.old.time }
         ensures dead_time { IsApart regs.old.hi regs.old.lo → KeepsDeadTime regs.old gates.new regs.new }
-        ensures dead_safe { (back : List Note) → IsTied gates.old regs.old.hi regs.old.lo back → IsApart regs.old.hi regs.old.lo → IsSaid back gates.new regs.new }
+        ensures dead_safe { (back : List Note) → IsTied gates.old regs.old.hi regs.old.lo back → IsApart regs.old.hi regs.old.lo →
+            IsSaid back gates.new regs.new }
     {
         self.act(gates, regs)
     }
@@ -139,7 +140,8 @@ impl ToSector {
     fn turn_low_on(&mut self, low: Leg, gates: &mut Gates, regs: &mut Regs) -> Progress
         requires count { regs.old.accesses < 2 ^ 63 }
         requires pair { low ≡ low_of self.old.to }
-        ensures { IsActed regs.old (low_step (wait_of_low gates.old regs.old (low_of self.old.to)) self.old gates.old regs.old) result self.new gates.new regs.new }
+        ensures { IsActed regs.old (low_step (wait_of_low gates.old regs.old (low_of self.old.to)) self.old gates.old regs.old)
+            result self.new gates.new regs.new }
     {
         if let Some(from) = gates.low_wait(regs, low) {
             return Progress::Later(from);
@@ -151,7 +153,8 @@ impl ToSector {
     fn turn_high_on(&mut self, high: Leg, gates: &mut Gates, regs: &mut Regs) -> Progress
         requires count { regs.old.accesses < 2 ^ 63 }
         requires pair { high ≡ high_of self.old.to }
-        ensures { IsActed regs.old (high_step (wait_of_high gates.old regs.old (high_of self.old.to)) self.old gates.old regs.old) result self.new gates.new regs.new }
+        ensures { IsActed regs.old (high_step (wait_of_high gates.old regs.old (high_of self.old.to)) self.old gates.old regs.old)
+            result self.new gates.new regs.new }
     {
         if let Some(from) = gates.high_wait(regs, high) {
             return Progress::Later(from);

@@ -7,7 +7,7 @@ const GROUPS: [u8; 16] = [
     0x19, 0x1B, 0x12, 0x13, 0x1D, 0x15, 0x16, 0x17, 0x1A, 0x09, 0x0A, 0x0B, 0x1E, 0x0D, 0x0E, 0x0F,
 ];
 
-/// The 20 GCR bits of a word: five for each nibble, the most significant first.
+/// The 20 GCR bits of a word: five for each nibble, the most significant nibble first.
 pub fn gcr(word: u16) -> u32
     ensures of_20_bits { result < 2 ^ 20 }
     ensures groups { bits_of 20 result ≡ groups_of word }

@@ -5,7 +5,7 @@ ghost use Rattle.gcr_reply.specs.Reply.{check_of};
 // The greatest mantissa, of nine bits.
 const MANTISSA_MAX: u32 = 511;
 
-// The shortest period whose twelve bits would be those of no period.
+// The shortest period, in microseconds, whose twelve bits would be those of no period.
 const TOO_LONG: u32 = 65408;
 
 // The twelve bits that tell no period.
@@ -13,7 +13,7 @@ const NO_PERIOD: u16 = 0xFFF;
 
 /// The word that tells an electrical period in microseconds, or that there is none. Its first three bits are the
 /// least exponent with `period_us >> exponent` at most 511, the next nine are that quotient, and the last four are
-/// a check nibble, which makes the exclusive or of all four nibbles 15. A period of 65408 or more is told as none.
+/// a check nibble, which makes the exclusive or of all four nibbles 15. A period of 65408 or more counts as none.
 pub fn payload(period_us: Option<u32>) -> u16
     ensures { IsPayload result period_us }
 {

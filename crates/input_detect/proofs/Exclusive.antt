@@ -65,8 +65,10 @@ told : (m : Mode) (edges : List Edge) (servo : Servo) → fits m edges servo ≡
 told mode.Unknown edges servo h = absurd (cc)
 told mode.D300 edges servo h = let p = passed 160 false edges h in rw (not_two (length edges) p.count, p.polar, long (span edges) p.spans) refl
 told mode.D600 edges servo h = let p = passed 80 false edges h in rw (not_two (length edges) p.count, p.polar, short (span edges) p.spans) refl
-told mode.D300Inv edges servo h = let p = passed 160 true edges h in rw (not_two (length edges) p.count, low (edge_at edges 0).level p.polar, long (span edges) p.spans) refl
-told mode.D600Inv edges servo h = let p = passed 80 true edges h in rw (not_two (length edges) p.count, low (edge_at edges 0).level p.polar, short (span edges) p.spans) refl
+told mode.D300Inv edges servo h =
+    let p = passed 160 true edges h in rw (not_two (length edges) p.count, low (edge_at edges 0).level p.polar, long (span edges) p.spans) refl
+told mode.D600Inv edges servo h =
+    let p = passed 80 true edges h in rw (not_two (length edges) p.count, low (edge_at edges 0).level p.polar, short (span edges) p.spans) refl
 told mode.Servo edges servo h = is_two (length edges == 2) _ _ (two_edges (length edges == 2) _ _ refl h)
 
 pub one_mode : (m other : Mode) (edges : List Edge) (servo : Servo) → fits m edges servo ≡ true → fits other edges servo ≡ true → other ≡ m

@@ -3,7 +3,8 @@ use Rattle.std.proofs.Common.{◌≡◌, ◌<◌, ◌+◌, ℕ, zero, suc, Bool,
 use Rattle.std.specs.List.{find}
 use Rattle.esc_base.specs.declared.signal.Mode.{Mode}
 
-pub find-passed_over : (p : Mode → Bool) (xs : List Mode) (i : ℕ) (d : Mode) → i < length xs → p (get_or xs i d) ≡ false → find p (drop i xs) ≡ find p (drop (i + 1) xs)
+pub find-passed_over : (p : Mode → Bool) (xs : List Mode) (i : ℕ) (d : Mode) → i < length xs → p (get_or xs i d) ≡ false
+    → find p (drop i xs) ≡ find p (drop (i + 1) xs)
 find-passed_over p [] i d lt h = absurd (omega arith)
 find-passed_over p (x ∷ xs) zero d lt h = rw h refl
 find-passed_over p (x ∷ xs) (suc i) d lt h =

@@ -24,8 +24,8 @@ abbrev pub by_detection : Seen → Judgement
 by_detection (seen.Found mode) = Found mode
 by_detection seen.None = Nothing
 
--- Where no mode is known the edges are taken for the first allowed mode in which they are good, and never for a frame; else for
--- a frame or a pulse of that mode.
+-- In a window with no mode yet, the edges show the first allowed mode in which they are good, and are never taken for a frame;
+-- in any other they are a frame or a pulse of its mode.
 abbrev pub judged : Mode → List Edge → InputKind → Servo → Judgement
 judged mode.Unknown burst allowed servo = by_detection (detect_of burst allowed servo)
 judged mode.D300 burst allowed servo = by_verdict (verdict_of mode.D300 burst)

@@ -7,7 +7,7 @@ use edge_capture::Burst;
 use esc_base::{Mode, Verdict};
 use servo_input::{InputKind, Servo, pulse};
 
-/// What a burst is taken for.
+/// What detection makes of a burst.
 #[derive(Clone, Copy, Debug, PartialEq, Eq, Drop)]
 pub enum Seen {
     /// The signal is in this mode.
@@ -25,8 +25,8 @@ const MODES: [Mode; 5] = [
     Mode::Servo,
 ];
 
-/// The mode of a burst from a window that had none: the first mode that the settings allow and in which the burst is
-/// good. The burst isn't taken as a frame.
+/// The signal mode of a burst that was heard in a window with no mode yet: the first mode that the settings allow and
+/// in which the burst is good. The burst isn't taken for a frame.
 pub fn detect(burst: &Burst, input: InputKind, servo: &Servo) -> Seen
     ensures detected { result ≡ detect_of burst.now input servo.now }
     ensures mode { IsFoundMode result }

@@ -17,7 +17,7 @@ fn add(burst: &mut Burst, t: u64, level: bool) {
     }
 }
 
-// A frame with value 1046 whose bits are so many ticks long: a one is active for three quarters of it.
+// A frame with value 1046 and bits of this many ticks: a one is active for three quarters of its bit.
 fn frame(bit: u32, inverted: bool) -> Burst {
     let word = encode(
         Frame {

@@ -171,7 +171,8 @@ chosen : (nest : Nest) (h : Option Kind) → is_none h ≡ false → enters_abov
 chosen nest None some none = let z : true ≡ false = some in cc
 chosen nest (Some k) some none = let z : Some k ≡ None = none in cc
 
-pub some_open : (nest : Nest) (masked : Bool) (hold : ℕ) (stack : List Kind) (due : Kind → Bool) → is_idle stack due ≡ false → (masked ≡ true → IsHeld hold stack)
+pub some_open : (nest : Nest) (masked : Bool) (hold : ℕ) (stack : List Kind) (due : Kind → Bool) → is_idle stack due ≡ false
+    → (masked ≡ true → IsHeld hold stack)
     → None ≡ (if masked then None else next_entry nest stack due) → stack ≡ [] → ⊥
 some_open nest true hold stack due busy held none e = (held refl).0 e
 some_open nest false hold [] due busy held none e = chosen nest (highest due) busy (sym none)

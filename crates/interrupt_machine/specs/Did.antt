@@ -1,4 +1,4 @@
--- What a step of a handler came to.
+-- What a step of a handler came to: the activation goes on or returns, with notes of its own.
 use Rattle.std.specs.Prelude.{◌≡◌, ℕ, List}
 use Rattle.esc_base.specs.declared.kind.Kind.{Kind}
 use Rattle.esc_base.specs.declared.kind.Kind.TheVariants as kind
@@ -21,7 +21,7 @@ abbrev pub notes_of : Did → List Note
 notes_of (More own) = own.items
 notes_of (Return own) = own.items
 
--- the most own steps of an activation, the return counted and the entry not
+-- how many own steps an activation makes at most, its return counted and its entry not
 abbrev pub most : Kind → ℕ
 most kind.Main = 8
 most kind.Uart = 8
@@ -31,7 +31,7 @@ most kind.Cmp = 12
 most kind.Pwm = 12
 most kind.Comm = 24
 
--- beside at most one access the registers stay as they were
+-- the registers are as they were, but for at most one access
 pub record MakesOneAccess (before after : Bank) : Type 0 where
   pub access : Access
   pub after_is : after ≡ accessed before access

@@ -5,8 +5,8 @@ use Rattle.interrupt_machine.specs.Did.{most}
 use Rattle.interrupt_machine.specs.Open.{innermost}
 use Rattle.interrupt_machine.specs.Response.{stepper}
 
--- The own steps that are left: an entry allows at most those of its kind, a step of its own takes at least one, and
--- what the other kinds have left stays.
+-- How a step of the machine changes the own steps that each kind's open activation may still make: an entry gives at most those
+-- of its kind, an own step takes at least one, and the other kinds keep theirs.
 pub record SpendsOwnSteps {F : Type 0} (left : F → Kind → ℕ) (old : F) (stack : List Kind) (new : F) (stack' : List Kind) : Type 0 where
   pub entered : (k : Kind) → stack' ≡ k ∷ stack → left new k ≤ most k
   pub stepped : (k : Kind) → innermost stack ≡ Some k → length stack' ≤ length stack → left new k < left old k

@@ -1,4 +1,4 @@
--- The kinds that are open, the innermost first, and which due kind enters.
+-- The interrupt kinds with an open handler, the innermost first, and which due kind enters.
 use Rattle.std.specs.Prelude.{ℕ, Bool, true, false, not, ◌&&◌, ◌==◌, nat_lt, ◌<◌, if◌then◌else◌, List, [], ◌∷◌, Option, Some, None, is_none}
 use Rattle.std.specs.List.{find, list_any}
 use Rattle.esc_base.specs.declared.kind.Kind.{Kind}
@@ -26,7 +26,7 @@ abbrev pub IsAbove : Option Kind → Kind → Type 0
 IsAbove None k = Unit {0}
 IsAbove (Some inner) k = kind_number inner < kind_number k
 
--- the kinds, the highest first
+-- the kinds by their priority, the highest first
 abbrev pub by_priority : List Kind
 by_priority = kind.Comm ∷ kind.Pwm ∷ kind.Cmp ∷ kind.Cap ∷ kind.Tick ∷ kind.Uart ∷ kind.Main ∷ []
 
@@ -41,12 +41,12 @@ kind_of n = kind_in by_priority n
 abbrev pub is_open : List Kind → Kind → Bool
 is_open stack k = list_any (λ j. kind_number j == kind_number k) stack
 
--- what is due: MAIN where the firmware waits, the others by the registers
+-- whether a kind is due: MAIN where the firmware waits for it, each other one by the registers
 abbrev pub due_now : Bool → Bank → Kind → Bool
 due_now waits b kind.Main = waits
 due_now waits b k = is_due b k
 
--- the same by a set of kinds
+-- the same with the registers' due kinds as a set
 abbrev pub due_in : Bool → KindSet → Kind → Bool
 due_in waits set kind.Main = waits
 due_in waits set k = has_kind set k

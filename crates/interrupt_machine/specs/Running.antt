@@ -1,4 +1,4 @@
--- What a contract sees of the machine.
+-- What contracts see of the machine.
 use Rattle.std.specs.Prelude.{List}
 use Rattle.esc_base.specs.declared.kind.Kind.{Kind}
 use Rattle.interrupt_machine.specs.declared.nest.Nest.{Nest}

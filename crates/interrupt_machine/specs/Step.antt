@@ -22,7 +22,7 @@ pub record MachineStepped {F : Type 0} (came : F → Kind → F → Type 0) (mad
   pub in_range : All InRange notes
   pub own_steps : SpendsOwnSteps left old.firmware old.open_kinds new.firmware new.open_kinds
   pub mask_spent : SpendsMask (hold old.firmware) before.masked (hold new.firmware) after.masked
-  -- along any log, no kind waits for more than 8 counted steps
+  -- if no kind has waited for more than 8 counted steps at the end of a log, none has once this step is added to it
   pub response : (log : List Moment) → Responds old.nest (hold old.firmware) before.masked old.open_kinds (due_now (waits old.firmware) before) log
       → Responds old.nest (hold new.firmware) after.masked new.open_kinds (due_now (waits new.firmware) after)
       (log ++ Stepped old.open_kinds (due_now (waits old.firmware) before) new.open_kinds (due_now (waits new.firmware) after) ∷ [])

@@ -32,7 +32,7 @@ abbrev pub open_after : Kind → List Kind → Did → List Kind
 open_after kind outer (More own) = kind ∷ outer
 open_after kind outer (Return own) = outer
 
--- a kind is entered
+-- a kind is entered: the mask is down, and it is the highest due kind and may enter
 pub record Entry {F : Type 0} (came : F → Kind → F → Type 0) (waits : F → Bool) (nest : Nest) (old : F) (stack : List Kind) (before : Bank) (kind : Kind)
     (notes : List Note) (new : F) (stack' : List Kind) (after : Bank) : Type 0 where
   pub unmasked : before.masked ≡ false
@@ -53,13 +53,13 @@ pub record OwnStep {F : Type 0} (made : F → Bank → Told → Kind → Did →
   pub stack_is : stack' ≡ open_after kind outer did
   pub notes_are : notes ≡ own_notes before.hi before.lo after kind did
 
--- an entry, which leaves the flash, or an own step
+-- a step of the machine: an entry, which leaves the flash as it is, or an own step of the innermost open handler
 abbrev pub Turn : {F : Type 0} → (F → Kind → F → Type 0) → (F → Bank → Told → Kind → Did → F → Bank → Told → Type 0) → (F → Bool) → Nest → F → List Kind
     → Bank → Told → List Note → F → List Kind → Bank → Told → Type 0
 Turn {F} came made waits nest old stack before flash notes new stack' after flash' =
     ((kind : Kind) × Entry came waits nest old stack before kind notes new stack' after × (flash' ≡ flash))
     ⊎ ((kind : Kind) × (outer : List Kind) × (did : Did) × OwnStep made waits nest old stack before flash kind outer did notes new stack' after flash')
 
--- a handler is open, and the mask may stand for a step more
+-- a handler is open, and the mask may stand for one more step
 abbrev pub IsHeld : ℕ → List Kind → Type 0
 IsHeld hold stack = (stack ≢ []) × (0 < hold)

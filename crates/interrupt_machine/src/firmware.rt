@@ -1,7 +1,7 @@
 ghost use Rattle.std.specs.Prelude.{◌≡◌, ◌≢◌, ◌+◌, ◌<◌, ◌≤◌, ◌^◌, ℕ, Bool, true, false, All};
 ghost use Rattle.esc_base.specs.declared.kind.Kind.{Kind};
 ghost use Rattle.esc_base.specs.Range.{InRange};
-ghost use Rattle.esc_base.specs.Flash.{Told, told};
+ghost use Rattle.esc_base.specs.Flash.{Told};
 ghost use Rattle.timer_regs.specs.Bank.{Bank};
 ghost use Rattle.interrupt_machine.specs.declared.firmware.Did.{Did};
 ghost use Rattle.interrupt_machine.specs.Did.{IsMore, IsReturn, notes_of, most, MakesOneAccess};
@@ -41,7 +41,7 @@ pub trait Firmware: Drop {
     /// Whether MAIN is due.
     ghost waits: { Self → Bool };
 
-    /// Opens an activation of this kind, and leaves what is left to the others.
+    /// Opens an activation of this kind; those of the other kinds keep their own steps.
     fn enter(&mut self, kind: Kind)
         ensures came { came self.old kind self.new }
         ensures some { 1 ≤ left self.new kind }
@@ -55,7 +55,7 @@ pub trait Firmware: Drop {
         requires open { 0 < left self.old kind }
         requires held { regs.old.masked ≡ true → 0 < hold self.old }
         requires count { regs.old.accesses < 2 ^ 63 }
-        ensures made { made self.old regs.old (told D.bytes D.faults dev.old) kind result self.new regs.new (told D.bytes D.faults dev.new) }
+        ensures made { made self.old regs.old (D.told dev.old) kind result self.new regs.new (D.told dev.new) }
         ensures less { left self.new kind < left self.old kind }
         ensures others { (k : Kind) → k ≢ kind → left self.new k ≡ left self.old k }
         ensures more { IsMore result → 0 < left self.new kind }

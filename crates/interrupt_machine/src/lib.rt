@@ -1,5 +1,5 @@
-//! The interrupt machine: a higher kind that is due enters, else the innermost open handler makes one step of its
-//! own. It runs any firmware.
+//! The interrupt machine, for any firmware: in each step a higher interrupt kind that is due enters, or else the innermost
+//! open handler makes one step of its own.
 #![tactic(auto)]
 
 mod firmware;

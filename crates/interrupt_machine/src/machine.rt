@@ -1,7 +1,7 @@
 ghost use Rattle.std.specs.Prelude.{◌≡◌, ◌≢◌, ◌+◌, ◌<◌, ◌≤◌, ◌^◌, ◌++◌, ℕ, Bool, true, false, if◌then◌else◌, List, [], ◌∷◌, Option, Some, None, All, length};
 ghost use Rattle.esc_base.specs.declared.kind.Kind.{Kind};
 ghost use Rattle.esc_base.specs.Range.{InRange};
-ghost use Rattle.esc_base.specs.Flash.{Told, told};
+ghost use Rattle.esc_base.specs.Flash.{Told};
 ghost use Rattle.interrupt_machine.specs.Did.{notes_of};
 ghost use Rattle.interrupt_machine.specs.Open.{innermost, is_open, due_now, due_in, highest, next_entry, is_idle};
 ghost use Rattle.interrupt_machine.specs.Response.{Moment, Passed, Responds};
@@ -23,8 +23,8 @@ pub type Notes = ArrayVec<Note, 6>;
 ///
 /// A due kind that isn't open waits a bounded time: it is entered after at most 8 masked steps and one further step,
 /// not counting entries and steps of higher kinds. With `Nest::One` only MAIN's own steps count, since an open handler
-/// above MAIN goes on to its return before any kind enters. `response` of a step and of passing time promises this along
-/// any log: `new` begins one, and each step, and each time that passes, adds to it what was open and due before and after.
+/// above MAIN goes on to its return before any kind enters. The clauses `response` promise this for a log of what happened:
+/// `new` begins one, and each step, and each time that passes, adds to it what was open and due before and after.
 #[derive(Drop)]
 pub struct Machine<F: Firmware> {
     firmware: F,
@@ -122,18 +122,17 @@ impl<F: Firmware> Machine<F> {
         self.stack.depth() == 0 && self.due(regs).is_none()
     }
 
-    /// One step of the machine, at now, and its notes. The machine isn't idle. Where the mask is up, a handler is open
-    /// and the firmware's `hold` isn't 0, and this is so again after the step.
+    /// One step of the machine, at now, and its notes, at most six. The machine must not be idle. Where the mask is up, a
+    /// handler is open and the firmware's `hold` isn't 0, and this is so again after the step.
     ///
     /// Where the mask is down and the highest due kind may enter, it is entered, with an I note, and the flash stays as it
-    /// is. Else the innermost open
-    /// handler makes a step of its own, with at most one access: a G note where the gates changed, then the handler's
-    /// own notes, then an O note where it was the return.
+    /// is. Else the innermost open handler makes a step of its own, with at most one access: a G note where the gates
+    /// changed, then the handler's own notes, then an O note where it was the return.
     pub fn step<D: FlashDev>(&mut self, regs: &mut Regs, dev: &mut D) -> Notes
         requires busy { is_idle self.old.open_kinds (due_now (F.waits self.old.firmware) regs.old) ≡ false }
         requires mask { regs.old.masked ≡ true → IsHeld (F.hold self.old.firmware) self.old.open_kinds }
         requires count { regs.old.accesses < 2 ^ 63 }
-        ensures { MachineStepped F.came F.made F.waits F.left F.hold self.old regs.old (told D.bytes D.faults dev.old) result.items self.new regs.new (told D.bytes D.faults dev.new) }
+        ensures { MachineStepped F.came F.made F.waits F.left F.hold self.old regs.old (D.told dev.old) result.items self.new regs.new (D.told dev.new) }
     {
         let mut notes = ArrayVec::new();
         self.step_into(regs, dev, &mut notes);
@@ -145,7 +144,7 @@ impl<F: Firmware> Machine<F> {
         requires busy { is_idle self.old.open_kinds (due_now (F.waits self.old.firmware) regs.old) ≡ false }
         requires mask { regs.old.masked ≡ true → IsHeld (F.hold self.old.firmware) self.old.open_kinds }
         requires count { regs.old.accesses < 2 ^ 63 }
-        ensures { MachineStepped F.came F.made F.waits F.left F.hold self.old regs.old (told D.bytes D.faults dev.old) notes.new.items self.new regs.new (told D.bytes D.faults dev.new) }
+        ensures { MachineStepped F.came F.made F.waits F.left F.hold self.old regs.old (D.told dev.old) notes.new.items self.new regs.new (D.told dev.new) }
     {
         notes.clear();
         match self.entry(regs) {
@@ -159,8 +158,9 @@ impl<F: Firmware> Machine<F> {
         requires later { regs.old.time ≤ to.0 }
         requires small { to.0 < 2 ^ 31 }
         ensures regs { regs.new ≡ advanced regs.old to.0 }
-        ensures response { (log : List Moment) → Responds self.now.nest (F.hold self.now.firmware) regs.old.masked self.now.open_kinds (due_now (F.waits self.now.firmware) regs.old) log
-            → Responds self.now.nest (F.hold self.now.firmware) regs.new.masked self.now.open_kinds (due_now (F.waits self.now.firmware) regs.new)
+        ensures response { (log : List Moment) →
+            Responds self.now.nest (F.hold self.now.firmware) regs.old.masked self.now.open_kinds (due_now (F.waits self.now.firmware) regs.old) log →
+            Responds self.now.nest (F.hold self.now.firmware) regs.new.masked self.now.open_kinds (due_now (F.waits self.now.firmware) regs.new)
             (log ++ Passed self.now.open_kinds (due_now (F.waits self.now.firmware) regs.old) (due_now (F.waits self.now.firmware) regs.new) ∷ []) }
     {
         regs.advance(to);
@@ -168,7 +168,8 @@ impl<F: Firmware> Machine<F> {
 
     /// The kind that enters now, if one does.
     fn entry(&self, regs: &Regs) -> Option<Kind>
-        ensures entry { result ≡ (if regs.now.masked then None else next_entry self.now.nest self.now.open_kinds (due_now (F.waits self.now.firmware) regs.now)) }
+        ensures entry { result ≡ (if regs.now.masked then None
+            else next_entry self.now.nest self.now.open_kinds (due_now (F.waits self.now.firmware) regs.now)) }
     {
         if regs.masked() {
             return None;
@@ -204,7 +205,7 @@ impl<F: Firmware> Machine<F> {
         requires held { regs.old.masked ≡ true → 0 < F.hold self.old.firmware }
         requires count { regs.old.accesses < 2 ^ 63 }
         requires empty { notes.old.items ≡ [] }
-        ensures { MachineStepped F.came F.made F.waits F.left F.hold self.old regs.old (told D.bytes D.faults dev.old) notes.new.items self.new regs.new (told D.bytes D.faults dev.new) }
+        ensures { MachineStepped F.came F.made F.waits F.left F.hold self.old regs.old (D.told dev.old) notes.new.items self.new regs.new (D.told dev.new) }
     {
         let Some(kind) = self.stack.innermost() else {
             return;

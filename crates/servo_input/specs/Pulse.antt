@@ -7,7 +7,7 @@ use Rattle.esc_base.specs.declared.signal.Why.TheVariants.{Count, Polarity, Widt
 use Rattle.edge_capture.specs.Edges.{edge_at}
 use Rattle.servo_input.specs.declared.servo.Servo.{Servo}
 
--- whole microseconds of 48 ticks
+-- the pulse's width, from its first edge to its second, in whole microseconds of 48 ticks
 abbrev pub width_us : List Edge → ℕ
 width_us edges = ((edge_at edges 1).t.0 - (edge_at edges 0).t.0) / 48
 
@@ -22,7 +22,7 @@ servo_value us servo =
     else if nat_le servo.high_us us then 2047
     else 48 + (us - servo.low_us) * 1999 / (servo.high_us - servo.low_us)
 
--- the first that applies, else the value of the width
+-- the first fault that applies, else the throttle value of the width
 abbrev pub pulse_of : List Edge → Servo → Verdict
 pulse_of edges servo =
     if not (length edges == 2) then Bad Count

@@ -22,7 +22,8 @@ below_some old mid new n e same whole =
     same ∙ ap (λ (l : List ℕ). take 31744 l) e ∙ front_same 31744 old (blank 1024) (drop 32768 old) (omega arith)
 
 -- bytes below the last page are as before, once it was erased and programming it failed
-pub below_erased : (old mid new : Option (List ℕ)) (n : ℕ) → mid ≡ option_map (λ cells. erased cells 31) old → ChangesWithin 31744 n mid new → IsWhole old → KeepsBelow 31744 old new
+pub below_erased : (old mid new : Option (List ℕ)) (n : ℕ) → mid ≡ option_map (λ cells. erased cells 31) old → ChangesWithin 31744 n mid new → IsWhole old
+    → KeepsBelow 31744 old new
 below_erased None None None n e c whole = tt
 below_erased None None (Some new) n e c whole = absurd c
 below_erased None (Some mid) new n e c whole = absurd (let g = e in cc)

@@ -38,7 +38,8 @@ bit_same : (field : Field) (n : ℕ) → field.most ≡ 1 → allows field n ≡
 bit_same field n most e =
     bit_at (n == 1) n refl (rw most at (most_of (nat_le field.least n) (nat_le n field.most) (n % field.step == 0) e))
 
-input_at : (a b : Bool) (n : ℕ) → (n == 1) ≡ a → (n == 2) ≡ b → nat_le n 2 ≡ true → input_number (if a then input.DShot else (if b then input.Servo else input.Any)) ≡ n
+input_at : (a b : Bool) (n : ℕ) → (n == 1) ≡ a → (n == 2) ≡ b → nat_le n 2 ≡ true
+    → input_number (if a then input.DShot else (if b then input.Servo else input.Any)) ≡ n
 input_at true b n e f le = grind (arith, nat_tests)
 input_at false true n e f le = grind (arith, nat_tests)
 input_at false false n e f le = grind (arith, nat_tests)
@@ -76,11 +77,13 @@ unfoldable Within : List (Field × ℕ) → ℕ → Type 0
 Within [] n = Unit {0}
 Within (byte ∷ bytes) n = (byte.0.offset < n) × Within bytes n
 
-index_set : (b : Bool) (block : List ℕ) (at v k : ℕ) → (at == k) ≡ b → at < length block → slice_index (slice_set block at v) k ≡ (if b then v else slice_index block k)
+index_set : (b : Bool) (block : List ℕ) (at v k : ℕ) → (at == k) ≡ b → at < length block
+    → slice_index (slice_set block at v) k ≡ (if b then v else slice_index block k)
 index_set true block at v k e lt = let same : k ≡ at = grind (arith, nat_tests) in rw same (get_or-set_same block at v 0 lt)
 index_set false block at v k e lt = let ne : k ≢ at = grind (arith, nat_tests) in get_or-set_other block at k v 0 ne
 
-index_written : (bytes : List (Field × ℕ)) (block : List ℕ) (k : ℕ) → Within bytes (length block) → slice_index (written bytes block) k ≡ seen bytes (slice_index block k) k
+index_written : (bytes : List (Field × ℕ)) (block : List ℕ) (k : ℕ) → Within bytes (length block)
+    → slice_index (written bytes block) k ≡ seen bytes (slice_index block k) k
 unfolding Within seen
 index_written [] block k within = refl
 index_written (byte ∷ bytes) block k within =
@@ -105,8 +108,25 @@ record Holds (block : List ℕ) (s : Settings) : Type 0 where
 
 within_block : (s : Settings) (n : ℕ) → n ≡ 48 → Within (bytes_of s) n
 unfolding Within
-within_block s n e =
-    (omega arith, (omega arith, (omega arith, (omega arith, (omega arith, (omega arith, (omega arith, (omega arith, (omega arith, (omega arith, (omega arith, (omega arith, tt))))))))))))
+within_block s n e = (
+  omega arith,
+  (
+    omega arith,
+    (
+      omega arith,
+      (
+        omega arith,
+        (
+          omega arith,
+          (
+            omega arith,
+            (omega arith, (omega arith, (omega arith, (omega arith, (omega arith, (omega arith, tt)))))),
+          ),
+        ),
+      ),
+    ),
+  ),
+)
 
 holds : (s : Settings) → length s.rest.0 ≡ 48 → Holds (block_of s) s
 unfolding seen
@@ -171,7 +191,21 @@ input_back input.Servo = refl
 
 settings_back : (block : List ℕ) (s : Settings) → Holds block s → settings_of block ≡ record s { rest = record { 0 = block } }
 settings_back block s h =
-    rw (h.direction, h.three_d, bit_back s.three_d, h.complementary, bit_back s.complementary, h.advance, h.poles, h.low, h.high, h.neutral, h.dead_band, h.input, input_back s.input) refl
+    rw (
+      h.direction,
+      h.three_d,
+      bit_back s.three_d,
+      h.complementary,
+      bit_back s.complementary,
+      h.advance,
+      h.poles,
+      h.low,
+      h.high,
+      h.neutral,
+      h.dead_band,
+      h.input,
+      input_back s.input,
+    ) refl
 
 read_back_at : (block : List ℕ) (s : Settings) → Holds block s → IsInRange s → read_of block ≡ Ok (record s { rest = record { 0 = block } })
 read_back_at block s h r = rw (sound_fault block (holds_sound block s h r), settings_back block s h) refl

@@ -43,15 +43,15 @@ default_settings = record {
   rest = record { 0 = replicate 48 0 };
 }
 
--- The servo pulses that give the least and the greatest value, in microseconds, by the settings' two bytes. The low end by
--- any byte is below the high end by any other, so its bound here changes nothing.
+-- The ends of the range of servo pulses, in microseconds, from the settings' two bytes. Any low end is below any high end, so
+-- the bound on the low one changes nothing.
 pub ends_in_order : (low high : ℕ) → min (2 * low + 750) (2 * high + 1749) < 2 * high + 1750
 ends_in_order low high = omega arith
 
 abbrev pub servo_of : Settings → Servo
 servo_of s = record { low_us = min (2 * s.low + 750) (2 * s.high + 1749); high_us = 2 * s.high + 1750; in_order = ends_in_order s.low s.high }
 
--- what a command changes
+-- what a command changes of the settings
 abbrev pub applied : Settings → Act → Settings
 applied s (Direction side) = record s { direction = side }
 applied s (ThreeD is_on) = record s { three_d = is_on }

@@ -14,7 +14,7 @@ loaded_by (Some fault) block = record { settings = default_settings; fault = Som
 abbrev pub loaded_of : List ℕ → Loaded
 loaded_of block = loaded_by (fault_of block) block
 
--- this was loaded from the 48 bytes at 0x7C00
+-- this was loaded from the 48 bytes at 0x7C00 (31744) of the flash, where it tells them
 pub record IsLoaded (told : Option (List ℕ)) (loaded : Loaded) : Type 0 where
   pub block : List ℕ
   pub len : length block ≡ 48

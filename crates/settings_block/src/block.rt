@@ -16,7 +16,7 @@ use thiserror::Error;
 /// What is wrong with a block: the first of these that applies.
 #[derive(Clone, Copy, Debug, PartialEq, Eq, Drop, Error)]
 pub enum BlockFault {
-    /// There is no block.
+    /// The byte that marks a block isn't there.
     #[error("no settings block")]
     Marker,
     /// The block has another version.
@@ -37,7 +37,7 @@ pub fn read_block(b: &Block48) -> Result<Settings, BlockFault>
     Ok(settings_in(b))
 }
 
-/// The block of these settings. Reading it gives them back, with this block for the bytes that are kept.
+/// The block of these settings: their fields over the bytes that they were read from. Reading it gives them back.
 pub fn write_block(s: &Settings) -> Block48
     ensures block { result.0 ≡ block_of s.now }
     ensures inverse { IsInRange s.now → read_of result.0 ≡ Ok (record s.now { rest = result }) }

@@ -20,11 +20,11 @@ pub struct Settings {
     pub advance: u8,
     /// The magnetic poles of the motor, even, 2 to 64.
     pub poles: u8,
-    /// The low end of servo pulses: b stands for 2 b + 750 microseconds.
+    /// The low end of servo pulses: b stands for 2 b + 750 microseconds, 750 to 1260.
     pub low: u8,
-    /// The high end of servo pulses: b stands for 2 b + 1750 microseconds.
+    /// The high end of servo pulses: b stands for 2 b + 1750 microseconds, 1750 to 2260.
     pub high: u8,
-    /// The middle of servo pulses: b stands for b + 1374 microseconds.
+    /// The middle of servo pulses: b stands for b + 1374 microseconds, 1374 to 1629.
     pub neutral: u8,
     /// The dead band round the middle, 0 to 100 microseconds.
     pub dead_band: u8,

@@ -32,32 +32,33 @@ impl From<Failed> for FlashFault {
 /// What a load gives.
 #[derive(Clone, Copy, Debug, PartialEq, Eq, Drop)]
 pub struct Loaded {
-    /// Those of the block, or the default ones where it has a fault.
+    /// The settings of the block, or the default ones where it has a fault.
     pub settings: Settings,
-    /// What is wrong with the block.
+    /// What is wrong with the block, if something is.
     pub fault: Option<BlockFault>,
 }
 
-/// Reads the settings. It fails only where the flash did.
+/// Reads the settings from the 48 bytes at 0x7C00, or the default ones where the block has a fault. It fails only where
+/// the flash did.
 pub fn load<D: FlashDev>(dev: &mut D) -> Result<Loaded, FlashFault>
-    ensures loaded { IfOk result (λ loaded. IsLoaded (D.bytes dev.old) loaded) }
+    ensures loaded { IfOk result (λ loaded. IsLoaded (D.told dev.old).bytes loaded) }
     ensures in_range { IfOk result (λ loaded. IsInRange loaded.settings) }
-    ensures unchanged { D.bytes dev.new ≡ D.bytes dev.old }
-    ensures no_fewer { D.faults dev.old ≤ D.faults dev.new }
-    ensures failed { OnErr result (Rose (D.faults dev.old) (D.faults dev.new)) }
+    ensures unchanged { (D.told dev.new).bytes ≡ (D.told dev.old).bytes }
+    ensures no_fewer { (D.told dev.old).faults ≤ (D.told dev.new).faults }
+    ensures failed { OnErr result (Rose (D.told dev.old).faults (D.told dev.new).faults) }
 {
     let mut block = Block48([0; 48]);
     dev.read(ADDRESS, &mut block.0)?;
     Ok(loaded_from(&block))
 }
 
-/// Erases the block's page and programs the settings' block. It fails only where the flash did; then the
-/// bytes of that page may be any.
+/// Erases the block's page, which is the last one, and programs the settings' block. It fails only where the flash did;
+/// then that page may hold anything.
 pub fn save<D: FlashDev>(s: &Settings, dev: &mut D) -> Result<(), FlashFault>
-    ensures saved { OnOk result (D.bytes dev.new ≡ option_map (λ cells. programmed (erased cells 31) 31744 (block_of s.now)) (D.bytes dev.old)) }
-    ensures below { OnErr result (KeepsBelow 31744 (D.bytes dev.old) (D.bytes dev.new)) }
-    ensures no_fewer { D.faults dev.old ≤ D.faults dev.new }
-    ensures failed { OnErr result (Rose (D.faults dev.old) (D.faults dev.new)) }
+    ensures saved { OnOk result ((D.told dev.new).bytes ≡ option_map (λ cells. programmed (erased cells 31) 31744 (block_of s.now)) (D.told dev.old).bytes) }
+    ensures below { OnErr result (KeepsBelow 31744 (D.told dev.old).bytes (D.told dev.new).bytes) }
+    ensures no_fewer { (D.told dev.old).faults ≤ (D.told dev.new).faults }
+    ensures failed { OnErr result (Rose (D.told dev.old).faults (D.told dev.new).faults) }
 {
     dev.erase(PAGE)?;
     dev.program(ADDRESS, &write_block(s).0)?;

@@ -15,4 +15,6 @@ none false true lower e = sym e
 none false false lower e = refl
 
 pub advanced-now : (b : Bank) → b ≡ advanced b b.time
-advanced-now b = ap (λ (f : Bool). record b { flag = f }) (none b.flag (nat_lt 0 b.duty) (nat_lt (edges b.duty b.time) (edges b.duty b.time)) (not_below (edges b.duty b.time)))
+advanced-now b =
+    ap (λ (f : Bool). record b { flag = f })
+    (none b.flag (nat_lt 0 b.duty) (nat_lt (edges b.duty b.time) (edges b.duty b.time)) (not_below (edges b.duty b.time)))

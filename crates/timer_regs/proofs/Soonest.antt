@@ -19,7 +19,8 @@ neither a b e f = rw (e, f) refl
 abbrev either : (ℕ → Bool) → (ℕ → Bool) → ℕ → Bool
 either p q u = p u || q u
 
-of_both : (v : Bool) (now x y : ℕ) (p q : ℕ → Bool) → nat_lt y x ≡ v → IsFirst now p x → IsFirst now q y → IsFirstAfter now (either p q) (if v then Some y else Some x)
+of_both : (v : Bool) (now x y : ℕ) (p q : ℕ → Bool) → nat_lt y x ≡ v → IsFirst now p x → IsFirst now q y
+    → IsFirstAfter now (either p q) (if v then Some y else Some x)
 of_both true now x y p q e f g = record {
   later = g.later;
   due = or_right (p y) (q y) g.due;
@@ -67,7 +68,8 @@ none_due b kinds.Main u e = refl
 none_due b kinds.Uart u e = refl
 none_due b kinds.Cmp u e = refl
 
-which_due : (b : Bank) (u : ℕ) (t c p : Bool) → becomes_due b kinds.Tick u ≡ t → becomes_due b kinds.Cap u ≡ c → becomes_due b kinds.Pwm u ≡ p → ((t || c) || (p || becomes_due b kinds.Comm u)) ≡ true → (k : Kind) × (becomes_due b k u ≡ true)
+which_due : (b : Bank) (u : ℕ) (t c p : Bool) → becomes_due b kinds.Tick u ≡ t → becomes_due b kinds.Cap u ≡ c → becomes_due b kinds.Pwm u ≡ p
+    → ((t || c) || (p || becomes_due b kinds.Comm u)) ≡ true → (k : Kind) × (becomes_due b k u ≡ true)
 which_due b u true c p et ec ep e = (kinds.Tick, et)
 which_due b u false true p et ec ep e = (kinds.Cap, ec)
 which_due b u false false true et ec ep e = (kinds.Pwm, ep)
@@ -84,7 +86,8 @@ next_of b (Some t) f =
       none_before = λ k u lo hi. none_due b k u (f.none_before u lo hi);
     }
 
-pub soonest : (b : Bank) (t c p m : Option ℕ) → IsFirstDue b kinds.Tick t → IsFirstDue b kinds.Cap c → IsFirstDue b kinds.Pwm p → IsFirstDue b kinds.Comm m → IsNextDue b (sooner (sooner t c) (sooner p m))
+pub soonest : (b : Bank) (t c p m : Option ℕ) → IsFirstDue b kinds.Tick t → IsFirstDue b kinds.Cap c → IsFirstDue b kinds.Pwm p → IsFirstDue b kinds.Comm m
+    → IsNextDue b (sooner (sooner t c) (sooner p m))
 soonest b t c p m ft fc fp fm =
     next_of b (sooner (sooner t c) (sooner p m))
     (first_of_both b.time _ _ (sooner t c) (sooner p m) (first_of_both b.time _ _ t c ft fc) (first_of_both b.time _ _ p m fp fm))

@@ -1,4 +1,4 @@
--- One access to the registers, and what it leaves of them.
+-- One access to the registers, and what it changes of them.
 use Rattle.std.specs.Prelude.{ℕ}
 use Rattle.timer_regs.specs.Bank.{Bank}
 use Rattle.timer_regs.specs.Effects.{after_read, written}

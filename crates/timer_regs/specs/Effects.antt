@@ -1,5 +1,5 @@
--- What reads, writes, time, entries and outside events do to the registers. A register that isn't named in a list isn't
--- effective there, so one that becomes effective is a field of the bank and a line of each list that it changes.
+-- What reads, writes, time, entries and outside events do to the registers. A register that a list doesn't name has no effect
+-- there yet; one that gets an effect becomes a field of the bank, and a line of each list that it changes.
 use Rattle.std.specs.Prelude.{◌≡◌, ℕ, ◌+◌, ◌-◌, ◌/◌, ◌%◌, ◌<◌, ◌≤◌, ◌^◌, bit_and, bit_or, Bool, false, not, ◌&&◌, ◌||◌, ◌==◌, if◌then◌else◌, nat_lt, nat_le, max, length, Option, Some, None}
 use Rattle.esc_base.specs.declared.kind.Kind.{Kind}
 use Rattle.esc_base.specs.declared.kind.Kind.TheVariants as kind
@@ -16,7 +16,24 @@ use Rattle.timer_regs.specs.Bank.{Bank}
 use Rattle.timer_regs.specs.Pwm.{has_edge}
 
 abbrev pub reset : Bank
-reset = record { time = 0; accesses = 0; masked = false; hi = 0; lo = 0; duty = 0; flag = false; sector = 0; comm = None; stuck = false; level = false; window = unarmed; taken = false; timer = None; changed = None; number_read = 0 }
+reset = record {
+  time = 0;
+  accesses = 0;
+  masked = false;
+  hi = 0;
+  lo = 0;
+  duty = 0;
+  flag = false;
+  sector = 0;
+  comm = None;
+  stuck = false;
+  level = false;
+  window = unarmed;
+  taken = false;
+  timer = None;
+  changed = None;
+  number_read = 0;
+}
 
 -- a closed window's edges are there to be read
 abbrev pub is_readable : Bank → Bool
@@ -41,14 +58,14 @@ number_at t = t / 2400
 abbrev pub tick_state : Bank → ℕ
 tick_state b = if b.stuck then number_at b.time + 1073741824 else number_at b.time
 
--- a word of switches with those of another one off
+-- a word of switches with those of another word turned off
 abbrev pub without : ℕ → ℕ → ℕ
 without word off = bit_and word (7 - off)
 
 abbrev pub counted : Bank → Bank
 counted b = record b { accesses = b.accesses + 1 }
 
--- what a read gives; a register that isn't effective reads as 0
+-- what a read gives; every other register reads as 0
 abbrev pub read_value : Bank → Reg → ℕ
 read_value b CapState = edges_read b
 read_value b (CapEdge i) = edge_read b i
@@ -58,12 +75,12 @@ read_value b PwmPos = b.time % pwm_period
 read_value b Sector = b.sector
 read_value b r = 0
 
--- the control tick's number counts as read
+-- what a read leaves: it is counted, and the control tick's number counts as read
 abbrev pub after_read : Bank → Reg → Bank
 after_read b TickState = record b { accesses = b.accesses + 1; number_read = number_at b.time }
 after_read b r = counted b
 
--- what stands after a write; a write to a register that isn't effective has no effect
+-- what a write leaves; one to any other register is counted, and has no effect
 abbrev pub written : Bank → Reg → ℕ → Bank
 written b Mask v = record b { accesses = b.accesses + 1; masked = v == 1 }
 written b CapArm v = record b { accesses = b.accesses + 1; window = opened_in (mode_of v) b.time; taken = false }
@@ -79,7 +96,7 @@ written b DriveOff v = record b { accesses = b.accesses + 1; comm = None; stuck 
 written b Stuck v = record b { accesses = b.accesses + 1; stuck = b.stuck || (v == 1) }
 written b r v = counted b
 
--- the values that a register takes
+-- the values that may be written
 abbrev pub IsRange : Reg → ℕ → Type 0
 IsRange Mask v = v ≤ 1
 IsRange CapArm v = v ≤ 5
@@ -106,16 +123,21 @@ IsSmall PwmPos v = v < 2000
 IsSmall Sector v = v ≤ 6
 IsSmall r v = v ≡ 0
 
--- time alone goes on, and a PWM event on the way sets the flag
+-- time alone goes on to a tick, and a PWM event on the way sets the flag
 abbrev pub advanced : Bank → ℕ → Bank
 advanced b to = record b { time = to; flag = b.flag || has_edge b.duty b.time to }
 
--- the signal line has a level: where it is another one, the window is handed that edge, and an armed timer that isn't
+-- the signal line has a level: where it is a new one, that is an edge for the window, and an armed window timer that isn't
 -- reached waits until the line has rested
 abbrev pub after_line : Bank → Bool → Bank
 after_line b level =
     if differ b.level level
-    then record b { level = level; window = after_edge b.window (record { t = record { 0 = b.time }; level = level }); timer = put_off b.timer b.time; changed = Some b.time }
+    then record b {
+      level = level;
+      window = after_edge b.window (record { t = record { 0 = b.time }; level = level });
+      timer = put_off b.timer b.time;
+      changed = Some b.time;
+    }
     else b
 
 -- which kinds are due; MAIN is the firmware's matter
@@ -126,7 +148,8 @@ is_due b kind.Comm = is_reached b.comm b.time
 is_due b kind.Pwm = b.flag
 is_due b k = false
 
--- what entering a kind clears: COMM disarms its timer, PWM takes the event, CAP disarms its timer and takes the closed window, which stays readable
+-- what entering a kind clears: COMM disarms its timer, PWM takes the event, CAP disarms its timer and takes the closed
+-- window, which stays readable
 abbrev pub after_entry : Bank → Kind → Bank
 after_entry b kind.Cap = record b { taken = b.taken || is_readable b; timer = None }
 after_entry b kind.Comm = record b { comm = None }

@@ -1,4 +1,4 @@
--- Sets of kinds: bit k stands for the kind with number k.
+-- Sets of interrupt kinds: bit k stands for the kind with number k.
 use Rattle.std.specs.Prelude.{Bool, not, ◌==◌, bit_and, ◌^◌}
 use Rattle.esc_base.specs.declared.kind.Kind.{Kind}
 use Rattle.esc_base.specs.Numbers.{kind_number}

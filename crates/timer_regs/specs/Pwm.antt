@@ -1,9 +1,9 @@
--- Events of pulse width modulation: while the duty is above 0, one at each edge of its periods.
+-- Events of pulse width modulation (PWM): while the duty is above 0, one at the start of each period and one where its duty ends.
 use Rattle.std.specs.Prelude.{ℕ, ◌+◌, ◌-◌, ◌%◌, Bool, ◌&&◌, ◌==◌, if◌then◌else◌, nat_lt, Option, Some, None}
 use Rattle.esc_base.specs.Times.{pwm_period}
 use Rattle.esc_base.specs.Periods.{edges}
 
--- one stands after a tick and at or before another
+-- there is one after a tick and at or before another
 abbrev pub has_edge : ℕ → ℕ → ℕ → Bool
 has_edge duty after to = nat_lt 0 duty && nat_lt (edges duty after) (edges duty to)
 

@@ -12,14 +12,14 @@ pub record IsSound (b : Bank) : Type 0 where
   pub low : b.lo ≤ 7
   pub duty : b.duty ≤ 1900
   pub sector : b.sector ≤ 6
-  -- no later control tick was read
+  -- no control tick later than now was read
   pub read : b.number_read ≤ b.time / 2400
-  -- no later change of the line stands
+  -- no change of the line later than now stands
   pub changed : rests_from b.changed ≤ b.time + rest
-  -- no later edge was heard
+  -- no edge later than now was heard
   pub last : last_at b.window.edges ≤ b.time
 
--- and of what is kept beside them: the next PWM event
+-- and of the next PWM event, which the registers keep beside them
 pub record IsKept (b : Bank) (next : Option ℕ) : Type 0 where
   pub sound : IsSound b
   pub edge : next ≡ edge_after b.duty b.time

@@ -27,7 +27,8 @@ impl Flags for KindSet {
 
     ghost exact = { ⊤ };
 
-    ghost table = { (codes "MAIN", 1) ∷ (codes "UART", 2) ∷ (codes "TICK", 4) ∷ (codes "CAP", 8) ∷ (codes "CMP", 16) ∷ (codes "PWM", 32) ∷ (codes "COMM", 64) ∷ [] };
+    ghost table = { (codes "MAIN", 1) ∷ (codes "UART", 2) ∷ (codes "TICK", 4) ∷ (codes "CAP", 8) ∷ (codes "CMP", 16) ∷
+        (codes "PWM", 32) ∷ (codes "COMM", 64) ∷ [] };
 
     ghost set_of = { λ s. s.0 };
 

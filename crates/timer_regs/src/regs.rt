@@ -15,7 +15,8 @@ use edge_capture::{Capture, Edge};
 use esc_base::{Arrived, GateWord, Kind, Mode, Tick};
 use std::marker::Model;
 
-// For so long the line rests before the window timer is reached: longer than any gap between two edges of a good frame.
+// How long the line has to rest, in ticks, before the window timer is reached: longer than any gap between two edges of a
+// good frame.
 const REST: u64 = 200;
 
 /// A register. Times in registers are ticks of 48 MHz; a word of switches has bit 0 for leg A, bit 1 for
@@ -111,13 +112,47 @@ impl Model for Regs {
 
     ghost Value = { Bank };
 
-    ghost view = { λ r. record { time = r.time.0; accesses = r.accesses; masked = r.masked; hi = r.gates.hi; lo = r.gates.lo; duty = r.duty; flag = r.flag; sector = r.sector; comm = tick_of r.comm; stuck = r.stuck; level = r.level; window = r.window; taken = r.taken; timer = tick_of r.timer; changed = tick_of r.changed; number_read = r.number_read } };
+    ghost view = { λ r. record {
+      time = r.time.0;
+      accesses = r.accesses;
+      masked = r.masked;
+      hi = r.gates.hi;
+      lo = r.gates.lo;
+      duty = r.duty;
+      flag = r.flag;
+      sector = r.sector;
+      comm = tick_of r.comm;
+      stuck = r.stuck;
+      level = r.level;
+      window = r.window;
+      taken = r.taken;
+      timer = tick_of r.timer;
+      changed = tick_of r.changed;
+      number_read = r.number_read;
+    } };
 
-    ghost invariant = { λ r. IsKept (record { time = r.time.0; accesses = r.accesses; masked = r.masked; hi = r.gates.hi; lo = r.gates.lo; duty = r.duty; flag = r.flag; sector = r.sector; comm = tick_of r.comm; stuck = r.stuck; level = r.level; window = r.window; taken = r.taken; timer = tick_of r.timer; changed = tick_of r.changed; number_read = r.number_read }) (tick_of r.pwm_edge) };
+    ghost invariant = { λ r. IsKept (record {
+      time = r.time.0;
+      accesses = r.accesses;
+      masked = r.masked;
+      hi = r.gates.hi;
+      lo = r.gates.lo;
+      duty = r.duty;
+      flag = r.flag;
+      sector = r.sector;
+      comm = tick_of r.comm;
+      stuck = r.stuck;
+      level = r.level;
+      window = r.window;
+      taken = r.taken;
+      timer = tick_of r.timer;
+      changed = tick_of r.changed;
+      number_read = r.number_read;
+    }) (tick_of r.pwm_edge) };
 }
 
 impl Regs {
-    /// Tick 0, all gates off, nothing armed, the mask down.
+    /// The registers at tick 0: all gates off, nothing armed, the mask down.
     pub fn new() -> Regs
         ensures { result ≡ reset }
     {
@@ -173,7 +208,8 @@ impl Regs {
         self.masked
     }
 
-    /// Reads a register, at now: one access. A register that isn't read gives 0.
+    /// Reads a register, at now: one access. A register that takes writes alone, or that has no effect yet, reads
+    /// as 0.
     pub fn read(&mut self, r: Reg) -> u32
         requires { self.old.accesses < 2 ^ 63 }
         ensures value { result ≡ read_value self.old r }
@@ -192,8 +228,8 @@ impl Regs {
         }
     }
 
-    /// Writes a register, at now: one access. `v` is in the register's range. A register that isn't written
-    /// stays as it is.
+    /// Writes a register, at now: one access. `v` is in the register's range (`IsRange`). A write to a register
+    /// that is read alone, or that has no effect yet, is counted and nothing more.
     pub fn write(&mut self, r: Reg, v: u32)
         requires count { self.old.accesses < 2 ^ 63 }
         requires range { IsRange r v }
@@ -227,7 +263,7 @@ impl Regs {
         }
     }
 
-    /// Time goes on to a tick that isn't before now. What the hardware does by then stands: timers are
+    /// Time goes on to a tick that isn't before now, and the hardware does what falls into it: timers are
     /// reached, a PWM event sets its flag, and a window closes by its idle limit.
     pub fn advance(&mut self, to: Tick)
         requires later { self.old.time ≤ to.0 }
@@ -242,8 +278,8 @@ impl Regs {
         }
     }
 
-    /// The first later tick at which a kind that isn't due now becomes due, if nothing but `advance` is
-    /// called. None exactly where there is no such tick.
+    /// The earliest later tick at which a kind that isn't due now becomes due by time alone. `None` exactly
+    /// where there is no such tick.
     pub fn next_due(&self) -> Option<Tick>
         ensures { IsNextDue self.now (tick_of result) }
     {

@@ -29,7 +29,8 @@ edges_grow : (duty t u : ℕ) → t ≤ u → edges duty t ≤ edges duty u
 edges_grow duty t u le = omega arith
 
 due_twice : (b : Bank) (t u : ℕ) (k : Kind) → b.time ≤ t → t ≤ u → is_due (advanced (advanced b t) u) k ≡ is_due (advanced b u) k
-due_twice b t u kind.Pwm le more = flag_twice b.flag (nat_lt 0 b.duty) (edges b.duty b.time) (edges b.duty t) (edges b.duty u) (edges_grow b.duty b.time t le) (edges_grow b.duty t u more)
+due_twice b t u kind.Pwm le more = flag_twice b.flag (nat_lt 0 b.duty) (edges b.duty b.time) (edges b.duty t) (edges b.duty u) (edges_grow b.duty b.time t le)
+    (edges_grow b.duty t u more)
 due_twice b t u k le more = refl
 
 -- ---- what is shut stays so
@@ -69,7 +70,8 @@ becomes_same : (b : Bank) (t u : ℕ) (k : Kind) → b.time ≤ t → t ≤ u �
     → becomes_due (advanced b t) k u ≡ becomes_due b k u
 becomes_same b t u k le more e f = rw (f, e) (due_twice b t u k le more)
 
-pub quiet_later : (stack : List Kind) (w : Bool) (b : Bank) (until t : ℕ) → b.time ≤ t → t < until → IsQuiet stack w b until → IsQuiet stack w (advanced b t) until
+pub quiet_later : (stack : List Kind) (w : Bool) (b : Bank) (until t : ℕ) → b.time ≤ t → t < until → IsQuiet stack w b until
+    → IsQuiet stack w (advanced b t) until
 quiet_later stack w b until t later below q =
     let none : (k : Kind) → due_now w b k ≡ false = λ k. highest_none (due_now w b) k (none_highest stack (due_now w b) q.idle) in
     let e : (k : Kind) → is_due b k ≡ false = λ k. not_due w b k (none k) in

@@ -118,12 +118,12 @@ step_flash o nest cost next trace c c' b b' flash flash' stack stack' steps note
 -- what is left where the notes of a step were written up to one of them
 pub step_breaks : (o : Outset) (nest : Nest) (cost next until : ℕ) (trace : List Event) (c c' : Brain) (b b' : Bank) (flash flash' : Told)
     (stack stack' : List Kind) (steps : List Turned) (notes front rest : List Note) (last : Note)
-    → b.time ≡ next → next < until → 1 ≤ cost → next + cost < 2147483648 → Logged o.loaded nest cost trace next c b stack steps
+    → b.time ≡ next → next < until → 1 ≤ cost → cost ≤ 16 → next + cost < 2147483648 → Logged o.loaded nest cost trace next c b stack steps
     → is_idle stack (due_now c.orders.save_asked b) ≡ false
     → CoreTurn nest c stack b flash notes c' stack' b' flash' → Below next steps → notes ≡ (front ++ last ∷ []) ++ rest → All InRange notes
     → All InRange (journal o.loaded steps) → IsWhole flash.bytes → IsWhole flash'.bytes → FlashFits o.loaded o.flash flash (journal o.loaded steps)
     → LeftBelow o flash' nest cost until trace (journal o.loaded steps ++ (front ++ last ∷ []))
-step_breaks o nest cost next until trace c c' b b' flash flash' stack stack' steps notes front rest last at lt some small l busy t below split range before whole whole' fits =
+step_breaks o nest cost next until trace c c' b b' flash flash' stack stack' steps notes front rest last at lt some most small l busy t below split range before whole whole' fits =
     let e : Turned = turned b.time notes t in
     let tick : e.tick ≡ next = turned-tick b.time notes t ∙ at in
     let own : e.notes ≡ (front ++ last ∷ []) ++ rest = turned-notes b.time notes t ∙ split in
@@ -131,7 +131,7 @@ step_breaks o nest cost next until trace c c' b b' flash flash' stack stack' ste
     step_logged o.loaded nest nest cost next trace c c' b b' flash flash' stack stack' steps notes refl at some small l busy t in
     record {
       legal =
-          front_logged o.loaded nest cost trace (next + cost) c' b' stack' steps e (front ++ last ∷ []) rest own
+          front_logged o.loaded nest cost trace (next + cost) c' b' stack' steps e (front ++ last ∷ []) rest some most own
           (subst (λ (n : ℕ). Below n steps) (sym tick) below)
           (All-append InRange (journal o.loaded steps) (front ++ last ∷ []) before
           (all_front InRange (front ++ last ∷ []) rest (subst (λ (ns : List Note). All InRange ns) split range)))
@@ -198,5 +198,6 @@ stall_max at n next le = grind (arith, nat_tests)
 pub legal_at : (r : Runner) (o : Outset) (now : Told) (trace : List Event) (steps : List Turned) → StandsFor r o now trace steps
     → Legal o.loaded (nest_of r) (cost_of r) trace (newest r) (journal o.loaded steps)
 legal_at r o now trace steps st =
-    legal_logged o.loaded r.machine.nest r.cost trace r.next.0 r.machine.firmware r.regs r.machine.open_kinds steps r.limit.0 st.reached st.runs.bound.below
+    legal_logged o.loaded r.machine.nest r.cost trace r.next.0 r.machine.firmware r.regs r.machine.open_kinds steps r.limit.0 r.cost_some r.cost_most st.reached
+    st.runs.bound.below
     st.runs.in_range st.runs.logged

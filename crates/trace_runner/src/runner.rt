@@ -1,7 +1,7 @@
 //! All steps before an event's tick, the lines of their notes, and then the event.
 ghost use Rattle.std.specs.Prelude.{◌≡◌, ◌<◌, ◌≤◌, ◌+◌, ◌++◌, ◌∷◌, [], ℕ, List, Some, OnOk, OnErr, true, false};
 ghost use Rattle.esc_base.specs.declared.event.Event.{Event as AnEvent};
-ghost use Rattle.esc_base.specs.Flash.{Told, told};
+ghost use Rattle.esc_base.specs.Flash.{Told};
 ghost use Rattle.esc_base.specs.Outside.{Rose};
 ghost use Rattle.esc_base.specs.Trace.{tick_of as tick_of_event};
 ghost use Rattle.trace_text.specs.Ahead.{StallFits};
@@ -52,16 +52,21 @@ impl Runner {
 
         // From any outset: what stood for a trace and some steps stands for them with this event and the new steps, whose
         // lines the sink took; or some lines were taken, and one was refused, all of notes before the event's tick.
-        ensures goes { OnOk result ((o : Outset) → GoesOn K.given K.took (StandsFor self.old o (told D.bytes D.faults dev.old)) (StandsFor self.new o (told D.bytes D.faults dev.new)) (e ∷ []) out.old out.new) }
-        ensures breaks { OnErr result ((o : Outset) → BreaksOff K.given K.took K.broke o.loaded (StandsFor self.old o (told D.bytes D.faults dev.old)) (LeftBelow o (told D.bytes D.faults dev.new) (nest_of self.old) (cost_of self.old) (newest self.new)) out.old out.new) }
+        ensures goes { OnOk result ((o : Outset) → GoesOn K.given K.took (StandsFor self.old o (D.told dev.old)) (StandsFor self.new o (D.told dev.new))
+            (e ∷ []) out.old out.new) }
+        ensures breaks { OnErr result ((o : Outset) → BreaksOff K.given K.took K.broke o.loaded (StandsFor self.old o (D.told dev.old))
+            (LeftBelow o (D.told dev.new) (nest_of self.old) (cost_of self.old) (newest self.new)) out.old out.new) }
         ensures failed { OnErr result (Rose (K.faults out.old) (K.faults out.new)) }
         ensures no_fewer { K.faults out.old ≤ K.faults out.new }
 
         // What it stands for is a legal journal up to the event's tick, whose steps are by the cost apart, and the flash is
         // what its saves say.
-        ensures legal { OnOk result ((o : Outset) (trace : List AnEvent) (steps : List Turned) → StandsFor self.new o (told D.bytes D.faults dev.new) trace steps → Legal o.loaded (nest_of self.new) (cost_of self.new) trace (newest self.new) (journal o.loaded steps)) }
-        ensures flash { OnOk result ((o : Outset) (trace : List AnEvent) (steps : List Turned) → StandsFor self.new o (told D.bytes D.faults dev.new) trace steps → FlashFits o.loaded o.flash (told D.bytes D.faults dev.new) (journal o.loaded steps)) }
-        ensures apart { OnOk result ((o : Outset) (trace : List AnEvent) (steps : List Turned) → StandsFor self.new o (told D.bytes D.faults dev.new) trace steps → StepBound (cost_of self.new) (newest self.new) steps) }
+        ensures legal { OnOk result ((o : Outset) (trace : List AnEvent) (steps : List Turned) → StandsFor self.new o (D.told dev.new) trace steps
+            → Legal o.loaded (nest_of self.new) (cost_of self.new) trace (newest self.new) (journal o.loaded steps)) }
+        ensures flash { OnOk result ((o : Outset) (trace : List AnEvent) (steps : List Turned) → StandsFor self.new o (D.told dev.new) trace steps
+            → FlashFits o.loaded o.flash (D.told dev.new) (journal o.loaded steps)) }
+        ensures apart { OnOk result ((o : Outset) (trace : List AnEvent) (steps : List Turned) → StandsFor self.new o (D.told dev.new) trace steps
+            → StepBound (cost_of self.new) (newest self.new) steps) }
 
         ensures newest { newest self.new ≡ tick_of_event e }
         ensures nest { nest_of self.new ≡ nest_of self.old }
@@ -82,14 +87,19 @@ impl Runner {
         requires small { t.0 ≤ 1073741824 }
         requires later { newest self.old ≤ t.0 }
 
-        ensures goes { OnOk result ((o : Outset) → GoesOn K.given K.took (StandsFor self.old o (told D.bytes D.faults dev.old)) (StandsFor self.new o (told D.bytes D.faults dev.new)) [] out.old out.new) }
-        ensures breaks { OnErr result ((o : Outset) → BreaksOff K.given K.took K.broke o.loaded (StandsFor self.old o (told D.bytes D.faults dev.old)) (LeftBelow o (told D.bytes D.faults dev.new) (nest_of self.old) (cost_of self.old) (newest self.new)) out.old out.new) }
+        ensures goes { OnOk result ((o : Outset) → GoesOn K.given K.took (StandsFor self.old o (D.told dev.old))
+            (StandsFor self.new o (D.told dev.new)) [] out.old out.new) }
+        ensures breaks { OnErr result ((o : Outset) → BreaksOff K.given K.took K.broke o.loaded (StandsFor self.old o (D.told dev.old))
+            (LeftBelow o (D.told dev.new) (nest_of self.old) (cost_of self.old) (newest self.new)) out.old out.new) }
         ensures failed { OnErr result (Rose (K.faults out.old) (K.faults out.new)) }
         ensures no_fewer { K.faults out.old ≤ K.faults out.new }
 
-        ensures legal { OnOk result ((o : Outset) (trace : List AnEvent) (steps : List Turned) → StandsFor self.new o (told D.bytes D.faults dev.new) trace steps → Legal o.loaded (nest_of self.new) (cost_of self.new) trace (newest self.new) (journal o.loaded steps)) }
-        ensures flash { OnOk result ((o : Outset) (trace : List AnEvent) (steps : List Turned) → StandsFor self.new o (told D.bytes D.faults dev.new) trace steps → FlashFits o.loaded o.flash (told D.bytes D.faults dev.new) (journal o.loaded steps)) }
-        ensures apart { OnOk result ((o : Outset) (trace : List AnEvent) (steps : List Turned) → StandsFor self.new o (told D.bytes D.faults dev.new) trace steps → StepBound (cost_of self.new) (newest self.new) steps) }
+        ensures legal { OnOk result ((o : Outset) (trace : List AnEvent) (steps : List Turned) → StandsFor self.new o (D.told dev.new) trace steps
+            → Legal o.loaded (nest_of self.new) (cost_of self.new) trace (newest self.new) (journal o.loaded steps)) }
+        ensures flash { OnOk result ((o : Outset) (trace : List AnEvent) (steps : List Turned) → StandsFor self.new o (D.told dev.new) trace steps
+            → FlashFits o.loaded o.flash (D.told dev.new) (journal o.loaded steps)) }
+        ensures apart { OnOk result ((o : Outset) (trace : List AnEvent) (steps : List Turned) → StandsFor self.new o (D.told dev.new) trace steps
+            → StepBound (cost_of self.new) (newest self.new) steps) }
 
         ensures newest { newest self.new ≡ t.0 }
         ensures nest { nest_of self.new ≡ nest_of self.old }
@@ -108,7 +118,7 @@ impl Runner {
         requires small { limit.0 ≤ 1073741824 }
         requires later { self.old.limit.0 ≤ limit.0 }
         ensures reached { OnOk result (self.new.limit.0 ≤ self.new.next.0) }
-        ensures run { RunsOn K.given K.took K.broke K.faults self.old self.new (told D.bytes D.faults dev.old) (told D.bytes D.faults dev.new) result out.old out.new }
+        ensures run { RunsOn K.given K.took K.broke K.faults self.old self.new (D.told dev.old) (D.told dev.new) result out.old out.new }
         ensures limit { self.new.limit ≡ limit }
         ensures nest { nest_of self.new ≡ nest_of self.old }
         ensures cost { cost_of self.new ≡ cost_of self.old }
@@ -124,7 +134,7 @@ impl Runner {
     fn go_on<K: Sink, D: FlashDev>(&mut self, out: &mut K, dev: &mut D) -> Result<(), WriteFault>
         requires { self.old.next.0 < self.old.limit.0 }
         ensures later { OnOk result (self.old.next.0 < self.new.next.0) }
-        ensures run { RunsOn K.given K.took K.broke K.faults self.old self.new (told D.bytes D.faults dev.old) (told D.bytes D.faults dev.new) result out.old out.new }
+        ensures run { RunsOn K.given K.took K.broke K.faults self.old self.new (D.told dev.old) (D.told dev.new) result out.old out.new }
         ensures kept { Kept self.old self.new }
     {
         if self.limit.0 <= self.quiet.0 {
@@ -144,7 +154,8 @@ impl Runner {
     fn pass(&mut self)
         requires { self.old.next.0 < self.old.limit.0 }
         ensures now { self.new.regs.time ≡ self.new.next.0 }
-        ensures runs { (o : Outset) (now : Told) (trace : List AnEvent) (steps : List Turned) → Runs self.old o now trace steps → Runs self.new o now trace steps }
+        ensures runs { (o : Outset) (now : Told) (trace : List AnEvent) (steps : List Turned) → Runs self.old o now trace steps
+            → Runs self.new o now trace steps }
         ensures next { self.new.next ≡ self.old.next }
         ensures quiet { self.new.quiet ≡ self.old.quiet }
         ensures kept { Kept self.old self.new }
@@ -157,7 +168,8 @@ impl Runner {
         requires below { self.old.next.0 < self.old.limit.0 }
         requires quiet { self.old.limit.0 ≤ self.old.quiet.0 }
         ensures later { self.old.next.0 < self.new.next.0 }
-        ensures runs { (o : Outset) (now : Told) (trace : List AnEvent) (steps : List Turned) → Runs self.old o now trace steps → Runs self.new o now trace steps }
+        ensures runs { (o : Outset) (now : Told) (trace : List AnEvent) (steps : List Turned) → Runs self.old o now trace steps
+            → Runs self.new o now trace steps }
         ensures kept { Kept self.old self.new }
     {
         self.pass();
@@ -171,7 +183,8 @@ impl Runner {
         requires idle { is_idle self.old.machine.open_kinds (due_now self.old.machine.firmware.orders.save_asked self.old.regs) ≡ true }
         requires below { self.old.next.0 < self.old.limit.0 }
         ensures later { self.old.next.0 < self.new.next.0 }
-        ensures runs { (o : Outset) (now : Told) (trace : List AnEvent) (steps : List Turned) → Runs self.old o now trace steps → Runs self.new o now trace steps }
+        ensures runs { (o : Outset) (now : Told) (trace : List AnEvent) (steps : List Turned) → Runs self.old o now trace steps
+            → Runs self.new o now trace steps }
         ensures kept { Kept self.old self.new }
     {
         let next_due = self.regs.next_due();
@@ -190,7 +203,7 @@ impl Runner {
         requires busy { is_idle self.old.machine.open_kinds (due_now self.old.machine.firmware.orders.save_asked self.old.regs) ≡ false }
         requires below { self.old.next.0 < self.old.limit.0 }
         ensures next { self.new.next.0 ≡ self.old.next.0 + self.old.cost }
-        ensures run { RunsOn K.given K.took K.broke K.faults self.old self.new (told D.bytes D.faults dev.old) (told D.bytes D.faults dev.new) result out.old out.new }
+        ensures run { RunsOn K.given K.took K.broke K.faults self.old self.new (D.told dev.old) (D.told dev.new) result out.old out.new }
         ensures kept { Kept self.old self.new }
     {
         self.quiet = Tick(0);
@@ -205,7 +218,8 @@ impl Runner {
         requires reached { self.old.limit.0 ≤ self.old.next.0 }
         requires stall { StallFits e }
         ensures reached { self.new.limit.0 ≤ self.new.next.0 }
-        ensures runs { (o : Outset) (now : Told) (trace : List AnEvent) (steps : List Turned) → Runs self.old o now trace steps → Runs self.new o now (trace ++ e ∷ []) steps }
+        ensures runs { (o : Outset) (now : Told) (trace : List AnEvent) (steps : List Turned) → Runs self.old o now trace steps
+            → Runs self.new o now (trace ++ e ∷ []) steps }
         ensures kept { Kept self.old self.new }
     {
         self.regs.advance(self.limit);

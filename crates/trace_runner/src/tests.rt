@@ -53,7 +53,7 @@ fn a_control_tick_is_due_each_2400_ticks(rt: HostRuntime) -> Result<(), Fail> {
     assert_eq!(rt; answer, Ok(()));
     assert_eq!(rt;
         journal.as_str(),
-        "U 0 1\nW 0 0\nI 2400 2\nK 2404 1 0 0\nO 2408 2\nI 4800 2\nK 4804 2 0 0\nO 4808 2\n"
+        "U 0 1\nW 0 0\nI 2400 2\nK 2404 1 0 0\nO 2416 2\nI 4800 2\nK 4804 2 0 0\nO 4816 2\n"
     );
     Ok(())
 }
@@ -68,7 +68,7 @@ fn a_stall_puts_off_the_step_at_its_tick(rt: HostRuntime) -> Result<(), Fail> {
     assert_eq!(rt; answer, Ok(()));
     assert_eq!(rt;
         journal.as_str(),
-        "U 0 1\nW 0 0\nI 2500 2\nK 2504 1 0 0\nO 2508 2\nI 4800 2\nK 4804 2 0 0\nO 4808 2\n"
+        "U 0 1\nW 0 0\nI 2500 2\nK 2504 1 0 0\nO 2516 2\nI 4800 2\nK 4804 2 0 0\nO 4816 2\n"
     );
     Ok(())
 }

@@ -56,7 +56,8 @@ other c digit level none some = other_at c digit level (digit == c) refl none so
 
 -- ---- what stands behind the time
 
-pub five : (xs : List ℕ) (letter : ℕ) → 5 ≤ length xs → get_or xs 0 0 ≡ 32 → get_or xs 1 0 ≡ letter → get_or xs 2 0 ≡ 32 → get_or xs 4 0 ≡ 10 → (rest : List ℕ) × (xs ≡ 32 ∷ letter ∷ 32 ∷ get_or xs 3 0 ∷ 10 ∷ rest)
+pub five : (xs : List ℕ) (letter : ℕ) → 5 ≤ length xs → get_or xs 0 0 ≡ 32 → get_or xs 1 0 ≡ letter → get_or xs 2 0 ≡ 32 → get_or xs 4 0 ≡ 10
+    → (rest : List ℕ) × (xs ≡ 32 ∷ letter ∷ 32 ∷ get_or xs 3 0 ∷ 10 ∷ rest)
 five [] letter le f k g h = absurd (omega arith)
 five (a ∷ []) letter le f k g h = absurd (omega arith)
 five (a ∷ b ∷ []) letter le f k g h = absurd (omega arith)
@@ -64,7 +65,9 @@ five (a ∷ b ∷ c ∷ []) letter le f k g h = absurd (omega arith)
 five (a ∷ b ∷ c ∷ d ∷ []) letter le f k g h = absurd (omega arith)
 five (a ∷ b ∷ c ∷ d ∷ e ∷ rest) letter le f k g h = (rest, rw (f, k, g, h) refl)
 
-module _ (bytes : List ℕ) (len letter digit : ℕ) (rest : List ℕ) (level : Bool) (fits : len ≤ length bytes) (short : len ≤ 10) (tail : drop len bytes ≡ 32 ∷ letter ∷ 32 ∷ digit ∷ 10 ∷ rest) (digits : list_all is_ascii_digit (take len bytes) ≡ true) (says : level_of (digit ∷ []) ≡ Some level) where
+module _ (bytes : List ℕ) (len letter digit : ℕ) (rest : List ℕ) (level : Bool) (fits : len ≤ length bytes)
+    (short : len ≤ 10) (tail : drop len bytes ≡ 32 ∷ letter ∷ 32 ∷ digit ∷ 10 ∷ rest)
+    (digits : list_all is_ascii_digit (take len bytes) ≡ true) (says : level_of (digit ∷ []) ≡ Some level) where
   whole : bytes ≡ take len bytes ++ 32 ∷ letter ∷ 32 ∷ digit ∷ 10 ∷ rest
   whole = sym (take-append-drop len bytes) ∙ ap (λ (l : List ℕ). take len bytes ++ l) tail
 
@@ -90,7 +93,9 @@ module _ (bytes : List ℕ) (len letter digit : ℕ) (rest : List ℕ) (level : 
   is_line k = record {
     short = omega arith;
     cut = cut ∙ ap (λ (l : List ℕ). take (len + 4) bytes ++ 10 ∷ l) (sym behind);
-    one = subst (λ (l : List ℕ). NoLineFeed l) (sym front) (feedless (take len bytes) (32 ∷ letter ∷ 32 ∷ digit ∷ []) digits (refl, (k, (refl, (other 10 digit level refl says, tt)))));
+    one =
+        subst (λ (l : List ℕ). NoLineFeed l) (sym front)
+        (feedless (take len bytes) (32 ∷ letter ∷ 32 ∷ digit ∷ []) digits (refl, (k, (refl, (other 10 digit level refl says, tt)))));
   }
 
   parts : (letter == 32) ≡ false → fields (take (len + 4) bytes) ≡ take len bytes ∷ (letter ∷ []) ∷ (digit ∷ []) ∷ []
@@ -100,7 +105,9 @@ module _ (bytes : List ℕ) (len letter digit : ℕ) (rest : List ℕ) (level : 
       ∙ ap (λ (fs : List (List ℕ)). take len bytes ∷ fs) (slice_split_at (λ b. b == 32) (letter ∷ []) 32 (digit ∷ []) (one letter k) refl
       ∙ ap (λ (fs : List (List ℕ)). (letter ∷ []) ∷ fs) (slice_split_none (λ b. b == 32) (digit ∷ []) (one digit (other 32 digit level refl says))))
 
-  pub is_said : (p : Place) (k : LineKind) (t : Tick) (v : Event) → p.line < 16777216 → has_plain_start (take len bytes) ≡ true → number (take len bytes) ≡ t.0 → p.time.0 ≤ t.0 → t.0 ≤ 1073741824 → (letter == 32) ≡ false → kind_of (letter ∷ []) ≡ Some k → is_end_kind (Some k) ≡ false → event_of k t (digit ∷ []) ≡ Some v → too_close p (Some v) ≡ false
+  pub is_said : (p : Place) (k : LineKind) (t : Tick) (v : Event) → p.line < 16777216 → has_plain_start (take len bytes) ≡ true → number (take len bytes) ≡ t.0
+      → p.time.0 ≤ t.0 → t.0 ≤ 1073741824 → (letter == 32) ≡ false → kind_of (letter ∷ []) ≡ Some k → is_end_kind (Some k) ≡ false
+      → event_of k t (digit ∷ []) ≡ Some v → too_close p (Some v) ≡ false
       → said p (take (len + 4) bytes) ≡ Ok (entry.Event v)
   is_said p k t v lt start at low high space named not_end is far =
       said-fields p (take (len + 4) bytes) lt (let e = front_len in omega arith) ∙ ap (said_in p) (parts space)

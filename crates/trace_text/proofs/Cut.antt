@@ -29,7 +29,8 @@ unfolding cut
 cut-nil = refl
 
 cut-alone : (part : List ℕ) → NoLineFeed part → cut part ≡ record { lines = []; rest = part }
-cut-alone part h = ap cut (sym (append-nil part)) ∙ cut-front part [] h ∙ ap (onto part) cut-nil ∙ ap (λ (r : List ℕ). record { lines = []; rest = r }) (append-nil part)
+cut-alone part h =
+    ap cut (sym (append-nil part)) ∙ cut-front part [] h ∙ ap (onto part) cut-nil ∙ ap (λ (r : List ℕ). record { lines = []; rest = r }) (append-nil part)
 
 few : (p : Place) → p.line < 16777216 → nat_le 16777216 p.line ≡ false
 few p lt = lt-leb 16777216 p.line lt
@@ -44,7 +45,8 @@ long : (n : ℕ) → 40 < n → nat_lt 40 n ≡ true
 long n lt = lt-ltb 40 n lt
 
 -- a whole line, and what is behind it
-pub read_whole : (p : Place) (line text : List ℕ) → NoLineFeed line → read_from p (line ++ 10 ∷ text) ≡ read_line p (said p line) (is_all (cut text).lines (cut text).rest) (λ e. read_from (after_event p e) text)
+pub read_whole : (p : Place) (line text : List ℕ) → NoLineFeed line
+    → read_from p (line ++ 10 ∷ text) ≡ read_line p (said p line) (is_all (cut text).lines (cut text).rest) (λ e. read_from (after_event p e) text)
 unfolding read_from
 read_whole p line text h = rw (cut-front line (10 ∷ text) h, cut-lf text, append-nil line) refl
 
@@ -61,16 +63,20 @@ pub read_none : (p : Place) (part : List ℕ) → p.line < 16777216 → NoLineFe
 unfolding read_from
 read_none p part lt h le = rw (cut-alone part h, unended_short p part lt le) refl
 
-long_at : (p : Place) (front : List ℕ) (lines : List (List ℕ)) (rest : List ℕ) → p.line < 16777216 → 40 < length front → read_lines p (onto_lines front lines rest).lines (onto_lines front lines rest).rest ≡ Refused [] (p.line + 1) TooLong
+long_at : (p : Place) (front : List ℕ) (lines : List (List ℕ)) (rest : List ℕ) → p.line < 16777216 → 40 < length front
+    → read_lines p (onto_lines front lines rest).lines (onto_lines front lines rest).rest ≡ Refused [] (p.line + 1) TooLong
 long_at p front [] rest lt le = rw (unended_long p (front ++ rest) lt (let e = length-append front rest in omega arith)) refl
 long_at p front (l ∷ lines) rest lt le = rw (few p lt, long (length (front ++ l)) (let e = length-append front l in omega arith)) refl
 
 -- a line that is too long
-pub read_long : (p : Place) (front rest : List ℕ) → p.line < 16777216 → NoLineFeed front → 40 < length front → read_from p (front ++ rest) ≡ Refused [] (p.line + 1) TooLong
+pub read_long : (p : Place) (front rest : List ℕ) → p.line < 16777216 → NoLineFeed front → 40 < length front
+    → read_from p (front ++ rest) ≡ Refused [] (p.line + 1) TooLong
 unfolding read_from
 read_long p front rest lt h le = rw (cut-front front rest h) (long_at p front (cut rest).lines (cut rest).rest lt le)
 
-many_at : (p : Place) (b : ℕ) (v : Bool) (lines : List (List ℕ)) (rest : List ℕ) (c : Cut) → 16777216 ≤ p.line → c ≡ (if v then ended (record { lines = lines; rest = rest }) else onto_lines (b ∷ []) lines rest) → read_lines p c.lines c.rest ≡ Refused [] (p.line + 1) TooMany
+many_at : (p : Place) (b : ℕ) (v : Bool) (lines : List (List ℕ)) (rest : List ℕ) (c : Cut) → 16777216 ≤ p.line
+    → c ≡ (if v then ended (record { lines = lines; rest = rest }) else onto_lines (b ∷ []) lines rest)
+    → read_lines p c.lines c.rest ≡ Refused [] (p.line + 1) TooMany
 many_at p b true lines rest c le e = rw (e, many p le) refl
 many_at p b false [] rest c le e = rw (e, many p le) refl
 many_at p b false (l ∷ lines) rest c le e = rw (e, many p le) refl
@@ -88,7 +94,9 @@ read_nothing p = rw cut-nil refl
 pub all_read : is_all (cut []).lines (cut []).rest ≡ true
 all_read = rw cut-nil refl
 
-more_at : (b : ℕ) (v : Bool) (c : Cut) (lines : List (List ℕ)) (rest : List ℕ) → c ≡ (if v then ended (record { lines = lines; rest = rest }) else onto_lines (b ∷ []) lines rest) → is_all c.lines c.rest ≡ false
+more_at : (b : ℕ) (v : Bool) (c : Cut) (lines : List (List ℕ)) (rest : List ℕ)
+    → c ≡ (if v then ended (record { lines = lines; rest = rest }) else onto_lines (b ∷ []) lines rest)
+    → is_all c.lines c.rest ≡ false
 more_at b true c lines rest e = rw e refl
 more_at b false c [] rest e = rw e refl
 more_at b false c (l ∷ lines) rest e = rw e refl

@@ -6,7 +6,8 @@ use Rattle.std.specs.Char.{is_ascii_digit, digit_value}
 use Rattle.std.proofs.lemmas.Bool.Decides.{nat_tests}
 
 -- one digit more, where a number above 64 bits counts as the greatest
-pub capped : (v n m a d : ℕ) → n ≡ min v 18446744073709551615 → m ≡ min (n * 10) 18446744073709551615 → a ≡ min (m + d) 18446744073709551615 → a ≡ min (v * 10 + d) 18446744073709551615
+pub capped : (v n m a d : ℕ) → n ≡ min v 18446744073709551615 → m ≡ min (n * 10) 18446744073709551615 → a ≡ min (m + d) 18446744073709551615
+    → a ≡ min (v * 10 + d) 18446744073709551615
 capped v n m a d e f g = omega arith
 
 pub capped_bits : (v n m a d : ℕ) → n ≡ min v 4294967295 → m ≡ min (n * 2) 4294967295 → a ≡ min (m + d) 4294967295 → a ≡ min (v * 2 + d) 4294967295

@@ -51,14 +51,17 @@ fields_first line = some_second (slice_get (fields line) 0) (fields_some line)
 
 -- what `split_field` says of the first part
 module _ (line value : List ℕ) where
-  pub first_part : (o : Option (Bor (List ℕ))) → MatchOption o (fields line ≡ value ∷ []) (λ rest. fields line ≡ value ∷ fields rest.now) → (more : List (List ℕ)) × (fields line ≡ value ∷ more)
+  pub first_part : (o : Option (Bor (List ℕ))) → MatchOption o (fields line ≡ value ∷ []) (λ rest. fields line ≡ value ∷ fields rest.now)
+      → (more : List (List ℕ)) × (fields line ≡ value ∷ more)
   first_part None h = ([], h)
   first_part (Some rest) h = (fields rest.now, h)
 
-  pub some_part : (o : Option (Bor (List ℕ))) → MatchOption o (fields line ≡ value ∷ []) (λ rest. fields line ≡ value ∷ fields rest.now) → is_some o ≡ true → (rest : List ℕ) × (fields line ≡ value ∷ fields rest)
+  pub some_part : (o : Option (Bor (List ℕ))) → MatchOption o (fields line ≡ value ∷ []) (λ rest. fields line ≡ value ∷ fields rest.now) → is_some o ≡ true
+      → (rest : List ℕ) × (fields line ≡ value ∷ fields rest)
   some_part None h e = cc
   some_part (Some rest) h e = (rest.now, h)
 
-  pub last_part : (o : Option (Bor (List ℕ))) → MatchOption o (fields line ≡ value ∷ []) (λ rest. fields line ≡ value ∷ fields rest.now) → is_some o ≡ false → fields line ≡ value ∷ []
+  pub last_part : (o : Option (Bor (List ℕ))) → MatchOption o (fields line ≡ value ∷ []) (λ rest. fields line ≡ value ∷ fields rest.now) → is_some o ≡ false
+      → fields line ≡ value ∷ []
   last_part None h e = h
   last_part (Some rest) h e = cc

@@ -30,7 +30,8 @@ event_tick kind.Serial t value e is = made_tick (λ (byte : ℕ). event.Serial t
 event_tick kind.Stall t value e is = made_tick (λ (n : ℕ). event.Stall t n) t.0 (number_between 1 16777216 value) e (λ n. refl) is
 event_tick kind.End t value e is = absurd (cc)
 
-then_tick : {A : Type 0} (f : A → Option Event) (t : ℕ) (o : Option A) (e : Event) → ((x : A) → f x ≡ Some e → tick_of e ≡ t) → option_and_then f o ≡ Some e → tick_of e ≡ t
+then_tick : {A : Type 0} (f : A → Option Event) (t : ℕ) (o : Option A) (e : Event) → ((x : A) → f x ≡ Some e → tick_of e ≡ t) → option_and_then f o ≡ Some e
+    → tick_of e ≡ t
 then_tick f t None e h is = absurd (cc)
 then_tick f t (Some x) e h is = h x is
 
@@ -66,7 +67,8 @@ said_in_time p line e is =
     let good = ok_is (first (faults p line)) (entry_of (time_of fs) (event_in fs)) (entry.Event e) is in
     let a = none_of (too_many p) TooMany ((too_long line, TooLong) ∷ faults_in p fs) good.0 in
     let b = none_of (too_long line) TooLong (faults_in p fs) a.1 in
-    let later : List (Bool × Refusal) = (too_late fs, TooLate) ∷ (bad_kind fs, BadKind) ∷ (bad_value fs, BadValue) ∷ (trailing fs, Trailing) ∷ (too_close p (event_in fs), TooClose) ∷ [] in
+    let later : List (Bool × Refusal) =
+    (too_late fs, TooLate) ∷ (bad_kind fs, BadKind) ∷ (bad_value fs, BadValue) ∷ (trailing fs, Trailing) ∷ (too_close p (event_in fs), TooClose) ∷ [] in
     let c = none_of (bad_time fs) BadTime ((time_back p fs, TimeBack) ∷ later) b.1 in
     let d = none_of (time_back p fs) TimeBack later c.1 in
     subst (λ (t : ℕ). p.time.0 ≤ t) (sym (event_in_tick fs e (entry_is (time_of fs) (event_in fs) e good.1))) (ltb-false (time_of fs) p.time.0 d.0)
@@ -83,17 +85,21 @@ with_first : (t : ℕ) (e : Event) (r : Reading) → t ≤ tick_of e → From t 
 with_first t e (Trace events end) le h = All-cons (λ x. t ≤ tick_of x) e events le h
 with_first t e (Refused events line kind) le h = All-cons (λ x. t ≤ tick_of x) e events le h
 
-line_in_time : (p : Place) (line : List ℕ) (r : Result Entry Refusal) (last : Bool) (more : Event → Reading) → said p line ≡ r → ((e : Event) → From (after_event p e).time.0 (events_of (more e))) → From p.time.0 (events_of (read_line p r last more))
+line_in_time : (p : Place) (line : List ℕ) (r : Result Entry Refusal) (last : Bool) (more : Event → Reading) → said p line ≡ r
+    → ((e : Event) → From (after_event p e).time.0 (events_of (more e)))
+    → From p.time.0 (events_of (read_line p r last more))
 line_in_time p line (Ok (entry.Event e)) last more is h =
     let le : p.time.0 ≤ tick_of e = said_in_time p line e is in
-    with_first p.time.0 e (more e) le (from_later p.time.0 (tick_of e) (events_of (more e)) le (subst (λ (t : ℕ). From t (events_of (more e))) (time-after_event p e) (h e)))
+    with_first p.time.0 e (more e) le
+    (from_later p.time.0 (tick_of e) (events_of (more e)) le (subst (λ (t : ℕ). From t (events_of (more e))) (time-after_event p e) (h e)))
 line_in_time p line (Ok (entry.End t)) true more is h = All-nil (λ e. p.time.0 ≤ tick_of e)
 line_in_time p line (Ok (entry.End t)) false more is h = All-nil (λ e. p.time.0 ≤ tick_of e)
 line_in_time p line (Err kind) last more is h = All-nil (λ e. p.time.0 ≤ tick_of e)
 
 lines_in_time : (p : Place) (lines : List (List ℕ)) (rest : List ℕ) → From p.time.0 (events_of (read_lines p lines rest))
 lines_in_time p [] rest = All-nil (λ e. p.time.0 ≤ tick_of e)
-lines_in_time p (line ∷ lines) rest = line_in_time p line (said p line) (is_all lines rest) (λ e. read_lines (after_event p e) lines rest) refl (λ e. lines_in_time (after_event p e) lines rest)
+lines_in_time p (line ∷ lines) rest =
+    line_in_time p line (said p line) (is_all lines rest) (λ e. read_lines (after_event p e) lines rest) refl (λ e. lines_in_time (after_event p e) lines rest)
 
 -- the events of a text stand at the time of the place or later
 pub events_in_time : (p : Place) (text : List ℕ) → All (λ e. p.time.0 ≤ tick_of e) (events_of (read_from p text))

@@ -72,7 +72,9 @@ length-bits (suc k) b = ap length (bits_suc k b) ∙ length-append (bits k (b / 
 
 all_bits : (k b : ℕ) → list_all (λ c. c == 48 || c == 49) (bits k b) ≡ true
 all_bits zero b = ap (list_all (λ c. c == 48 || c == 49)) (no_bits b)
-all_bits (suc k) b = ap (list_all (λ c. c == 48 || c == 49)) (bits_suc k b) ∙ list_all-append (λ c. c == 48 || c == 49) (bits k (b / 2)) ((48 + b % 2) ∷ []) ∙ rw (all_bits k (b / 2), bit_passes b) refl
+all_bits (suc k) b =
+    ap (list_all (λ c. c == 48 || c == 49)) (bits_suc k b)
+    ∙ list_all-append (λ c. c == 48 || c == 49) (bits k (b / 2)) ((48 + b % 2) ∷ []) ∙ rw (all_bits k (b / 2), bit_passes b) refl
 
 value-bits : (k b : ℕ) → b < 2 ^ k → digits_value 2 (bits k b) ≡ b
 value-bits zero b lt = ap (digits_value 2) (no_bits b) ∙ omega arith
@@ -102,7 +104,8 @@ two_digit_of c h = grind (arith, nat_tests)
 pub value_below : (ds : List ℕ) → list_all (λ c. c == 48 || c == 49) ds ≡ true → length ds ≡ 21 → digits_value 2 ds < 2097152
 value_below ds h len = subst (λ (n : ℕ). digits_value 2 ds < 2 ^ n) len (digits_value-lt 2 ds (binary ds h))
 
-pub bits_are : (ds : List ℕ) (b : ℕ) → length ds ≡ 21 → list_all (λ c. c == 48 || c == 49) ds ≡ true → b ≡ min (digits_value 2 ds) 4294967295 → (Some b ≡ bits_of ds) × (b < 2097152)
+pub bits_are : (ds : List ℕ) (b : ℕ) → length ds ≡ 21 → list_all (λ c. c == 48 || c == 49) ds ≡ true → b ≡ min (digits_value 2 ds) 4294967295
+    → (Some b ≡ bits_of ds) × (b < 2097152)
 bits_are ds b len h e =
     let small = value_below ds h len in
     let same : b ≡ digits_value 2 ds = omega arith in
@@ -136,7 +139,9 @@ no_space word h = All-weaker (λ b. 48 ≤ b) (λ b. (b == 32) ≡ false) (λ b 
 
 pub fields_spaced : (first : List ℕ) (words : List (List ℕ)) → IsHigh first → AllHigh words → fields (first ++ spaced words) ≡ first ∷ words
 fields_spaced first [] h hs = ap fields (append-nil first) ∙ slice_split_none (λ b. b == 32) first (no_space first h)
-fields_spaced first (word ∷ words) h hs = slice_split_at (λ b. b == 32) first 32 (word ++ spaced words) (no_space first h) refl ∙ ap (λ (ws : List (List ℕ)). first ∷ ws) (fields_spaced word words hs.0 hs.1)
+fields_spaced first (word ∷ words) h hs =
+    slice_split_at (λ b. b == 32) first 32 (word ++ spaced words) (no_space first h) refl
+    ∙ ap (λ (ws : List (List ℕ)). first ∷ ws) (fields_spaced word words hs.0 hs.1)
 
 abbrev pub NoFeed : List ℕ → Type 0
 NoFeed bytes = All (λ b. (b == 10) ≡ false) bytes
@@ -168,10 +173,13 @@ high_hex b = high_two (digit_glyph false (b / 16)) (digit_glyph false (b % 16)) 
 
 high_bits : (k b : ℕ) → IsHigh (bits k b)
 high_bits zero b = subst (λ (l : List ℕ). IsHigh l) (sym (no_bits b)) (All-nil (λ x. 48 ≤ x))
-high_bits (suc k) b = subst (λ (l : List ℕ). IsHigh l) (sym (bits_suc k b)) (All-push (λ x. 48 ≤ x) (bits k (b / 2)) (48 + b % 2) (high_bits k (b / 2)) (omega arith))
+high_bits (suc k) b =
+    subst (λ (l : List ℕ). IsHigh l) (sym (bits_suc k b)) (All-push (λ x. 48 ≤ x) (bits k (b / 2)) (48 + b % 2) (high_bits k (b / 2)) (omega arith))
 
 high_none : IsHigh (110 ∷ 111 ∷ 110 ∷ 101 ∷ [])
-high_none = All-cons (λ x. 48 ≤ x) 110 (111 ∷ 110 ∷ 101 ∷ []) (omega arith) (All-cons (λ x. 48 ≤ x) 111 (110 ∷ 101 ∷ []) (omega arith) (high_two 110 101 (omega arith) (omega arith)))
+high_none =
+    All-cons (λ x. 48 ≤ x) 110 (111 ∷ 110 ∷ 101 ∷ []) (omega arith)
+    (All-cons (λ x. 48 ≤ x) 111 (110 ∷ 101 ∷ []) (omega arith) (high_two 110 101 (omega arith) (omega arith)))
 
 high_words : (n : Note) → InRange n → AllHigh (note_fields n)
 high_words (note.Up t r) h = (high_decimal t.0 (omega arith), (high_decimal r (omega arith), tt))
@@ -179,11 +187,13 @@ high_words (note.Enter t k) h = (high_decimal t.0 (omega arith), (high_decimal k
 high_words (note.Leave t k) h = (high_decimal t.0 (omega arith), (high_decimal k (omega arith), tt))
 high_words (note.Gate t hi lo) h = (high_decimal t.0 (omega arith), (high_decimal hi (omega arith), (high_decimal lo (omega arith), tt)))
 high_words (note.Window t m) h = (high_decimal t.0 (omega arith), (high_decimal m (omega arith), tt))
-high_words (note.Good t v q) h = (high_decimal t.0 (omega arith), (high_letter 71 (omega arith), (high_decimal v (omega arith), (high_decimal q (omega arith), tt))))
+high_words (note.Good t v q) h =
+    (high_decimal t.0 (omega arith), (high_letter 71 (omega arith), (high_decimal v (omega arith), (high_decimal q (omega arith), tt))))
 high_words (note.Detected t m) h = (high_decimal t.0 (omega arith), (high_letter 68 (omega arith), (high_decimal m (omega arith), tt)))
 high_words (note.Nothing t) h = (high_decimal t.0 (omega arith), (high_letter 78 (omega arith), tt))
 high_words (note.Bad t w) h = (high_decimal t.0 (omega arith), (high_letter 66 (omega arith), (high_decimal w (omega arith), tt)))
-high_words (note.Control t n s d) h = (high_decimal t.0 (omega arith), (high_decimal n (omega arith), (high_decimal s (omega arith), (high_decimal d (omega arith), tt))))
+high_words (note.Control t n s d) h =
+    (high_decimal t.0 (omega arith), (high_decimal n (omega arith), (high_decimal s (omega arith), (high_decimal d (omega arith), tt))))
 high_words (note.Armed t) h = (high_decimal t.0 (omega arith), tt)
 high_words (note.Lost t c) h = (high_decimal t.0 (omega arith), (high_decimal c (omega arith), tt))
 high_words (note.Command t c) h = (high_decimal t.0 (omega arith), (high_decimal c (omega arith), tt))
@@ -196,7 +206,8 @@ high_words (note.Reply t s b) h = (high_decimal t.0 (omega arith), (high_decimal
 high_words (note.Packet t cc kk) h = (high_decimal t.0 (omega arith), (high_hex cc, (high_hex kk, tt)))
 high_words (note.Sent t xx) h = (high_decimal t.0 (omega arith), (high_hex xx, tt))
 high_words (note.Dropped t xx) h = (high_decimal t.0 (omega arith), (high_hex xx, tt))
-high_words (note.Watched t i n s) h = (high_decimal t.0 (omega arith), (high_decimal i (omega arith), (high_decimal n (omega arith), (high_decimal s (omega arith), tt))))
+high_words (note.Watched t i n s) h =
+    (high_decimal t.0 (omega arith), (high_decimal i (omega arith), (high_decimal n (omega arith), (high_decimal s (omega arith), tt))))
 
 letter_high : (n : Note) → 48 ≤ letter n
 letter_high (note.Up t r) = omega arith
@@ -240,7 +251,8 @@ fields_of_note n bytes h e =
     let front : List ℕ = note_front n in
     let len = length-append front (10 ∷ []) in
     let shorter : length (front ++ 10 ∷ []) - 1 ≡ length front = omega arith in
-    let cut : take (length bytes - 1) bytes ≡ front = ap (λ (l : List ℕ). take (length l - 1) l) (sym e) ∙ ap (λ (k : ℕ). take k (front ++ 10 ∷ [])) shorter ∙ take-append_seam front (10 ∷ []) in
+    let cut : take (length bytes - 1) bytes ≡ front =
+    ap (λ (l : List ℕ). take (length l - 1) l) (sym e) ∙ ap (λ (k : ℕ). take k (front ++ 10 ∷ [])) shorter ∙ take-append_seam front (10 ∷ []) in
     ap fields cut ∙ fields_of_front n h
 
 -- the time of a note in range
@@ -270,17 +282,26 @@ time_back (note.Dropped t xx) h = number_back 0 4294967295 t.0 (omega arith) (om
 time_back (note.Watched t i n s) h = number_back 0 4294967295 t.0 (omega arith) (omega arith) (omega arith)
 
 -- the note is the one that its words stand for
-pub note_back : (n : Note) → InRange n → note_of (letter n) (record { 0 = time_of n }) (word_at 0 (drop 1 (note_fields n))) (word_at 0 (drop 1 (drop 1 (note_fields n)))) (word_at 0 (drop 1 (drop 1 (drop 1 (note_fields n))))) ≡ Some n
+pub note_back : (n : Note) → InRange n
+    → note_of (letter n) (record { 0 = time_of n }) (word_at 0 (drop 1 (note_fields n)))
+    (word_at 0 (drop 1 (drop 1 (note_fields n)))) (word_at 0 (drop 1 (drop 1 (drop 1 (note_fields n))))) ≡ Some n
 note_back (note.Up t r) h = rw (h.0, number_back 0 3 r (omega arith) (omega arith) (omega arith)) refl
 note_back (note.Enter t k) h = rw (number_back 0 6 k (omega arith) (omega arith) (omega arith)) refl
 note_back (note.Leave t k) h = rw (number_back 0 6 k (omega arith) (omega arith) (omega arith)) refl
-note_back (note.Gate t hi lo) h = rw (number_back 0 7 hi (omega arith) (omega arith) (omega arith), number_back 0 7 lo (omega arith) (omega arith) (omega arith)) refl
+note_back (note.Gate t hi lo) h =
+    rw (number_back 0 7 hi (omega arith) (omega arith) (omega arith), number_back 0 7 lo (omega arith) (omega arith) (omega arith)) refl
 note_back (note.Window t m) h = rw (number_back 0 5 m (omega arith) (omega arith) (omega arith)) refl
-note_back (note.Good t v q) h = rw (number_back 0 2047 v (omega arith) (omega arith) (omega arith), number_back 0 1 q (omega arith) (omega arith) (omega arith)) refl
+note_back (note.Good t v q) h =
+    rw (number_back 0 2047 v (omega arith) (omega arith) (omega arith), number_back 0 1 q (omega arith) (omega arith) (omega arith)) refl
 note_back (note.Detected t m) h = rw (number_back 1 5 m (omega arith) (omega arith) (omega arith)) refl
 note_back (note.Nothing t) h = refl
 note_back (note.Bad t w) h = rw (number_back 1 5 w (omega arith) (omega arith) (omega arith)) refl
-note_back (note.Control t n s d) h = rw (number_back 0 4294967295 n (omega arith) (omega arith) (omega arith), number_back 0 7 s (omega arith) (omega arith) (omega arith), number_back 0 1900 d (omega arith) (omega arith) (omega arith)) refl
+note_back (note.Control t n s d) h =
+    rw (
+      number_back 0 4294967295 n (omega arith) (omega arith) (omega arith),
+      number_back 0 7 s (omega arith) (omega arith) (omega arith),
+      number_back 0 1900 d (omega arith) (omega arith) (omega arith),
+    ) refl
 note_back (note.Armed t) h = refl
 note_back (note.Lost t c) h = rw (number_back 0 2 c (omega arith) (omega arith) (omega arith)) refl
 note_back (note.Command t c) h = rw (number_back 0 47 c (omega arith) (omega arith) (omega arith)) refl
@@ -288,15 +309,23 @@ note_back (note.Saved t r) h = rw (number_back 0 1 r (omega arith) (omega arith)
 note_back (note.Step t s) h = rw (number_back 1 6 s (omega arith) (omega arith) (omega arith)) refl
 note_back (note.Cross t) h = refl
 note_back (note.Period t None) h = refl
-note_back (note.Period t (Some p)) h = rw (not_none (decimal p) (decimal_is_IsNumeral p (omega arith)).0.1, number_back 0 4294967295 p (omega arith) (omega arith) (omega arith)) refl
+note_back (note.Period t (Some p)) h =
+    rw (not_none (decimal p) (decimal_is_IsNumeral p (omega arith)).0.1, number_back 0 4294967295 p (omega arith) (omega arith) (omega arith)) refl
 note_back (note.Reply t s b) h = rw (number_back 0 4294967295 s.0 (omega arith) (omega arith) (omega arith), bits_back b (omega arith)) refl
 note_back (note.Packet t cc kk) h = rw (byte_back cc (omega arith), byte_back kk (omega arith)) refl
 note_back (note.Sent t xx) h = rw (byte_back xx (omega arith)) refl
 note_back (note.Dropped t xx) h = rw (byte_back xx (omega arith)) refl
-note_back (note.Watched t i n s) h = rw (number_back 0 4294967295 i (omega arith) (omega arith) (omega arith), number_back 0 4294967295 n (omega arith) (omega arith) (omega arith), number_back 0 1 s (omega arith) (omega arith) (omega arith)) refl
+note_back (note.Watched t i n s) h =
+    rw (
+      number_back 0 4294967295 i (omega arith) (omega arith) (omega arith),
+      number_back 0 4294967295 n (omega arith) (omega arith) (omega arith),
+      number_back 0 1 s (omega arith) (omega arith) (omega arith),
+    ) refl
 
 -- whatever the letter, the time and the words were read from
-pub read_back : (n : Note) → InRange n → (l t : ℕ) (a b c : List ℕ) → l ≡ letter n → t ≡ time_of n → a ≡ word_at 0 (drop 1 (note_fields n)) → b ≡ word_at 0 (drop 1 (drop 1 (note_fields n))) → c ≡ word_at 0 (drop 1 (drop 1 (drop 1 (note_fields n)))) → note_of l (record { 0 = t }) a b c ≡ Some n
+pub read_back : (n : Note) → InRange n → (l t : ℕ) (a b c : List ℕ) → l ≡ letter n → t ≡ time_of n → a ≡ word_at 0 (drop 1 (note_fields n))
+    → b ≡ word_at 0 (drop 1 (drop 1 (note_fields n))) → c ≡ word_at 0 (drop 1 (drop 1 (drop 1 (note_fields n))))
+    → note_of l (record { 0 = t }) a b c ≡ Some n
 read_back n h l t a b c el et ea eb ec =
     ap (λ (x : ℕ). note_of x (record { 0 = t }) a b c) el
     ∙ ap (λ (x : ℕ). note_of (letter n) (record { 0 = x }) a b c) et

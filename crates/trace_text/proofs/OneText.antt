@@ -17,7 +17,8 @@ use Rattle.trace_text.proofs.NoteBack.{NoFeed, note_front, fields_of_front, no_f
 -- the first line feed parts the text in one way
 same_front : (front other rest more : List ℕ) → NoFeed front → NoFeed other → front ++ 10 ∷ rest ≡ other ++ 10 ∷ more → front ≡ other
 same_front front other rest more h k e =
-    let parts = sym (slice_split_at (λ b. b == 10) front 10 rest h refl) ∙ ap (slice_split (λ b. b == 10)) e ∙ slice_split_at (λ b. b == 10) other 10 more k refl in
+    let parts =
+    sym (slice_split_at (λ b. b == 10) front 10 rest h refl) ∙ ap (slice_split (λ b. b == 10)) e ∙ slice_split_at (λ b. b == 10) other 10 more k refl in
     cc
 
 same_rest : (front other rest more : List ℕ) → front ≡ other → front ++ 10 ∷ rest ≡ other ++ 10 ∷ more → rest ≡ more
@@ -34,7 +35,9 @@ one_note n m h k e =
     let known = sym (time_back m k) ∙ ap (λ (ws : List (List ℕ)). number_between 0 4294967295 (word_at 0 ws)) words ∙ time_back n h in
     let times = same_Some (time_of m) (time_of n) known in
     let later = ap (λ (ws : List (List ℕ)). drop 1 ws) words in
-    let back = read_back n h _ _ _ _ _ letters times (ap (word_at 0) later) (ap (λ (ws : List (List ℕ)). word_at 0 (drop 1 ws)) later) (ap (λ (ws : List (List ℕ)). word_at 0 (drop 1 (drop 1 ws))) later) in
+    let back =
+    read_back n h _ _ _ _ _ letters times (ap (word_at 0) later) (ap (λ (ws : List (List ℕ)). word_at 0 (drop 1 ws)) later)
+    (ap (λ (ws : List (List ℕ)). word_at 0 (drop 1 (drop 1 ws))) later) in
     same_Some n m (sym back ∙ note_back m k)
 
 -- a text of one note more: its front, its line feed, and the text of the others
@@ -51,5 +54,7 @@ one_text (n ∷ notes) (m ∷ others) h k e =
     let in_m = All-head InRange m others k in
     let fronts = same_front (note_front n) (note_front m) (Text notes) (Text others) (no_feed_front n in_n) (no_feed_front m in_m) whole in
     let first = one_note n m in_n in_m fronts in
-    let rest = one_text notes others (All-tail InRange n notes h) (All-tail InRange m others k) (same_rest (note_front n) (note_front m) (Text notes) (Text others) fronts whole) in
+    let rest =
+    one_text notes others (All-tail InRange n notes h) (All-tail InRange m others k)
+    (same_rest (note_front n) (note_front m) (Text notes) (Text others) fronts whole) in
     cc

@@ -23,7 +23,8 @@ not_decimal p time rest d = rw (fields_some rest, d) refl
 pub time_back : (p : Place) (time rest : List ℕ) → is_decimal time ≡ true → number time < p.time.0 → said_in p (time ∷ fields rest) ≡ Err TimeBack
 time_back p time rest d lt = rw (fields_some rest, d, lt-ltb (number time) p.time.0 lt) refl
 
-pub too_late : (p : Place) (time rest : List ℕ) → is_decimal time ≡ true → p.time.0 ≤ number time → 1073741824 < number time → said_in p (time ∷ fields rest) ≡ Err TooLate
+pub too_late : (p : Place) (time rest : List ℕ) → is_decimal time ≡ true → p.time.0 ≤ number time → 1073741824 < number time
+    → said_in p (time ∷ fields rest) ≡ Err TooLate
 too_late p time rest d le lt = rw (fields_some rest, d, le-ltb (number time) p.time.0 le, lt-ltb 1073741824 (number time) lt) refl
 
 -- ---- behind a good time

@@ -5,7 +5,8 @@ use Rattle.std.proofs.lemmas.Grind.{flat_map-append}
 use Rattle.trace_text.specs.Text.{spaced, bits}
 
 -- one field more
-pub spaced_more : (f : ℕ → List ℕ) (xs : List ℕ) (i : ℕ) → i < length xs → spaced (map f (take (i + 1) xs)) ≡ spaced (map f (take i xs)) ++ 32 ∷ f (get_or xs i 0)
+pub spaced_more : (f : ℕ → List ℕ) (xs : List ℕ) (i : ℕ) → i < length xs
+    → spaced (map f (take (i + 1) xs)) ≡ spaced (map f (take i xs)) ++ 32 ∷ f (get_or xs i 0)
 spaced_more f xs i lt =
     ap (λ (ys : List ℕ). spaced (map f ys)) (take_more xs i 0 lt)
     ∙ ap spaced (map-append f (take i xs) (get_or xs i 0 ∷ []))

@@ -23,22 +23,28 @@ taken_front xs ys at k n le fits =
     ∙ ap (λ (l : List ℕ). take at xs ++ l) (take-append-le n ys (post_of at k xs) fits)
 
 -- what was held, and n bytes more
-pub taken_behind : (xs ys : List ℕ) (at k n : ℕ) (a b : Option (List ℕ)) → at ≤ length xs → n ≤ length ys → a ≡ prepend_known (take n ys) b → prepend_known (take at xs) a ≡ prepend_known (take (at + n) (put_mid at k xs ys)) b
+pub taken_behind : (xs ys : List ℕ) (at k n : ℕ) (a b : Option (List ℕ)) → at ≤ length xs → n ≤ length ys → a ≡ prepend_known (take n ys) b
+    → prepend_known (take at xs) a ≡ prepend_known (take (at + n) (put_mid at k xs ys)) b
 taken_behind xs ys at k n a b le fits e =
     ap (λ (o : Option (List ℕ)). prepend_known (take at xs) o) e
     ∙ prepend_both (take at xs) (take n ys) b
     ∙ ap (λ (l : List ℕ). prepend_known l b) (sym (taken_front xs ys at k n le fits))
 
-pub behind_if_ok : (r : Result ℕ Failed) (xs ys : List ℕ) (at k : ℕ) (a b : Option (List ℕ)) → at ≤ length xs → length ys + at ≡ length xs → IfOk r (λ n. n ≤ length (take (length xs - at) (drop at xs))) → IfOk r (λ n. a ≡ prepend_known (take n ys) b) → IfOk r (λ n. prepend_known (take at xs) a ≡ prepend_known (take (at + n) (put_mid at k xs ys)) b)
-behind_if_ok (Ok n) xs ys at k a b le len fits e = taken_behind xs ys at k n a b le (let room = length-take (length xs - at) (drop at xs) in let left = length-drop at xs in omega arith) e
+pub behind_if_ok : (r : Result ℕ Failed) (xs ys : List ℕ) (at k : ℕ) (a b : Option (List ℕ)) → at ≤ length xs → length ys + at ≡ length xs
+    → IfOk r (λ n. n ≤ length (take (length xs - at) (drop at xs))) → IfOk r (λ n. a ≡ prepend_known (take n ys) b)
+    → IfOk r (λ n. prepend_known (take at xs) a ≡ prepend_known (take (at + n) (put_mid at k xs ys)) b)
+behind_if_ok (Ok n) xs ys at k a b le len fits e =
+    taken_behind xs ys at k n a b le (let room = length-take (length xs - at) (drop at xs) in let left = length-drop at xs in omega arith) e
 behind_if_ok (Err f) xs ys at k a b le len fits e = tt
 
-pub end_if_ok : (r : Result ℕ Failed) (ys : List ℕ) (a b : Option (List ℕ)) → IfOk r (λ n. a ≡ prepend_known (take n ys) b) → IfOk r (λ n. n ≡ 0 → IsAtEnd a) → IfOk r (λ n. n ≡ 0 → IsAtEnd b)
+pub end_if_ok : (r : Result ℕ Failed) (ys : List ℕ) (a b : Option (List ℕ)) → IfOk r (λ n. a ≡ prepend_known (take n ys) b) → IfOk r (λ n. n ≡ 0 → IsAtEnd a)
+    → IfOk r (λ n. n ≡ 0 → IsAtEnd b)
 end_if_ok (Ok n) ys a b e h = λ z. at_end_after a b (subst (λ (m : ℕ). a ≡ prepend_known (take m ys) b) z e) (h z)
 end_if_ok (Err f) ys a b e h = tt
 
 take_both_at : (n m : ℕ) (xs : List ℕ) → (n < length xs) ⊎ (length xs ≤ n) → n ≤ m → take n (take m xs) ≡ take n xs
-take_both_at n m xs (inl lt) le = sym (ap (take n) (sym (take-append-drop m xs)) ∙ take-append-le n (take m xs) (drop m xs) (let e = length-take m xs in omega arith))
+take_both_at n m xs (inl lt) le =
+    sym (ap (take n) (sym (take-append-drop m xs)) ∙ take-append-le n (take m xs) (drop m xs) (let e = length-take m xs in omega arith))
 take_both_at n m xs (inr short) le = ap (take n) (take_all m xs (omega arith))
 
 take_both : (n m : ℕ) (xs : List ℕ) → n ≤ m → take n (take m xs) ≡ take n xs

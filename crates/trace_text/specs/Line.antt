@@ -16,7 +16,7 @@ use Rattle.trace_text.specs.declared.parse.Entry.TheVariants as entry
 
 -- ---- the parts of a line
 
--- what stands between the spaces: the time, the kind, the value
+-- the fields of a line, between its spaces: time, kind, value
 abbrev pub fields : List ℕ → List (List ℕ)
 fields line = slice_split (λ b. b == 32) line
 
@@ -34,7 +34,12 @@ abbrev pub number : List ℕ → ℕ
 number digits = digits_value 10 digits
 
 abbrev pub kind_of_letter : ℕ → Option LineKind
-kind_of_letter b = if b == 69 then Some kind.Edge else (if b == 67 then Some kind.Comp else (if b == 83 then Some kind.Serial else (if b == 74 then Some kind.Stall else None)))
+kind_of_letter b =
+    if b == 69 then Some kind.Edge
+    else (if b == 67 then Some kind.Comp
+    else (if b == 83 then Some kind.Serial
+    else (if b == 74 then Some kind.Stall
+    else None)))
 
 -- E, C, S, J or END
 abbrev pub kind_of : List ℕ → Option LineKind
@@ -61,7 +66,7 @@ byte_of (a ∷ b ∷ c ∷ rest) = None
 abbrev pub number_between : ℕ → ℕ → List ℕ → Option ℕ
 number_between low high digits = if is_decimal digits && (nat_le low (number digits) && nat_le (number digits) high) then Some (number digits) else None
 
--- what a value says, where it is one of the kind's
+-- the event that a value of this kind says at time t; none where the kind has no such value
 abbrev pub event_of : LineKind → Tick → List ℕ → Option Event
 event_of kind.Edge t value = option_map (λ level. event.Edge t level) (level_of value)
 event_of kind.Comp t value = option_map (λ level. event.Comp t level) (level_of value)
@@ -96,14 +101,15 @@ too_many place = nat_le 16777216 place.line
 abbrev pub too_long : List ℕ → Bool
 too_long line = nat_lt 40 (length line)
 
--- no time, or no space behind it
+-- the line doesn't begin with a decimal time and a space
 abbrev pub bad_time : List (List ℕ) → Bool
 bad_time fs = is_none (slice_get fs 1) || not (is_decimal (unwrap_or (slice_get fs 0) []))
 
--- below the time of the line before
+-- the time is below that of the line before
 abbrev pub time_back : Place → List (List ℕ) → Bool
 time_back place fs = nat_lt (time_of fs) place.time.0
 
+-- the time is above the greatest one, 2^30
 abbrev pub too_late : List (List ℕ) → Bool
 too_late fs = nat_lt 1073741824 (time_of fs)
 
@@ -122,7 +128,7 @@ abbrev pub soon_after : Option Tick → Tick → Bool
 soon_after None t = false
 soon_after (Some before) t = nat_lt t.0 (before.0 + 20000)
 
--- a serial byte less than 20000 ticks after the one before
+-- it is a serial byte less than 20000 ticks after the one before
 abbrev pub too_close : Place → Option Event → Bool
 too_close place None = false
 too_close place (Some (event.Edge t level)) = false
@@ -135,7 +141,7 @@ abbrev pub first : List (Bool × Refusal) → Option Refusal
 first [] = None
 first (r ∷ rs) = if r.0 then Some r.1 else first rs
 
--- what is wrong with the parts of a line, in the order in which it is looked at
+-- what can be wrong with the fields of a line, in the order of refusal, each with whether it applies
 abbrev pub faults_in : Place → List (List ℕ) → List (Bool × Refusal)
 faults_in place fs =
     (bad_time fs, BadTime)
@@ -147,7 +153,7 @@ faults_in place fs =
     ∷ (too_close place (event_in fs), TooClose)
     ∷ []
 
--- what is wrong with a line that is ended
+-- the same for a whole line
 abbrev pub faults : Place → List ℕ → List (Bool × Refusal)
 faults place line = (too_many place, TooMany) ∷ (too_long line, TooLong) ∷ faults_in place (fields line)
 
@@ -162,14 +168,15 @@ abbrev pub ok_unless : Option Refusal → Entry → Result Entry Refusal
 ok_unless None e = Ok e
 ok_unless (Some kind) e = Err kind
 
+-- an event, END, or the first refusal, from the fields of a line
 abbrev pub said_in : Place → List (List ℕ) → Result Entry Refusal
 said_in place fs = ok_unless (first (faults_in place fs)) (entry_of (time_of fs) (event_in fs))
 
--- an event, END, or the first refusal
+-- the same from a whole line, without its line feed
 abbrev pub said : Place → List ℕ → Result Entry Refusal
 said place line = ok_unless (first (faults place line)) (entry_of (time_of (fields line)) (event_in (fields line)))
 
--- what is remembered of the lines before, after one more event
+-- what is remembered of the lines so far, after one more event
 abbrev pub after_event : Place → Event → Place
 after_event place (event.Edge t level) = record { line = place.line + 1; time = t; serial = place.serial }
 after_event place (event.Comp t level) = record { line = place.line + 1; time = t; serial = place.serial }

@@ -1,5 +1,5 @@
--- The note that the words of a line stand for. It says nothing of the line's form: which lines are a note's is said by
--- the text of notes alone.
+-- The note that the words of a line stand for. The form of a note's line, with its spaces and line feed, is a matter of
+-- `note_bytes` alone.
 use Rattle.std.specs.Prelude.{ℕ, unwrap_or, slice_get, Bool, false, ◌&&◌, ◌||◌, ◌==◌, if◌then◌else◌, List, [], ◌∷◌, length, Option, Some, None, option_map, option_and_then}
 use Rattle.std.specs.List.{list_all}
 use Rattle.std.specs.Str.Parse.{digits_value}
@@ -9,7 +9,7 @@ use Rattle.esc_base.specs.declared.note.Note.TheVariants as note
 use Rattle.std.specs.Borrow.{Bor}
 use Rattle.trace_text.specs.Line.{fields, number_between, byte_of}
 
--- 21 binary digits
+-- the number of 21 binary digits
 abbrev pub bits_of : List ℕ → Option ℕ
 bits_of digits = if length digits == 21 && list_all (λ c. c == 48 || c == 49) digits then Some (digits_value 2 digits) else None
 
@@ -31,7 +31,7 @@ two f a b = option_and_then (λ x. option_map (f x) b) a
 abbrev pub three : (ℕ → ℕ → ℕ → Note) → Option ℕ → Option ℕ → Option ℕ → Option Note
 three f a b c = option_and_then (λ x. two (f x) b c) a
 
--- a verdict's letter, and its numbers
+-- the note of a verdict, from its letter and its numbers
 abbrev pub verdict_of : Tick → List ℕ → List ℕ → List ℕ → Option Note
 verdict_of t [] b c = None
 verdict_of t (l ∷ []) b c =
@@ -42,7 +42,7 @@ verdict_of t (l ∷ []) b c =
     else None)))
 verdict_of t (l ∷ m ∷ rest) b c = None
 
--- the letters of control and of the serial side
+-- the notes of commands, saves, the drive and the serial side
 abbrev pub later_note : ℕ → Tick → List ℕ → List ℕ → List ℕ → Option Note
 later_note l t a b c =
     if l == 77 then option_map (λ x. note.Command t x) (number_between 0 47 a)
@@ -71,9 +71,9 @@ note_of l t a b c =
     else (if l == 88 then option_map (λ x. note.Lost t x) (number_between 0 2 a)
     else later_note l t a b c))))))))
 
--- ---- the words behind the letter
+-- ---- the words after the letter
 
--- the words of what stands behind a space, if there is something
+-- the words of the rest of a line, if there is one
 abbrev pub behind : Option (Bor (List ℕ)) → List (List ℕ)
 behind None = []
 behind (Some rest) = fields rest.now

@@ -1,4 +1,4 @@
--- The lines of notes and events.
+-- The lines of notes and events, byte by byte.
 use Rattle.std.specs.Prelude.{ℕ, zero, suc, ◌+◌, ◌/◌, ◌%◌, ◌≤◌, Bool, true, false, List, [], ◌∷◌, ◌++◌, map, None, Some, codes, flat_map, decimal}
 use Rattle.std.specs.Fmt.{digit_glyph}
 use Rattle.esc_base.specs.declared.event.Event.{Event}
@@ -8,7 +8,7 @@ use Rattle.esc_base.specs.declared.note.Note.TheVariants as note
 use Rattle.esc_base.specs.Trace.{tick_of}
 use Rattle.trace_text.specs.Ahead.{StallFits}
 
--- fields, each behind a space
+-- fields, with a space before each
 abbrev pub spaced : List (List ℕ) → List ℕ
 spaced fields = flat_map (λ field. 32 ∷ field) fields
 
@@ -31,6 +31,7 @@ level_number true = 1
 
 -- ---- notes
 
+-- the letter that a note's line begins with
 abbrev pub letter : Note → ℕ
 letter (note.Up t r) = 85
 letter (note.Enter t k) = 73
@@ -55,6 +56,7 @@ letter (note.Sent t xx) = 83
 letter (note.Dropped t xx) = 76
 letter (note.Watched t i n s) = 89
 
+-- the fields after it: the tick, then the rest
 abbrev pub note_fields : Note → List (List ℕ)
 note_fields (note.Up t r) = decimal t.0 ∷ map decimal (r ∷ [])
 note_fields (note.Enter t k) = decimal t.0 ∷ map decimal (k ∷ [])
@@ -100,6 +102,6 @@ event_fields (event.Stall t n) = codes "J" ∷ decimal n ∷ []
 abbrev pub event_bytes : Event → List ℕ
 event_bytes e = line_of (decimal (tick_of e)) (event_fields e)
 
--- an event that a trace can hold
+-- an event that may stand in a trace
 abbrev pub IsHeldByTrace : Event → Type 0
 IsHeldByTrace e = (tick_of e ≤ 1073741824) × StallFits e

@@ -2,14 +2,14 @@ ghost use Rattle.std.specs.Prelude.{◌≡◌, ◌^◌, ◌-◌, ◌<◌, ◌≤
 ghost use Rattle.std.specs.Char.{digit_value};
 ghost use Rattle.trace_text.specs.Line.{fields, has_plain_start, is_decimal, number, level_of, byte_of, number_between};
 
-/// Where a byte stands first.
+/// The place of the first such byte, counted from 0.
 pub fn position_of(wanted: u8, bytes: &[u8]) -> Option<usize>
     ensures { result ≡ position (λ b. b == wanted) bytes.now }
 {
     bytes.iter().position(|byte| *byte == wanted)
 }
 
-/// The bytes up to the first space, and those behind it; all bytes where there is no space.
+/// The bytes before the first space, and those after it; all bytes and `None` where there is no space.
 pub fn split_field(bytes: &[u8]) -> (&[u8], Option<&[u8]>)
     ensures { MatchOption result.1 (fields bytes.now ≡ result.0.now ∷ []) (λ rest. fields bytes.now ≡ result.0.now ∷ fields rest.now) }
 {

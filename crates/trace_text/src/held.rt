@@ -53,9 +53,9 @@ impl Held {
         self.at = 0;
     }
 
-    /// Takes more bytes behind those that are held, and answers whether there were any.
+    /// Takes more bytes after those that are held, and answers whether there were any.
     pub fn fill<S: Source>(&mut self, src: &mut S) -> Result<bool, Failed>
-        requires { length (unread self.old) ≤ 40 }
+        requires { length (unread self.old) < 16384 }
         ensures ahead { ahead self.new (S.left src.new) ≡ ahead self.old (S.left src.old) }
         ensures more { IfOk result (λ more. IsTrue more → length (unread self.old) < length (unread self.new)) }
         ensures none { IfOk result (λ more. IsFalse more → unread self.new ≡ unread self.old) }
@@ -99,11 +99,11 @@ impl Held {
         self.len - self.at
     }
 
-    /// The place of the first line feed among the first 41 bytes that are held.
-    pub fn line_feed(&self) -> Option<usize>
-        ensures { result ≡ position (λ b. b == 10) (take 41 (unread self.now)) }
+    /// The place of the first line feed among the first `most` bytes that are held.
+    pub fn line_feed(&self, most: usize) -> Option<usize>
+        ensures { result ≡ position (λ b. b == 10) (take most (unread self.now)) }
     {
-        let looked_at = self.len().min(41);
+        let looked_at = self.len().min(most);
         position_of(b'\n', &self.buffer[self.at..self.at + looked_at])
     }
 

@@ -17,13 +17,13 @@ pub enum Refusal {
     BadValue,
     /// Something follows the value, or follows END.
     Trailing,
-    /// A serial byte less than 20000 ticks after the one before.
+    /// A serial byte comes less than 20000 ticks after the one before.
     TooClose,
     /// The source ends inside a line, or before the END line.
     NoEnd,
     /// A byte follows the END line.
     AfterEnd,
-    /// A byte of line 16777217 is there.
+    /// There is a line 16777217, or the beginning of one.
     TooMany,
 }
 
@@ -32,15 +32,15 @@ pub enum Refusal {
 pub enum Item {
     /// The event of the next line.
     Event(Event),
-    /// The END line's tick; the source ends behind that line.
+    /// The END line's tick; the source ends after that line.
     End(Tick),
     /// The source failed.
     Fault,
-    /// The first faulty line.
+    /// What is wrong with the first faulty line.
     Refused(Refusal),
 }
 
-/// What is remembered of the lines before.
+/// What is remembered of the lines so far.
 #[derive(Clone, Copy, Debug, PartialEq, Eq, Drop)]
 pub struct Place {
     /// How many lines were looked at.

@@ -24,5 +24,6 @@ pub use item::{Item, Place, Refusal};
 pub use laws::one_journal;
 pub use note_back::note_read;
 pub use note_line::note_text;
+pub use piece::Held;
 pub use reader::Lines;
-pub use write::Line;
+pub use write::{Line, push_bits, push_byte, push_number};

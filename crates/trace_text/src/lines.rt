@@ -45,12 +45,13 @@ impl Lines {
         self.place.line
     }
 
-    /// The length of the next line, which is then held with its line feed.
+    /// The length of the next line, 0 to 40, which is then held whole with its line feed.
     fn find_line<S: Source>(&mut self, src: &mut S) -> Result<usize, Item>
         requires { (place self.old).line < 16777216 }
         ensures ahead { ahead self.new.held (S.left src.new) ≡ ahead self.old.held (S.left src.old) }
         ensures found { IfOk result (λ n. IsLine n (unread self.new.held)) }
-        ensures answers { IfErr result (λ item. Answers (place self.old) (ahead self.old.held (S.left src.old)) item (next_line (place self.old)) (ahead self.new.held (S.left src.new))) }
+        ensures answers { IfErr result (λ item. Answers (place self.old) (ahead self.old.held (S.left src.old)) item
+            (next_line (place self.old)) (ahead self.new.held (S.left src.new))) }
         ensures no_event { IfErr result (λ item. OnStop item (NoEvent (place self.old) (ahead self.old.held (S.left src.old)) (S.left src.new))) }
         ensures place { place self.new ≡ place self.old }
         ensures end { IfErr result (SourceEnded (S.left src.new)) }
@@ -58,7 +59,7 @@ impl Lines {
         ensures no_fewer { S.faults src.old ≤ S.faults src.new }
     {
         loop {
-            if let Some(n) = self.held.line_feed() {
+            if let Some(n) = self.held.line_feed(LONGEST_LINE + 1) {
                 return Ok(n);
             }
             if self.held.len() > LONGEST_LINE {
@@ -90,12 +91,14 @@ impl Lines {
         }
     }
 
-    /// Looks behind the END line.
+    /// Looks whether anything follows the END line.
     fn read_end<S: Source>(&mut self, t: Tick, src: &mut S) -> Item
         requires few { (place self.old).line < 16777216 }
         requires in_time { InTime (place self.old) t.0 }
-        ensures answers { (line : List ℕ) → NoLineFeed line → said (place self.old) line ≡ Ok (IsEnd t) → AnswersWhole (place self.old) line (ahead self.old.held (S.left src.old)) result (place self.new) (ahead self.new.held (S.left src.new)) }
-        ensures no_event { (line : List ℕ) → NoLineFeed line → said (place self.old) line ≡ Ok (IsEnd t) → OnStop result (NoEvent (place self.old) (prepend_known (line ++ 10 ∷ []) (ahead self.old.held (S.left src.old))) (S.left src.new)) }
+        ensures answers { (line : List ℕ) → NoLineFeed line → said (place self.old) line ≡ Ok (IsEnd t) →
+            AnswersWhole (place self.old) line (ahead self.old.held (S.left src.old)) result (place self.new) (ahead self.new.held (S.left src.new)) }
+        ensures no_event { (line : List ℕ) → NoLineFeed line → said (place self.old) line ≡ Ok (IsEnd t) →
+            OnStop result (NoEvent (place self.old) (prepend_known (line ++ 10 ∷ []) (ahead self.old.held (S.left src.old))) (S.left src.new)) }
         ensures end { SourceEnded (S.left src.new) result }
         ensures fault { OnFault result (Rose (S.faults src.old) (S.faults src.new)) }
         ensures no_fewer { S.faults src.old ≤ S.faults src.new }
@@ -141,7 +144,8 @@ impl Lines {
     /// Reads the next line, where it is held whole and is plain.
     fn read_plain(&mut self) -> Option<Event>
         requires few { (place self.old).line < 16777216 }
-        ensures answers { IfSome result (λ e. (left : Option (List ℕ)) → Answers (place self.old) (ahead self.old.held left) (IsEvent e) (place self.new) (ahead self.new.held left)) }
+        ensures answers { IfSome result (λ e. (left : Option (List ℕ)) →
+            Answers (place self.old) (ahead self.old.held left) (IsEvent e) (place self.new) (ahead self.new.held left)) }
         ensures kept { IfNone result (self.new ≡ self.old) }
     {
         let (event, len) = self.place.plain_event(self.held.all())?;
@@ -156,17 +160,21 @@ impl Lines {
         requires { (place self.old).line ≤ 16777216 }
 
         // The events so far are those of the lines that were read, whether the source tells what is left or not.
-        ensures event { IfEvent result (λ e. (first : Option (List ℕ)) (events : List AnEvent) → HasRead self.old first (S.left src.old) events → HasRead self.new first (S.left src.new) (events ++ e ∷ [])) }
+        ensures event { IfEvent result (λ e. (first : Option (List ℕ)) (events : List AnEvent) → HasRead self.old first (S.left src.old) events →
+            HasRead self.new first (S.left src.new) (events ++ e ∷ [])) }
 
         // At the end and at a fault no event more is in the bytes that were taken.
-        ensures taken { OnStop result ((first : Option (List ℕ)) (events : List AnEvent) → HasRead self.old first (S.left src.old) events → TakenEvents first (S.left src.new) events) }
+        ensures taken { OnStop result ((first : Option (List ℕ)) (events : List AnEvent) → HasRead self.old first (S.left src.old) events →
+            TakenEvents first (S.left src.new) events) }
 
         // Where the source tells what is left, the last answer is what the whole text says.
-        ensures end { IfEnd result (λ t. (text : List ℕ) (events : List AnEvent) → HasRead self.old (Some text) (S.left src.old) events → Read text ≡ Trace events t.0) }
-        ensures refused { IfRefused result (λ kind. (text : List ℕ) (events : List AnEvent) → HasRead self.old (Some text) (S.left src.old) events → Read text ≡ IsRefused events (place self.new).line kind) }
+        ensures end { IfEnd result (λ t. (text : List ℕ) (events : List AnEvent) → HasRead self.old (Some text) (S.left src.old) events →
+            Read text ≡ Trace events t.0) }
+        ensures refused { IfRefused result (λ kind. (text : List ℕ) (events : List AnEvent) → HasRead self.old (Some text) (S.left src.old) events →
+            Read text ≡ IsRefused events (place self.new).line kind) }
         ensures no_end { SourceEnded (S.left src.new) result }
 
-        // Whatever it tells.
+        // In any case.
         ensures follows { IfEvent result (λ e. Follows (place self.old) e) }
         ensures goes_on { IfEvent result (λ e. place self.new ≡ after_event (place self.old) e) }
         ensures few { IfEvent result (λ e. (place self.new).line ≤ 16777216) }

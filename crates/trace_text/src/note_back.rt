@@ -9,7 +9,7 @@ use crate::note_line::note_text;
 use crate::note_parse::note;
 use esc_base::{Note, Tick};
 
-/// The next word, empty where there is none, and what stands behind it.
+/// The next word, empty where there is none, and the rest after it, if there is one.
 fn next_word(rest: Option<&[u8]>) -> (&[u8], Option<&[u8]>)
     ensures word { result.0.now ≡ word_at 0 (behind rest.entry) }
     ensures rest { behind result.1 ≡ drop 1 (behind rest.entry) }
@@ -40,7 +40,7 @@ fn candidate(bytes: &[u8]) -> Option<Note>
     note(letter[0], Tick(u64::from(t)), a, b, c)
 }
 
-/// The note in range that has this line, with its line feed; None exactly where no note in range has it.
+/// The note in range whose line this is, with its line feed; `None` exactly where it is the line of no note in range.
 pub fn note_read(bytes: &[u8]) -> Option<Note>
     ensures found { IfSome result (λ n. InRange n × (note_bytes n ≡ bytes.now)) }
     ensures every { (n : ANote) → InRange n → note_bytes n ≡ bytes.now → result ≡ Some n }

@@ -75,7 +75,7 @@ fn verdict(t: Tick, letter: &[u8], a: &[u8], b: &[u8]) -> Option<Note>
     }
 }
 
-/// The note of a letter of the drive or of the serial side.
+/// The note of a command, a save, the drive or the serial side, by its letter.
 fn later(letter: u8, t: Tick, a: &[u8], b: &[u8], c: &[u8]) -> Option<Note>
     requires { IsWord t.0 }
     ensures note { result ≡ later_note letter t a.now b.now c.now }
@@ -131,7 +131,7 @@ fn up(t: Tick, a: &[u8]) -> Option<Note>
     })
 }
 
-/// The note of a letter, a time and the words behind them.
+/// The note of a letter, a time and the words after them.
 pub fn note(letter: u8, t: Tick, a: &[u8], b: &[u8], c: &[u8]) -> Option<Note>
     requires { IsWord t.0 }
     ensures note { result ≡ note_of letter t a.now b.now c.now }

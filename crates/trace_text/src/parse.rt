@@ -101,7 +101,7 @@ impl Place {
         self.parse_rest(Tick(t), rest)
     }
 
-    /// The kind and the value, behind a good time.
+    /// The kind and the value, after a good time.
     fn parse_rest(&self, t: Tick, rest: &[u8]) -> Result<Entry, Refusal>
         requires in_time { InTime self.now t.0 }
         ensures said { (time : List ℕ) → is_decimal time ≡ true → number time ≡ t.0 → result ≡ said_in self.now (time ∷ fields rest.now) }
@@ -124,7 +124,8 @@ impl Place {
     fn parse_value(&self, kind: LineKind, t: Tick, rest: &[u8]) -> Result<Entry, Refusal>
         requires in_time { InTime self.now t.0 }
         requires not_end { is_end_kind (Some kind) ≡ false }
-        ensures said { (time name : List ℕ) → is_decimal time ≡ true → number time ≡ t.0 → kind_of name ≡ Some kind → result ≡ said_in self.now (time ∷ name ∷ fields rest.now) }
+        ensures said { (time name : List ℕ) → is_decimal time ≡ true → number time ≡ t.0 → kind_of name ≡ Some kind →
+            result ≡ said_in self.now (time ∷ name ∷ fields rest.now) }
         ensures fits { IfOk result (EntryFits self.now) }
         ensures refused { IfErr result IsOfLine }
     {

@@ -34,8 +34,8 @@ fn leading_number(bytes: &[u8]) -> (u64, usize)
 }
 
 impl Place {
-    /// The event of a plain line at the front, and the line's length: a time, `E` or `C`, a level and a line feed. Each other
-    /// line is left to `parse`.
+    /// The event of a plain line at the front, and the line's length: a time, `E` or `C`, a level and a line feed. Every
+    /// other line is left to `parse`.
     pub fn plain_event(&self, bytes: &[u8]) -> Option<(Event, usize)>
         requires few { self.now.line < 16777216 }
         ensures line { IfSome result (λ r. IsLine r.1 bytes.now) }

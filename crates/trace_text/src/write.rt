@@ -34,7 +34,7 @@ pub fn push_number(line: &mut Line, n: u32)
     }
 }
 
-/// Appends numbers, each behind a space.
+/// Appends numbers, with a space before each.
 #[tactic(auto, using(crate::proofs::Spacing::spaced_more))]
 pub fn push_numbers(line: &mut Line, numbers: &[u32])
     requires { array_string_len line.old + 11 * length numbers.now ≤ 64 }
@@ -56,7 +56,7 @@ fn hex_digit_of(n: u8) -> u8
     if n < 10 { b'0' + n } else { b'a' + (n - 10) }
 }
 
-/// Appends bytes as two hexadecimal digits, each behind a space.
+/// Appends bytes as two hexadecimal digits each, with a space before each.
 #[tactic(auto, using(crate::proofs::Spacing::spaced_more))]
 pub fn push_hex(line: &mut Line, bytes: &[u8])
     requires { array_string_len line.old + 3 * length bytes.now ≤ 64 }

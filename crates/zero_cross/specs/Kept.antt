@@ -1,4 +1,4 @@
--- What is kept of a sector's crossing, and how each call changes it.
+-- What is kept of the search for a sector's zero crossing, and how each call changes it. Times are ticks of 48 MHz.
 use Rattle.std.specs.Prelude.{◌≤◌, ℕ, ◌+◌, Bool, true, false, not, ◌&&◌, nat_le, if◌then◌else◌, Option, Some, None}
 use Rattle.esc_base.specs.declared.tick.Tick.{Tick}
 use Rattle.esc_base.specs.Trace.{differ}
@@ -39,6 +39,7 @@ IsBlanked p t = ⊥
 abbrev pub is_expected : Kept → Bool → Bool
 is_expected c level = not (differ level c.expects)
 
+-- what follows the end of blanking, and what is kept then
 abbrev pub next_of : Kept → Bool → Next
 next_of c level = if is_expected c level then next.Filter else next.Watch
 
@@ -51,7 +52,7 @@ MayFilter (phase.Blank end) t = end.0 ≤ t
 MayFilter phase.Watch t = Unit {0}
 MayFilter p t = ⊥
 
--- it ends 24 ticks later
+-- a filter begins at t, and ends 24 ticks later
 abbrev pub after_changed : Kept → ℕ → Kept
 after_changed c t = record c { phase = phase.Filter (tick (t + 24)) }
 
@@ -64,21 +65,22 @@ is_over p t = false
 abbrev pub is_clean : Kept → Bool → Bool → Bool
 is_clean c level changed = is_expected c level && not changed
 
+-- the crossing at t, if the filter's time is over and the expected level stood throughout
 abbrev pub accepted : Kept → Tick → Bool → Bool → Option Tick
 accepted c t level changed = if is_over c.phase t.0 && is_clean c level changed then Some t else None
 
--- accepted, the search is done; rejected, 400 ticks of blanking begin
+-- a filter is judged at t: accepted, the search is done; rejected, 400 ticks of blanking begin
 abbrev pub after_filtered : Kept → ℕ → Bool → Bool → Kept
 after_filtered c t level changed =
     if is_over c.phase t then (if is_clean c level changed then record c { phase = phase.Done } else record c { phase = phase.Blank (tick (t + 400)) })
     else c
 
--- a sector stands and its crossing wasn't accepted
+-- a sector has begun, and its crossing wasn't accepted yet
 abbrev pub is_open : Phase → Bool
 is_open phase.Off = false
 is_open phase.Done = false
 is_open p = true
 
--- the sector is to be ended by force
+-- the sector is to be ended by force at t: it began 240,000 ticks ago or earlier, and has no crossing
 abbrev pub is_forced : Kept → ℕ → Bool
 is_forced c t = is_open c.phase && nat_le (c.begun + 240000) t

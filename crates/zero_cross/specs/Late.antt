@@ -1,9 +1,9 @@
--- What an accepted crossing says of the comparator: it is past blanking, and the level stood for the length of the filter.
+-- What an accepted crossing says of the comparator: blanking was over, and the level stood for the length of the filter.
 use Rattle.std.specs.Prelude.{◌≡◌, ◌≤◌, ℕ, ◌+◌, Bool, false}
 use Rattle.zero_cross.specs.declared.phase.Phase.{Phase}
 use Rattle.zero_cross.specs.declared.phase.Phase.TheVariants as phase
 
--- at tick `now`: no filter of the sector has begun, or can begin, before the tick `from`
+-- in this phase at tick `now`, no filter of the sector has begun or can begin before the tick `from`
 abbrev pub FiltersFrom : ℕ → ℕ → Phase → Type 0
 FiltersFrom from now (phase.Blank end) = from ≤ end.0
 FiltersFrom from now phase.Watch = from ≤ now
@@ -14,7 +14,7 @@ FiltersFrom from now p = Unit {0}
 abbrev pub StandsUpTo : (ℕ → Bool) → Bool → ℕ → Type 0
 StandsUpTo comp level z = (u : ℕ) → z ≤ u + 24 → u ≤ z → comp u ≡ level
 
--- what is read at t is true of the comparator: its level, and that there was no change since the filter began
+-- what is read at t is true of the comparator: where no change since the filter began is read, it has had this level since then
 abbrev pub IsRead : (ℕ → Bool) → Phase → ℕ → Bool → Bool → Type 0
 IsRead comp (phase.Filter end) t level changed = changed ≡ false → (u : ℕ) → end.0 ≤ u + 24 → u ≤ t → comp u ≡ level
 IsRead comp p t level changed = Unit {0}

@@ -1,4 +1,4 @@
-//! What is kept of a sector's crossing, and how each look at the comparator changes it.
+//! The search for a sector's zero crossing, and how each look at the comparator changes it.
 ghost use Rattle.std.specs.Prelude.{◌≡◌, ◌≤◌, ◌<◌, ◌+◌, ◌^◌, ℕ, Bool, IfSome};
 ghost use Rattle.zero_cross.specs.Sector.{blanking_of};
 ghost use Rattle.zero_cross.specs.Kept.{accepted, after_begin, after_changed, after_filtered, after_off, after_ready, fresh, is_forced, next_of, MayFilter, IsBlanked};
@@ -8,21 +8,21 @@ use crate::{Next, Phase};
 use esc_base::{Sector, Tick};
 use std::marker::Model;
 
-/// The least blanking after a sector change.
+/// The least blanking after a sector change, in ticks.
 const LEAST_BLANKING: u64 = 300;
 
-/// How long the expected level has to stand.
+/// How long the expected level has to stand, in ticks.
 const FILTER: u64 = 24;
 
-/// Blanking after a filter that was rejected.
+/// Blanking after a filter that was rejected, in ticks.
 const REJECTED: u64 = 400;
 
-/// After so long without a crossing a sector is ended by force.
+/// How long a sector may go on without a crossing, in ticks, before it is ended by force.
 const LONGEST_SECTOR: u64 = 240_000;
 
-/// The search for the crossing of a sector.
+/// The search for a sector's zero crossing.
 ///
-/// Contracts see the phase, the expected level and the tick of the sector's start.
+/// Contracts see its phase, the expected level of the comparator, and the tick at which the sector began.
 #[derive(Debug, Drop)]
 pub struct Crossing {
     phase: Phase,
@@ -39,7 +39,7 @@ impl Model for Crossing {
 }
 
 impl Crossing {
-    /// Off: no sector was begun.
+    /// No sector has begun, so nothing is looked for.
     pub fn new() -> Crossing
         ensures { result ≡ fresh }
     {

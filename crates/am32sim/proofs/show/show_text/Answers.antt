@@ -1,18 +1,22 @@
 use Rattle.std.proofs.Common.{◌≡◌, ◌∙◌, ◌++◌, [], ◌+◌, ◌*◌, List, ℕ, codes, ap, rules}
-use Rattle.am32sim.specs.Show.{field_line, fault_text, input_number, switch_number}
+use Rattle.am32sim.specs.Show.{field_line, fault_text}
+use Rattle.settings_block.specs.Settings.{input_number}
+use Rattle.esc_base.specs.Numbers.{bit_of}
 use Rattle.am32sim.proofs.Shows.{line_more}
 use Rattle.am32sim.proofs.show.show_text.Goals as goal
 
 pub returns : goal.returns
 returns c =
     let s = c.args.loaded.now.settings in
-    let t0 : c.push_fault.new.text.bytes ≡ fault_text c.args.loaded.now.fault = let none : c.new-text.result.bytes ≡ [] = search rules in c.push_fault.ensures.bytes ∙ ap (λ (xs : List ℕ). xs ++ fault_text c.args.loaded.now.fault) none in
+    let t0 : c.push_fault.new.text.bytes ≡ fault_text c.args.loaded.now.fault =
+    let none : c.new-text.result.bytes ≡ [] = search rules in
+    c.push_fault.ensures.bytes ∙ ap (λ (xs : List ℕ). xs ++ fault_text c.args.loaded.now.fault) none in
     let t1 = line_more c.push_fault.new.text.bytes c.push_field.new.text.bytes
     (codes "direction") c.from.result s.direction _ c.push_field.ensures.bytes t0 (search rules) in
     let t2 = line_more c.push_field.new.text.bytes c.push_field-2.new.text.bytes (codes "three_d") c.from-2.result
-    (switch_number s.three_d) _ c.push_field-2.ensures.bytes t1 (search rules) in
+    (bit_of s.three_d) _ c.push_field-2.ensures.bytes t1 (search rules) in
     let t3 = line_more c.push_field-2.new.text.bytes c.push_field-3.new.text.bytes (codes "complementary") c.from-3.result
-    (switch_number s.complementary) _ c.push_field-3.ensures.bytes t2 (search rules) in
+    (bit_of s.complementary) _ c.push_field-3.ensures.bytes t2 (search rules) in
     let t4 = line_more c.push_field-3.new.text.bytes c.push_field-4.new.text.bytes
     (codes "advance") c.from-4.result s.advance _ c.push_field-4.ensures.bytes t3 (search rules) in
     let t5 = line_more c.push_field-4.new.text.bytes c.push_field-5.new.text.bytes

@@ -10,10 +10,10 @@ on_err (Err e) p = p
 
 pub returns-in_err-program-clause-below : goal.returns-in_err-program-clause-below
 returns-in_err-program-clause-below g c =
-    on_err _ (below_erased (g.D.FlashDev.bytes c.args.dev.now) (g.D.FlashDev.bytes c.erase.new.self) (g.D.FlashDev.bytes c.program.new.self) _
+    on_err _ (below_erased (g.D.FlashDev.told c.args.dev.now).bytes (g.D.FlashDev.told c.erase.new.self).bytes (g.D.FlashDev.told c.program.new.self).bytes _
     c.in_ok-erase.ensures.erased c.in_err-program.ensures.within (g.met.D.FlashDev.whole c.args.dev.now))
 
 pub returns-clause-saved : goal.returns-clause-saved
 returns-clause-saved g c =
     rw (c.in_ok-program.ensures.programmed, c.in_ok-erase.ensures.erased, c.write_block.ensures.block)
-    (map_map (λ cells. programmed cells 31744 (block_of c.args.s.now)) (λ cells. erased cells 31) (g.D.FlashDev.bytes c.args.dev.now))
+    (map_map (λ cells. programmed cells 31744 (block_of c.args.s.now)) (λ cells. erased cells 31) (g.D.FlashDev.told c.args.dev.now).bytes)

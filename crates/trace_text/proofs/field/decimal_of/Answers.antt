@@ -14,6 +14,9 @@ loop-digit-preserved c =
     let is = c.if-not-is_ascii_digit.ensures.value in
     record {
       digits = rw (list_all_more is_ascii_digit ds i 0 lt, c.loop-digit.invariant.digits) (sym is);
-      value = capped (number (take i ds)) c.loop-digit.n c.saturating_mul.result c.saturating_add-n.result (get_or ds i 0 - 48) c.loop-digit.invariant.value c.saturating_mul.ensures c.saturating_add-n.ensures
-          ∙ ap (λ (v : ℕ). min v 18446744073709551615) (ap (λ (d : ℕ). number (take i ds) * 10 + d) (sym (digit_of (get_or ds i 0) (sym is))) ∙ sym (digits_value_more 10 ds i lt));
+      value =
+          capped (number (take i ds)) c.loop-digit.n c.saturating_mul.result c.saturating_add-n.result
+          (get_or ds i 0 - 48) c.loop-digit.invariant.value c.saturating_mul.ensures c.saturating_add-n.ensures
+          ∙ ap (λ (v : ℕ). min v 18446744073709551615)
+          (ap (λ (d : ℕ). number (take i ds) * 10 + d) (sym (digit_of (get_or ds i 0) (sym is))) ∙ sym (digits_value_more 10 ds i lt));
     }

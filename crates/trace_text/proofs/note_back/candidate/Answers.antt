@@ -31,4 +31,5 @@ returns-clause-every c n h e =
     let rest-4 = c.next_word-4.ensures.rest ∙ ap (λ (ws : List (List ℕ)). drop 1 ws) rest-3 in
     let same : c.in_ok-t.t ≡ time_of n = cc in
     c.note.ensures.note ∙ read_back n h _ _ _ _ _ (ap (λ (l : List ℕ). get_or l 0 0) first) (c.from.ensures ∙ same)
-    (c.next_word-3.ensures.word ∙ ap (word_at 0) rest-2) (c.next_word-4.ensures.word ∙ ap (word_at 0) rest-3) (c.next_word-5.ensures.word ∙ ap (word_at 0) rest-4)
+    (c.next_word-3.ensures.word ∙ ap (word_at 0) rest-2) (c.next_word-4.ensures.word ∙ ap (word_at 0) rest-3)
+    (c.next_word-5.ensures.word ∙ ap (word_at 0) rest-4)

@@ -15,8 +15,11 @@ loop-digit-preserved c =
     let is = sym c.is_binary.ensures ∙ c.if-not-is_binary.false in
     record {
       passed = rw (list_all_more (λ x. x == 48 || x == 49) ds i 0 lt, c.loop-digit.invariant.passed) is;
-      value = capped_bits (digits_value 2 (take i ds)) c.loop-digit.b c.saturating_mul.result c.saturating_add-b.result (get_or ds i 0 - 48) c.loop-digit.invariant.value c.saturating_mul.ensures c.saturating_add-b.ensures
-          ∙ ap (λ (v : ℕ). min v 4294967295) (ap (λ (d : ℕ). digits_value 2 (take i ds) * 2 + d) (sym (two_digit_of (get_or ds i 0) is)) ∙ sym (digits_value_more 2 ds i lt));
+      value =
+          capped_bits (digits_value 2 (take i ds)) c.loop-digit.b c.saturating_mul.result c.saturating_add-b.result
+          (get_or ds i 0 - 48) c.loop-digit.invariant.value c.saturating_mul.ensures c.saturating_add-b.ensures
+          ∙ ap (λ (v : ℕ). min v 4294967295)
+          (ap (λ (d : ℕ). digits_value 2 (take i ds) * 2 + d) (sym (two_digit_of (get_or ds i 0) is)) ∙ sym (digits_value_more 2 ds i lt));
     }
 
 pub returns-clause-value : goal.returns-clause-value

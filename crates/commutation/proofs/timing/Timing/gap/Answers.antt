@@ -9,8 +9,10 @@ returns-clause-kept c =
     let before = c.self.inside in
     let most : before.turn_count ≤ 7 = omega arith in
     let turns_are : take c.min-self-inside.result (slice_set c.rotate_right.new.self 0 c.args.q.0) ≡ take 7 (c.args.q.0 ∷ take before.turn_count before.turns) =
-    turned before.turns c.rotate_right.new.self before.turn_count c.min-self-inside.result c.args.q.0 c.self.told c.rotate_right.ensures.after most c.min-self-inside.ensures in
-    let make : List ℕ → Kept = λ (turns : List ℕ). record { advance = before.advance; pace = record { interval = before.interval; last = before.last }; turns = turns } in
+    turned before.turns c.rotate_right.new.self before.turn_count c.min-self-inside.result
+    c.args.q.0 c.self.told c.rotate_right.ensures.after most c.min-self-inside.ensures in
+    let make : List ℕ → Kept =
+    λ (turns : List ℕ). record { advance = before.advance; pace = record { interval = before.interval; last = before.last }; turns = turns } in
     rw (← c.self.view_is) (ap make turns_are)
 
 pub returns-clause-timed : goal.returns-clause-timed

@@ -8,5 +8,6 @@ returns-clause-counts c = λ frames counts. rw c.count.ensures (counts_more c.ar
 
 pub returns-clause-acts : goal.returns-clause-acts
 returns-clause-acts c =
-    let run_is : c.self.inside.frames ≡ (run_after c.args.self.now c.args.value c.args.still).frames = ap (λ (run : Run). run.frames) (c.self.view_is ∙ c.count.ensures) in
+    let run_is : c.self.inside.frames ≡ (run_after c.args.self.now c.args.value c.args.still).frames =
+    ap (λ (run : Run). run.frames) (c.self.view_is ∙ c.count.ensures) in
     λ frames counts. rw (c.after.ensures.act, run_is) (acts_counted c.args.self.now frames c.args.value c.args.still counts)

@@ -14,14 +14,16 @@ invariant_of-self-in-Comp-clause-waits c = λ below.
     let r : Runner = c.args.self.now in
     let reached : r.limit.0 ≤ r.next.0 = c.requires.reached in
     let soon : r.limit.0 < r.quiet.0 = omega arith in
-    rw (c.comp.ensures, c.advance.ensures.regs) (quiet_later r.machine.open_kinds r.machine.firmware.orders.save_asked r.regs r.quiet.0 r.limit.0 r.before soon (r.waits below))
+    rw (c.comp.ensures, c.advance.ensures.regs)
+    (quiet_later r.machine.open_kinds r.machine.firmware.orders.save_asked r.regs r.quiet.0 r.limit.0 r.before soon (r.waits below))
 
 pub invariant_of-self-in-Serial-clause-waits : goal.invariant_of-self-in-Serial-clause-waits
 invariant_of-self-in-Serial-clause-waits c = λ below.
     let r : Runner = c.args.self.now in
     let reached : r.limit.0 ≤ r.next.0 = c.requires.reached in
     let soon : r.limit.0 < r.quiet.0 = omega arith in
-    rw (c.serial.ensures.same, c.advance.ensures.regs) (quiet_later r.machine.open_kinds r.machine.firmware.orders.save_asked r.regs r.quiet.0 r.limit.0 r.before soon (r.waits below))
+    rw (c.serial.ensures.same, c.advance.ensures.regs)
+    (quiet_later r.machine.open_kinds r.machine.firmware.orders.save_asked r.regs r.quiet.0 r.limit.0 r.before soon (r.waits below))
 
 pub invariant_of-self-in-Stall-clause-waits : goal.invariant_of-self-in-Stall-clause-waits
 invariant_of-self-in-Stall-clause-waits c = λ below.

@@ -1,5 +1,4 @@
 use Rattle.std.proofs.Common.{[]}
-use Rattle.esc_base.specs.Flash.{told}
 use Rattle.trace_runner.specs.Run.{Runs, StandsFor}
 use Rattle.trace_runner.proofs.Goes.{goes_from, goes_event, breaks_from}
 use Rattle.trace_runner.proofs.Steps.{legal_at}
@@ -16,7 +15,7 @@ pub returns-clause-goes : goal.returns-clause-goes
 returns-clause-goes g c = λ o.
     goes_event g.K.Sink.given g.K.Sink.took (StandsFor c.args.self.now o _) (Runs c.run_to.new.self o _) (StandsFor c.apply.new.self o _) c.args.e _ _
     (λ trace steps st. record {
-      runs = c.apply.ensures.runs o (told g.D.FlashDev.bytes g.D.FlashDev.faults c.run_to.new.dev) trace steps st;
+      runs = c.apply.ensures.runs o (g.D.FlashDev.told c.run_to.new.dev) trace steps st;
       reached = c.apply.ensures.reached;
     })
     (goes_from g.K.Sink.given g.K.Sink.took (StandsFor c.args.self.now o _) (Runs c.args.self.now o _) (Runs c.run_to.new.self o _) [] _ _

@@ -1,14 +1,15 @@
 use Rattle.std.proofs.Common.{arith}
-use Rattle.esc_base.specs.Flash.{Told, told}
+use Rattle.esc_base.specs.Flash.{Told}
 use Rattle.trace_runner.specs.Run.{Runs}
 use Rattle.trace_runner.proofs.Goes.{goes_none, runs_from}
 use Rattle.trace_runner.proofs.state.Runner.go_on.Goals as goal
 
 pub returns-then-self-clause-run : goal.returns-then-self-clause-run
 returns-then-self-clause-run g c =
-    let flash : Told = told g.D.FlashDev.bytes g.D.FlashDev.faults c.args.dev.now in
+    let flash : Told = g.D.FlashDev.told c.args.dev.now in
     record {
-      goes = λ o. goes_none g.K.Sink.given g.K.Sink.took (Runs c.args.self.now o flash) (Runs c.wait.new.self o flash) _ (λ trace steps st. c.wait.ensures.runs o flash trace steps st);
+      goes = λ o. goes_none g.K.Sink.given g.K.Sink.took (Runs c.args.self.now o flash) (Runs c.wait.new.self o flash) _
+          (λ trace steps st. c.wait.ensures.runs o flash trace steps st);
       breaks = tt;
       failed = tt;
       no_fewer = omega arith;
@@ -16,7 +17,7 @@ returns-then-self-clause-run g c =
 
 pub returns-then-idle-clause-run : goal.returns-then-idle-clause-run
 returns-then-idle-clause-run g c =
-    let flash : Told = told g.D.FlashDev.bytes g.D.FlashDev.faults c.args.dev.now in
+    let flash : Told = g.D.FlashDev.told c.args.dev.now in
     record {
       goes = λ o. goes_none g.K.Sink.given g.K.Sink.took (Runs c.args.self.now o flash) (Runs c.jump.new.self o flash) _ (λ trace steps st.
           let p = c.pass.ensures.runs o flash trace steps st in
@@ -28,7 +29,7 @@ returns-then-idle-clause-run g c =
 
 pub returns-else-idle-clause-run : goal.returns-else-idle-clause-run
 returns-else-idle-clause-run g c =
-    let flash : Told = told g.D.FlashDev.bytes g.D.FlashDev.faults c.args.dev.now in
+    let flash : Told = g.D.FlashDev.told c.args.dev.now in
     runs_from g.K.Sink.given g.K.Sink.took g.K.Sink.broke g.K.Sink.faults c.args.self.now _ c.step.new.self flash _ _ _ _ (λ o trace steps st.
     let p = c.pass.ensures.runs o flash trace steps st in
     record { logged = p.logged; bound = p.bound; spaced = p.spaced; in_range = p.in_range; flash = p.flash })

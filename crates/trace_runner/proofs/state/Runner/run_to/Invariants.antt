@@ -1,13 +1,12 @@
 use Rattle.std.proofs.Common.{◌-◌, ◌≡◌, ◌≤◌, []}
-use Rattle.esc_base.specs.Flash.{told}
 use Rattle.trace_runner.specs.Run.{Outset, Runs, GoesOn, nest_of, cost_of}
 use Rattle.trace_runner.proofs.state.Runner.run_to.Given as goal
 
 abbrev pub invariant-loop-self : goal.invariant-loop-self
 invariant-loop-self g l = record {
   goes : (o : Outset)
-      → GoesOn g.K.Sink.given g.K.Sink.took (Runs l.fn.self o (told g.D.FlashDev.bytes g.D.FlashDev.faults l.fn.dev))
-      (Runs l.self o (told g.D.FlashDev.bytes g.D.FlashDev.faults l.dev)) [] l.fn.out l.out;
+      → GoesOn g.K.Sink.given g.K.Sink.took (Runs l.fn.self o (g.D.FlashDev.told l.fn.dev))
+      (Runs l.self o (g.D.FlashDev.told l.dev)) [] l.fn.out l.out;
   limit : l.self.limit ≡ l.fn.limit;
   nest : nest_of l.self ≡ nest_of l.fn.self;
   cost : cost_of l.self ≡ cost_of l.fn.self;

@@ -1,6 +1,6 @@
 use Rattle.std.proofs.Common.{◌≡◌, ◌<◌, ◌≤◌, ◌+◌, List, [], ◌∷◌, length, subst, sym, ◌∙◌, append-nil, arith}
 use Rattle.esc_base.specs.declared.note.Note.{Note}
-use Rattle.esc_base.specs.Flash.{Told, told}
+use Rattle.esc_base.specs.Flash.{Told}
 use Rattle.esc_laws.specs.Steps.{Turned}
 use Rattle.esc_laws.specs.Logged.{CoreTurn, turned}
 use Rattle.trace_runner.specs.declared.state.Runner.{Runner}
@@ -14,8 +14,8 @@ pub returns-clause-run : goal.returns-clause-run
 returns-clause-run g c =
     let r : Runner = c.args.self.now in
     let own : List Note = c.step_into.new.notes.items in
-    let flash : Told = (told g.D.FlashDev.bytes g.D.FlashDev.faults c.args.dev.now) in
-    let flash' : Told = (told g.D.FlashDev.bytes g.D.FlashDev.faults c.step_into.new.dev) in
+    let flash : Told = (g.D.FlashDev.told c.args.dev.now) in
+    let flash' : Told = (g.D.FlashDev.told c.step_into.new.dev) in
     let t : CoreTurn r.machine.nest r.machine.firmware r.machine.open_kinds r.regs flash own c.step_into.new.self.firmware
     c.step_into.new.self.open_kinds c.step_into.new.regs flash' =
     c.step_into.ensures.turn in
@@ -52,7 +52,7 @@ returns-clause-run g c =
           (LeftBelow o flash' r.machine.nest r.cost r.limit.0) c.as_slice.result.now _ _ (λ trace steps front rest last st split.
           step_breaks o r.machine.nest r.cost r.next.0 r.limit.0 trace r.machine.firmware c.step_into.new.self.firmware r.regs c.step_into.new.regs flash
           flash' r.machine.open_kinds c.step_into.new.self.open_kinds steps own front rest last
-          c.requires.now below r.cost_some small st.logged c.requires.busy t (below_next r.cost r.next.0 steps r.cost_some st.spaced)
+          c.requires.now below r.cost_some r.cost_most small st.logged c.requires.busy t (below_next r.cost r.next.0 steps r.cost_some st.spaced)
           (sym c.as_slice.ensures.value ∙ split)
           c.step_into.ensures.in_range st.in_range (g.met.D.FlashDev.whole c.args.dev.now) (g.met.D.FlashDev.whole c.step_into.new.dev) st.flash) broken);
       failed = c.put_notes.ensures.failed;

@@ -10,4 +10,4 @@ returns c =
     let held = length-drop h.at (take h.len h.buffer) in
     let n = c.len.ensures in
     let k = c.min-looked_at.ensures in
-    c.position_of.ensures ∙ ap (λ (xs : List ℕ). position (λ b. b == 10) xs) (window h.buffer h.at h.len 41 c.min-looked_at.result h.within (omega arith))
+    c.position_of.ensures ∙ ap (λ (xs : List ℕ). position (λ b. b == 10) xs) (window h.buffer h.at h.len c.args.most c.min-looked_at.result h.within (omega arith))

@@ -8,13 +8,15 @@ returns-in-Some-clause-found g c = line_found (unread c.loop-n.self.held) c.in-S
 
 pub returns-then-len-gt-LONGEST_LINE-clause-answers : goal.returns-then-len-gt-LONGEST_LINE-clause-answers
 returns-then-len-gt-LONGEST_LINE-clause-answers g c =
-    too_long (place c.args.self.now) (unread c.loop-n.self.held) (g.S.Source.left c.loop-n.src) (ahead c.args.self.now.held (g.S.Source.left c.args.src.now)) (ahead c.loop-n.self.held (g.S.Source.left c.loop-n.src))
+    too_long (place c.args.self.now) (unread c.loop-n.self.held) (g.S.Source.left c.loop-n.src)
+    (ahead c.args.self.now.held (g.S.Source.left c.args.src.now)) (ahead c.loop-n.self.held (g.S.Source.left c.loop-n.src))
     c.requires c.loop-n.invariant.ahead (none_found (unread c.loop-n.self.held) (sym c.line_feed.ensures ∙ c.in_default.is)) (omega arith)
 
 pub returns-in-Ok-false-clause-answers : goal.returns-in-Ok-false-clause-answers
 returns-in-Ok-false-clause-answers g c =
     let same = c.in-Ok-false.ensures.none c.in-Ok-false.field-0-test in
-    no_end (place c.args.self.now) (unread c.fill.new.self) (g.S.Source.left c.fill.new.src) (ahead c.args.self.now.held (g.S.Source.left c.args.src.now)) (ahead c.fill.new.self (g.S.Source.left c.fill.new.src))
+    no_end (place c.args.self.now) (unread c.fill.new.self) (g.S.Source.left c.fill.new.src)
+    (ahead c.args.self.now.held (g.S.Source.left c.args.src.now)) (ahead c.fill.new.self (g.S.Source.left c.fill.new.src))
     c.requires (c.fill.ensures.ahead ∙ c.loop-n.invariant.ahead) (c.in-Ok-false.ensures.end c.in-Ok-false.field-0-test)
     (subst (λ (xs : List ℕ). NoLineFeed (take 41 xs)) (sym same) (none_found (unread c.loop-n.self.held) (sym c.line_feed.ensures ∙ c.in_default.is)))
     (let len = c.len.ensures in let short = c.if-len-gt-LONGEST_LINE.false in let grew = ap (λ (xs : List ℕ). length xs) same in omega arith)

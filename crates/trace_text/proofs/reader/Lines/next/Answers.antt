@@ -38,7 +38,8 @@ returns-in-Ok-clause-event g c =
     let before = ahead c.args.self.now.held left in
     let found = ahead c.find_line.new.self.held (g.S.Source.left c.find_line.new.src) in
     read_more_if c.args.self.now c.read_line.new.self left (g.S.Source.left c.read_line.new.src) c.read_line.result
-    (same_answers (place c.args.self.now) (place c.find_line.new.self) (place c.read_line.new.self) (place c.read_line.new.self) before found (ahead c.read_line.new.self.held (g.S.Source.left c.read_line.new.src)) c.read_line.result
+    (same_answers (place c.args.self.now) (place c.find_line.new.self) (place c.read_line.new.self) (place c.read_line.new.self) before found
+    (ahead c.read_line.new.self.held (g.S.Source.left c.read_line.new.src)) c.read_line.result
     (c.find_line.ensures.place ∙ ap place kept) (c.find_line.ensures.ahead ∙ ap (λ (l : Lines). ahead l.held left) kept) refl c.read_line.ensures.answers)
 
 pub returns-in-Ok-clause-taken : goal.returns-in-Ok-clause-taken
@@ -46,7 +47,8 @@ returns-in-Ok-clause-taken g c =
     let left = g.S.Source.left c.args.src.now in
     let kept = c.in_default.ensures.kept in
     taken_if c.args.self.now left (g.S.Source.left c.read_line.new.src) c.read_line.result
-    (same_none (place c.args.self.now) (place c.find_line.new.self) (ahead c.args.self.now.held left) (ahead c.find_line.new.self.held (g.S.Source.left c.find_line.new.src)) (g.S.Source.left c.read_line.new.src) c.read_line.result
+    (same_none (place c.args.self.now) (place c.find_line.new.self) (ahead c.args.self.now.held left)
+    (ahead c.find_line.new.self.held (g.S.Source.left c.find_line.new.src)) (g.S.Source.left c.read_line.new.src) c.read_line.result
     (c.find_line.ensures.place ∙ ap place kept) (c.find_line.ensures.ahead ∙ ap (λ (l : Lines). ahead l.held left) kept) c.read_line.ensures.no_event)
 
 pub returns-in-Err-clause-event : goal.returns-in-Err-clause-event
@@ -55,7 +57,8 @@ returns-in-Err-clause-event g c =
     let kept = c.in_default.ensures.kept in
     let p = place c.read_plain.new.self in
     read_more_if c.args.self.now _ left (g.S.Source.left c.find_line.new.src) c.in-Err.item
-    (same_answers (place c.args.self.now) p (next_line (place c.find_line.new.self)) (next_line p) (ahead c.args.self.now.held left) (ahead c.read_plain.new.self.held left) (ahead c.find_line.new.self.held (g.S.Source.left c.find_line.new.src)) c.in-Err.item
+    (same_answers (place c.args.self.now) p (next_line (place c.find_line.new.self)) (next_line p) (ahead c.args.self.now.held left)
+    (ahead c.read_plain.new.self.held left) (ahead c.find_line.new.self.held (g.S.Source.left c.find_line.new.src)) c.in-Err.item
     (ap place kept) (ap (λ (l : Lines). ahead l.held left) kept) (ap (λ (q : Place). next_line q) (sym c.find_line.ensures.place)) c.in-Err.ensures.answers)
 
 pub returns-in-Err-clause-taken : goal.returns-in-Err-clause-taken
@@ -63,5 +66,6 @@ returns-in-Err-clause-taken g c =
     let left = g.S.Source.left c.args.src.now in
     let kept = c.in_default.ensures.kept in
     taken_if c.args.self.now left (g.S.Source.left c.find_line.new.src) c.in-Err.item
-    (same_none (place c.args.self.now) (place c.read_plain.new.self) (ahead c.args.self.now.held left) (ahead c.read_plain.new.self.held left) (g.S.Source.left c.find_line.new.src) c.in-Err.item
+    (same_none (place c.args.self.now) (place c.read_plain.new.self) (ahead c.args.self.now.held left)
+    (ahead c.read_plain.new.self.held left) (g.S.Source.left c.find_line.new.src) c.in-Err.item
     (ap place kept) (ap (λ (l : Lines). ahead l.held left) kept) c.in-Err.ensures.no_event)

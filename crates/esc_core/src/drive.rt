@@ -1,0 +1,85 @@
+//! What is kept of the drive between steps.
+ghost use Rattle.std.specs.Prelude.{◌≡◌, ◌+◌, ◌<◌, ◌≤◌, ◌^◌, bit_or};
+ghost use Rattle.commutation.specs.Sectors.{low_of};
+ghost use Rattle.esc_core.specs.Drive.{first_drive, started, after_turn, due_at as due_of};
+
+use commutation::{Timing, pair};
+use esc_base::{Sector, Tick};
+use gate_driver::{Gates, ToSector};
+
+/// The longest time from a sector change to the next one.
+const FORCED_LIMIT: u32 = 240_000;
+
+/// So many forced sector changes in a row are a motor that doesn't turn.
+pub(crate) const STUCK_ROW: u8 = 60;
+
+/// The gates, the newest change of sector, and when the next one is due.
+#[derive(Debug, Drop)]
+pub struct Drive {
+    pub(crate) gates: Gates,
+    pub(crate) timing: Timing,
+    /// The newest change of sector. Where its low switch is postponed it stands at that step.
+    pub(crate) turn: ToSector,
+    /// The tick of 48 MHz from which on the next sector change is due.
+    pub(crate) change: u32,
+    /// The low switch of the newest sector is postponed for the dead time.
+    pub(crate) postponed: bool,
+    /// The sector has changed since the drive started.
+    pub(crate) turned: bool,
+    /// How many forced sector changes stand in a row, at most 60.
+    pub(crate) forced: u8,
+}
+
+impl Drive {
+    /// All switches off, and no sector yet. `advance` is in eighths of the interval, and counts as 3 where it is more.
+    pub(crate) fn new(advance: u8) -> Drive
+        ensures { result ≡ first_drive advance }
+    {
+        Drive {
+            gates: Gates::new(),
+            timing: Timing::new(advance.min(3)),
+            turn: ToSector::new(Sector(1)),
+            change: 0,
+            postponed: false,
+            turned: false,
+            forced: 0,
+        }
+    }
+
+    /// A drive starts, and its first sector change is due at once.
+    pub(crate) fn start(&mut self, now: Tick)
+        requires { now.0 < 2 ^ 31 }
+        ensures { self.new ≡ started self.old now.0 }
+    {
+        self.timing.restart();
+        self.change = now.0 as u32;
+        self.turned = false;
+        self.forced = 0;
+    }
+
+    /// The sector has changed, and the next change is forced where no crossing comes. It was forced itself but as the
+    /// first one of its drive.
+    pub(crate) fn turned_at(&mut self, now: Tick)
+        requires { now.0 < 2 ^ 31 }
+        ensures { self.new ≡ after_turn self.old now.0 }
+    {
+        self.timing.gap(now);
+        self.change = now.0 as u32 + FORCED_LIMIT;
+        if self.turned {
+            self.forced = self.forced.saturating_add(1).min(STUCK_ROW);
+        }
+        self.turned = true;
+    }
+
+    /// When COMM is due next: at the next sector change, or when the postponed low switch may turn on, if that is earlier.
+    pub(crate) fn due_at(&self) -> u32
+        ensures { result ≡ due_of self.now }
+    {
+        let change = self.change;
+        if !self.postponed {
+            return change;
+        }
+        let free = self.gates.high_free(pair(self.turn.to()).1);
+        (change as u64).min(free.0) as u32
+    }
+}

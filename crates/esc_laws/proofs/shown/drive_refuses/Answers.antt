@@ -1,0 +1,5 @@
+use Rattle.esc_laws.proofs.RefusedDrive.{drive_refuses}
+use Rattle.esc_laws.proofs.shown.drive_refuses.Goals as goal
+
+pub returns : goal.returns
+returns c = drive_refuses

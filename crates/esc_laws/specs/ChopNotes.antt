@@ -1,0 +1,11 @@
+-- Machinery, and no law: how a run is proved to be legal. Nothing that `Legal` means rests on this.
+-- A step's notes stand at its tick, and an entry is its I.
+use Rattle.std.specs.Prelude.{◌≡◌, true, List, [], ◌∷◌, All}
+use Rattle.esc_base.specs.declared.note.Note.TheVariants as note
+use Rattle.esc_base.specs.Journal.{time_of}
+use Rattle.esc_base.specs.Numbers.{kind_number}
+use Rattle.esc_laws.specs.Steps.{Turned}
+
+pub record NotesFit (before : List Turned) (e : Turned) : Type 0 where
+  pub at_tick : All (λ n. time_of n ≡ e.tick) e.notes
+  pub entry : e.enters ≡ true → e.notes ≡ note.Enter (record { 0 = e.tick }) (kind_number e.kind) ∷ []
