@@ -8,7 +8,8 @@ use Rattle.trace_tools.specs.Written.{HasWritten, IsTrace}
 use Rattle.am32csv.specs.declared.capture.Capture.{Capture}
 use Rattle.am32csv.specs.Captured.{AreChanges, level_behind, IsCapture, Keeps, GoesOn, Ends}
 
-changes_more : (level : Bool) (events : List Event) (t : Tick) (changed : Bool) → AreChanges level events → changed ≡ not (level_behind level events) → AreChanges level (events ++ event.Edge t changed ∷ [])
+changes_more : (level : Bool) (events : List Event) (t : Tick) (changed : Bool) → AreChanges level events → changed ≡ not (level_behind level events)
+    → AreChanges level (events ++ event.Edge t changed ∷ [])
 changes_more level [] t changed h e = (e, tt)
 changes_more level (event.Edge u l ∷ events) t changed h e = (h.0, changes_more l events t changed h.1 e)
 changes_more level (event.Comp u l ∷ events) t changed h e = absurd h
@@ -45,7 +46,8 @@ no_change c d a w same first k = record {
   level = same ∙ k.level;
 }
 
-pub capture_ends : (c : Capture) (a b : Option (List ℕ)) (end : ℕ) → ((first : Option (List ℕ)) (events : List Event) → HasWritten c.writer first a events → IsTrace first b events end) → Ends c a b
+pub capture_ends : (c : Capture) (a b : Option (List ℕ)) (end : ℕ)
+    → ((first : Option (List ℕ)) (events : List Event) → HasWritten c.writer first a events → IsTrace first b events end) → Ends c a b
 capture_ends c a b end w first k = record { events = k.events; end = end; accepted = w first k.events k.written; changes = k.changes }
 
 pub other_level : (a b : Bool) → beq a b ≡ false → a ≡ not b

@@ -1,5 +1,5 @@
 //! A capture, row by row.
-ghost use Rattle.std.specs.Prelude.{◌≡◌, ◌≤◌, ◌+◌, ◌∷◌, [], ℕ, List, Option, OnOk};
+ghost use Rattle.std.specs.Prelude.{◌≡◌, false, ℕ, List, Option, OnOk};
 ghost use Rattle.am32csv.specs.Captured.{Keeps, GoesOn, Ends};
 
 use crate::expected::Expected;
@@ -86,7 +86,9 @@ impl Capture {
 
     /// Takes a row's time and level.
     pub fn row<K: Sink>(&mut self, stamp: i64, level: bool, out: &mut K) -> Result<(), Fault>
-        ensures { OnOk result (GoesOn self.old (K.given out.old) self.new (K.given out.new)) }
+        ensures goes_on { OnOk result (GoesOn self.old (K.given out.old) self.new (K.given out.new)) }
+        ensures level { self.old.layout.drops_replies ≡ false → OnOk result (self.new.written ≡ level) }
+        ensures layout { self.new.layout ≡ self.old.layout }
     {
         let t = self.tick(stamp)?;
         if t > LAST_TICK {
@@ -108,7 +110,9 @@ impl Capture {
 
     /// Writes a level, where the trace doesn't have it already.
     fn write<K: Sink>(&mut self, t: Tick, level: bool, out: &mut K) -> Result<(), Fault>
-        ensures { OnOk result (GoesOn self.old (K.given out.old) self.new (K.given out.new)) }
+        ensures goes_on { OnOk result (GoesOn self.old (K.given out.old) self.new (K.given out.new)) }
+        ensures level { OnOk result (self.new.written ≡ level) }
+        ensures layout { self.new.layout ≡ self.old.layout }
     {
         if level == self.written {
             return Ok(());

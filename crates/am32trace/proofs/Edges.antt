@@ -32,7 +32,8 @@ length-left bit inverted wide s (suc k) word = let l = length-left bit inverted 
 pub is_sent : (m : Mode) (s word : ℕ) (frame : Frame) → verdict_of m (sent m s word) ≡ Good frame
     → IsSent m s frame (take 32 (drop 0 (edges_left (numbers m).bit (numbers m).inverted None s 16 word)))
 is_sent m s word frame heard =
-    let all = take_all 32 (edges_left (numbers m).bit (numbers m).inverted None s 16 word) (let l = length-left (numbers m).bit (numbers m).inverted None s 16 word in omega arith) in
+    let len = length-left (numbers m).bit (numbers m).inverted None s 16 word in
+    let all = take_all 32 (edges_left (numbers m).bit (numbers m).inverted None s 16 word) (omega arith) in
     let exact = all ∙ left_exact (numbers m).bit (numbers m).inverted s 16 word in
     record { word = word; exact = exact; heard = ap (verdict_of m) exact ∙ heard }
 
@@ -60,14 +61,17 @@ module _ (bit : ℕ) (inverted : Bool) (wide : Option ℕ) (s word : ℕ) where
 
   -- the edge that ends its active part
   pub ends_active : (left edges : ℕ) → 0 < left → 0 < edges
-      → slice_get (take edges (drop 1 (edges_left bit inverted wide s left word))) 0 ≡ Some (record { t = record { 0 = s + width_of bit wide (left - 1) word }; level = inverted })
+      → slice_get (take edges (drop 1 (edges_left bit inverted wide s left word))) 0
+      ≡ Some (record { t = record { 0 = s + width_of bit wide (left - 1) word }; level = inverted })
   unfolding edges_left
   ends_active zero edges lt some = absurd (omega arith)
   ends_active (suc k) zero lt some = absurd (omega arith)
   ends_active (suc k) (suc n) lt some = let same : suc k - 1 ≡ k = omega arith in rw same refl
 
   -- behind the whole bit
-  pub behind_bit : (left edges : ℕ) → 0 < left → take (edges - 1) (drop 0 (edges_left bit inverted wide (s + bit) (left - 1) word)) ≡ drop 1 (take edges (drop 1 (edges_left bit inverted wide s left word)))
+  pub behind_bit : (left edges : ℕ) → 0 < left
+      → take (edges - 1) (drop 0 (edges_left bit inverted wide (s + bit) (left - 1) word))
+      ≡ drop 1 (take edges (drop 1 (edges_left bit inverted wide s left word)))
   unfolding edges_left
   behind_bit zero edges lt = absurd (omega arith)
   behind_bit (suc k) zero lt = refl

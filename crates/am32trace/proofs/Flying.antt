@@ -30,7 +30,8 @@ unfolding edges_in
 no_edges = refl
 
 -- some events more, of which the edges are those that were to come, and of transmissions that have begun
-join : (old more now left : List Edge) (log begun : List Transmission) → old ++ left ≡ all_edges log → more ++ now ≡ left ++ all_edges begun → (old ++ more) ++ now ≡ all_edges (log ++ begun)
+join : (old more now left : List Edge) (log begun : List Transmission) → old ++ left ≡ all_edges log → more ++ now ≡ left ++ all_edges begun
+    → (old ++ more) ++ now ≡ all_edges (log ++ begun)
 join old more now left log begun e f =
     append_assoc old more now
     ∙ ap (λ (l : List Edge). old ++ l) f
@@ -39,23 +40,31 @@ join old more now left log begun e f =
     ∙ sym (flat_map-append edges_of log begun)
 
 -- an event was written
-pub writes_one : (f g : Flight) (a b : Option (List ℕ)) (e : Event) → Writes f.writer a e g.writer b → Begins (pending f.signal) (edges_in (e ∷ []) ++ pending g.signal) → GoesOn f a g b
+pub writes_one : (f g : Flight) (a b : Option (List ℕ)) (e : Event) → Writes f.writer a e g.writer b
+    → Begins (pending f.signal) (edges_in (e ∷ []) ++ pending g.signal) → GoesOn f a g b
 writes_one f g a b e w s first k = record {
   events = k.events ++ e ∷ [];
   log = k.log ++ s.begun;
   written = w first k.events k.written;
-  edges = ap (λ (l : List Edge). l ++ pending g.signal) (edges_both k.events (e ∷ [])) ∙ join (edges_in k.events) (edges_in (e ∷ [])) (pending g.signal) (pending f.signal) k.log s.begun k.edges s.edges;
+  edges =
+      ap (λ (l : List Edge). l ++ pending g.signal) (edges_both k.events (e ∷ []))
+      ∙ join (edges_in k.events) (edges_in (e ∷ [])) (pending g.signal) (pending f.signal) k.log s.begun k.edges s.edges;
   heard = All-append IsHeard k.log s.begun k.heard s.heard;
 }
 
 -- an edge of the signal line was written
-pub writes_edge : (f g : Flight) (a b : Option (List ℕ)) (e : Edge) → Writes f.writer a (event.Edge e.t e.level) g.writer b → Adds e (pending f.signal) (pending g.signal) → GoesOn f a g b
-writes_edge f g a b e w s = writes_one f g a b (event.Edge e.t e.level) w (subst (λ (xs : List Edge). Begins (pending f.signal) (xs ++ pending g.signal)) (sym (edge_alone e)) s)
+pub writes_edge : (f g : Flight) (a b : Option (List ℕ)) (e : Edge) → Writes f.writer a (event.Edge e.t e.level) g.writer b
+    → Adds e (pending f.signal) (pending g.signal) → GoesOn f a g b
+writes_edge f g a b e w s =
+    writes_one f g a b (event.Edge e.t e.level) w
+    (subst (λ (xs : List Edge). Begins (pending f.signal) (xs ++ pending g.signal)) (sym (edge_alone e)) s)
 
 -- another event was written
-pub writes_other : (f g : Flight) (a b : Option (List ℕ)) (e : Event) → edges_in (e ∷ []) ≡ [] → Writes f.writer a e g.writer b → pending g.signal ≡ pending f.signal → GoesOn f a g b
+pub writes_other : (f g : Flight) (a b : Option (List ℕ)) (e : Event) → edges_in (e ∷ []) ≡ [] → Writes f.writer a e g.writer b
+    → pending g.signal ≡ pending f.signal → GoesOn f a g b
 writes_other f g a b e none w same =
-    writes_one f g a b e w (nothing_begun (pending f.signal) (edges_in (e ∷ []) ++ pending g.signal) (ap (λ (xs : List Edge). xs ++ pending g.signal) none ∙ same))
+    writes_one f g a b e w
+    (nothing_begun (pending f.signal) (edges_in (e ∷ []) ++ pending g.signal) (ap (λ (xs : List Edge). xs ++ pending g.signal) none ∙ same))
 
 pub no_edge_comp : (t : Tick) (level : Bool) → edges_in (event.Comp t level ∷ []) ≡ []
 unfolding edges_in
@@ -98,7 +107,8 @@ nothing_yet f given w quiet = record {
   heard = All-nil IsHeard;
 }
 
-pub flight_ends : (f : Flight) (a b : Option (List ℕ)) (end : ℕ) → ((first : Option (List ℕ)) (events : List Event) → HasWritten f.writer first a events → IsTrace first b events end) → Ends f a b
+pub flight_ends : (f : Flight) (a b : Option (List ℕ)) (end : ℕ)
+    → ((first : Option (List ℕ)) (events : List Event) → HasWritten f.writer first a events → IsTrace first b events end) → Ends f a b
 flight_ends f a b end w first k = record {
   events = k.events;
   end = end;

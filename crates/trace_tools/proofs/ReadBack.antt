@@ -58,7 +58,8 @@ module _ (p : Place) (t : Tick) (low : p.time.0 ≤ t.0) (high : t.0 ≤ 1073741
   not_late : number (decimal t.0) ≤ 1073741824
   not_late = subst (λ (n : ℕ). n ≤ 1073741824) (sym time_is) high
 
-  says : (name value : List ℕ) (k : LineKind) (v : Event) → kind_of name ≡ Some k → is_end_kind (Some k) ≡ false → event_of k t value ≡ Some v → too_close p (Some v) ≡ false
+  says : (name value : List ℕ) (k : LineKind) (v : Event) → kind_of name ≡ Some k → is_end_kind (Some k) ≡ false → event_of k t value ≡ Some v
+      → too_close p (Some v) ≡ false
       → said_in p (decimal t.0 ∷ name ∷ value ∷ []) ≡ Ok (entry.Event v)
   says name value k v is not_end e c =
       good p (decimal t.0) (decimal_back t.0 (omega arith)) not_back not_late name k is not_end t time_is value v e c
@@ -72,7 +73,8 @@ says_event p (event.Edge t level) f b =
 says_event p (event.Comp t level) f b =
     says p t f.in_time.0 f.in_time.1 (codes "C") (decimal (level_number level)) kind.Comp (event.Comp t level) refl refl (rw (level_back level) refl) refl
 says_event p (event.Serial t byte) f b =
-    says p t f.in_time.0 f.in_time.1 (codes "S") (hex byte) kind.Serial (event.Serial t byte) refl refl (rw (byte_back byte b) refl) (far_enough p.serial t byte f.spaced)
+    says p t f.in_time.0 f.in_time.1 (codes "S") (hex byte) kind.Serial (event.Serial t byte) refl refl (rw (byte_back byte b) refl)
+    (far_enough p.serial t byte f.spaced)
 says_event p (event.Stall t n) f b =
     says p t f.in_time.0 f.in_time.1 (codes "J") (decimal n) kind.Stall (event.Stall t n) refl refl
     (rw (number_back 1 16777216 n f.stall.0 f.stall.1 (omega (arith, f.stall.1))) refl) refl

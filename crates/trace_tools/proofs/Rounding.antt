@@ -23,17 +23,20 @@ split_power : (m k : ℕ) → k ≤ m → 10 ^ m ≡ 10 ^ (m - k) * 10 ^ k
 split_power m k le = ap (λ (n : ℕ). 10 ^ n) (omega arith) ∙ pow-add 10 (m - k) k
 
 -- more units than one in a microsecond's power
-pub nearest_below : (units decimals power t : ℕ) → decimals ≤ power → t ≡ units * 10 ^ (power - decimals) * 48 → IsNearest t (48 * units * 10 ^ power) (10 ^ decimals)
+pub nearest_below : (units decimals power t : ℕ) → decimals ≤ power → t ≡ units * 10 ^ (power - decimals) * 48
+    → IsNearest t (48 * units * 10 ^ power) (10 ^ decimals)
 nearest_below units decimals power t le e =
     subst (λ (n : ℕ). IsNearest t n (10 ^ decimals))
     (let p = ap (λ (x : ℕ). units * x) (split_power power decimals le) in let q = ap (λ (x : ℕ). x * 10 ^ decimals) e in omega arith)
     (nearest_whole t (10 ^ decimals) (pow_some decimals))
 
 -- parts of one
-pub nearest_above : (units decimals power parts t : ℕ) → power ≤ decimals → parts ≡ 10 ^ (decimals - power) → t ≡ (96 * units + parts) / (2 * parts) → IsNearest t (48 * units * 10 ^ power) (10 ^ decimals)
+pub nearest_above : (units decimals power parts t : ℕ) → power ≤ decimals → parts ≡ 10 ^ (decimals - power) → t ≡ (96 * units + parts) / (2 * parts)
+    → IsNearest t (48 * units * 10 ^ power) (10 ^ decimals)
 nearest_above units decimals power parts t le p e =
     let some : 1 ≤ parts = subst (λ (n : ℕ). 1 ≤ n) (sym p) (pow_some (decimals - power)) in
     subst (λ (d : ℕ). IsNearest t (48 * units * 10 ^ power) d)
     (ap (λ (n : ℕ). n * 10 ^ power) p ∙ sym (split_power decimals power le))
     (nearest_scaled t (48 * units) parts (10 ^ power) (pow_some power)
-    (subst (λ (x : ℕ). IsNearest x (48 * units) parts) (sym (e ∙ ap (λ (n : ℕ). (n + parts) / (2 * parts)) (omega arith))) (nearest_div (48 * units) parts some)))
+    (subst (λ (x : ℕ). IsNearest x (48 * units) parts) (sym (e ∙ ap (λ (n : ℕ). (n + parts) / (2 * parts)) (omega arith)))
+    (nearest_div (48 * units) parts some)))

@@ -97,7 +97,8 @@ impl Writer {
 
     /// Writes an event's line, or answers why not; then the writer is as before.
     pub fn put<K: Sink>(&mut self, event: &Event, out: &mut K) -> Result<(), Unwritten>
-        ensures ok { OnOk result ((first : Option (List ℕ)) (events : List AnEvent) → HasWritten self.old first (K.given out.old) events → HasWritten self.new first (K.given out.new) (events ++ event.now ∷ [])) }
+        ensures ok { OnOk result ((first : Option (List ℕ)) (events : List AnEvent) → HasWritten self.old first (K.given out.old) events
+            → HasWritten self.new first (K.given out.new) (events ++ event.now ∷ [])) }
         ensures line { OnOk result (self.new.place.line ≡ self.old.place.line + 1) }
         ensures same { OnErr result (self.new ≡ self.old) }
     {
@@ -115,7 +116,8 @@ impl Writer {
 
     /// Writes the END line, or answers why not.
     pub fn end<K: Sink>(&self, t: Tick, out: &mut K) -> Result<(), Unwritten>
-        ensures ok { OnOk result ((first : Option (List ℕ)) (events : List AnEvent) → HasWritten self.now first (K.given out.old) events → IsTrace first (K.given out.new) events t.0) }
+        ensures ok { OnOk result ((first : Option (List ℕ)) (events : List AnEvent) → HasWritten self.now first (K.given out.old) events
+            → IsTrace first (K.given out.new) events t.0) }
     {
         if t.0 < self.place.time.0 {
             return Err(Unwritten::TimeBack);

@@ -8,4 +8,5 @@ pub put_other-requires-in-Stall : goal.put_other-requires-in-Stall
 put_other-requires-in-Stall g c = no_edge_stall c.args.t c.in-Stall.n
 
 pub returns-in-Ok : goal.returns-in-Ok
-returns-in-Ok g c = λ first k. sets_only c.reach.new.self c.set.new.self (g.K.Sink.given c.reach.new.out) c.in-Ok.ensures first (c.in_ok-reach.ensures.goes_on first k)
+returns-in-Ok g c = λ first k.
+    sets_only c.reach.new.self c.set.new.self (g.K.Sink.given c.reach.new.out) c.in-Ok.ensures first (c.in_ok-reach.ensures.goes_on first k)

@@ -10,7 +10,8 @@ returns-in-None c = no_message c.args.self.now.mode c.args.self.now.repeated c.a
 pub returns-in-Frame : goal.returns-in-Frame
 returns-in-Frame c =
     let e = edge_is c.args.self.now.mode c.args.self.now.repeated c.in-Some.repeated c.args.edge c.in-Some.is c.requires.next in
-    frame_first c.args.edge (rest_of c.frame_at.result) (left_of c.after_edge.result) (c.frame_at.ensures.begins ∙ ap (λ x. Some x) e) c.frame_at.ensures.sent c.after_edge.ensures
+    frame_first c.args.edge (rest_of c.frame_at.result) (left_of c.after_edge.result)
+    (c.frame_at.ensures.begins ∙ ap (λ x. Some x) e) c.frame_at.ensures.sent c.after_edge.ensures
 
 pub returns-in-Pulse : goal.returns-in-Pulse
 returns-in-Pulse c = pulse_begun c.args.edge _
