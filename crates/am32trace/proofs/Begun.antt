@@ -2,12 +2,14 @@
 use Rattle.std.proofs.Common.{◌≡◌, ℕ, true, false, List, [], ◌∷◌, ◌++◌, drop, Option, Some, None, refl, sym, ◌∙◌, ap, subst, append-nil}
 use Rattle.std.specs.Prelude.{slice_get}
 use Rattle.std.proofs.lemmas.List.Elements.{All-nil, All-cons}
+use Rattle.esc_base.specs.declared.tick.Tick.{Tick}
 use Rattle.esc_base.specs.declared.signal.Edge.{Edge}
 use Rattle.esc_base.specs.declared.signal.Frame.{Frame}
 use Rattle.esc_base.specs.declared.signal.Mode.{Mode}
 use Rattle.dshot_frame.specs.Sent.{HasFrames}
 use Rattle.am32trace.specs.declared.signal_line.Repeated.{Repeated}
-use Rattle.am32trace.specs.Frames.{IsSent, first_edge}
+use Rattle.am32trace.specs.declared.frame_out.Spoil.{Spoil}
+use Rattle.am32trace.specs.Frames.{IsSent, IsSpoilt, first_edge}
 use Rattle.am32trace.specs.Line.{Transmission, Sent, Spoiled, Pulse, Noise, edges_of, IsHeard, Begins, Adds, next_message}
 
 pub first_and_rest : (e : Edge) (xs : List Edge) → slice_get xs 0 ≡ Some e → e ∷ drop 1 xs ≡ xs
@@ -33,8 +35,8 @@ pub frame_begun : (m : Mode) (s : ℕ) (frame : Frame) (edges : List Edge) → (
 frame_begun m s frame edges h = one_begun (Sent m s frame edges) edges h refl
 
 -- one with something wrong
-pub spoiled_begun : (edges : List Edge) → Begins [] edges
-spoiled_begun edges = one_begun (Spoiled edges) edges tt refl
+pub spoiled_begun : (m : Mode) (s : ℕ) (frame : Frame) (spoil : Spoil) (edges : List Edge) → (HasFrames m → IsSpoilt m s frame spoil edges) → Begins [] edges
+spoiled_begun m s frame spoil edges h = one_begun (Spoiled m s frame spoil edges) edges h refl
 
 -- the first edge of a frame was sent
 pub frame_first : (e : Edge) (frame left : List Edge) → slice_get frame 0 ≡ Some e → Begins [] frame → left ≡ drop 1 frame → Adds e [] left
@@ -46,8 +48,8 @@ pub frame_next : (e : Edge) (frame left : List Edge) → slice_get frame 0 ≡ S
 frame_next e frame left first rest = nothing_begun frame (e ∷ left) (ap (λ (xs : List Edge). e ∷ xs) rest ∙ first_and_rest e frame first)
 
 -- a pulse has risen
-pub pulse_begun : (e : Edge) (left : List Edge) → Adds e [] left
-pulse_begun e left = one_begun (Pulse (e ∷ left)) (e ∷ left) tt refl
+pub pulse_begun : (e : Edge) (t : Tick) → Adds e [] (record { t = t; level = false } ∷ [])
+pulse_begun e t = one_begun (Pulse e t) (e ∷ record { t = t; level = false } ∷ []) tt refl
 
 -- an edge of noise
 pub noise_edge : (e : Edge) (left : List Edge) → left ≡ [] → Adds e [] left

@@ -1,5 +1,5 @@
 -- The edges of a frame on its way.
-use Rattle.std.specs.Prelude.{◌≡◌, ℕ, zero, suc, ◌+◌, ◌-◌, ◌/◌, ◌%◌, ◌^◌, Bool, true, false, not, ◌==◌, if◌then◌else◌, List, [], ◌∷◌, take, drop, Option, Some, None}
+use Rattle.std.specs.Prelude.{◌≡◌, ℕ, zero, suc, ◌+◌, ◌-◌, ◌/◌, ◌%◌, ◌^◌, Bool, true, false, not, ◌==◌, if◌then◌else◌, List, [], ◌∷◌, take, drop, bit_xor, Option, Some, None}
 use Rattle.esc_base.specs.declared.tick.Tick.{Tick}
 use Rattle.esc_base.specs.declared.signal.Edge.{Edge}
 use Rattle.esc_base.specs.declared.signal.Frame.{Frame}
@@ -9,6 +9,7 @@ use Rattle.edge_capture.specs.Modes.{numbers}
 use Rattle.dshot_frame.specs.Sent.{active_width, sent}
 use Rattle.dshot_frame.specs.Verdict.{verdict_of}
 use Rattle.am32trace.specs.declared.frame_out.FrameOut.{FrameOut}
+use Rattle.am32trace.specs.declared.frame_out.Spoil.{Spoil}
 
 -- the pulse of the bit behind which k bits stand is to be too wide
 abbrev pub is_wide : Option ℕ → ℕ → Bool
@@ -38,6 +39,13 @@ pub record IsSent (m : Mode) (s : ℕ) (frame : Frame) (edges : List Edge) : Typ
   pub word : ℕ
   pub exact : edges ≡ sent m s word
   pub heard : verdict_of m edges ≡ Good frame
+
+-- These are the edges of a frame that begins at s, but for what is wrong with it: flipped bits of its word, one pulse too wide, and
+-- an end after some edges.
+pub record IsSpoilt (m : Mode) (s : ℕ) (frame : Frame) (spoil : Spoil) (edges : List Edge) : Type 0 where
+  pub word : ℕ
+  pub of_frame : verdict_of m (sent m s word) ≡ Good frame
+  pub but_for : edges ≡ take spoil.edges (edges_left (numbers m).bit (numbers m).inverted spoil.wide s 16 (bit_xor word spoil.flipped))
 
 -- the edge that begins a message
 abbrev pub first_edge : Mode → Tick → Edge

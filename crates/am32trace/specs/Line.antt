@@ -5,21 +5,21 @@ use Rattle.esc_base.specs.declared.signal.Edge.{Edge}
 use Rattle.esc_base.specs.declared.signal.Frame.{Frame}
 use Rattle.esc_base.specs.declared.signal.Mode.{Mode}
 use Rattle.dshot_frame.specs.Sent.{HasFrames}
+use Rattle.am32trace.specs.declared.frame_out.Spoil.{Spoil}
 use Rattle.am32trace.specs.declared.signal_line.SignalLine.{SignalLine}
 use Rattle.am32trace.specs.declared.signal_line.Sending.{Sending}
 use Rattle.am32trace.specs.declared.signal_line.Sending.TheVariants as sending
 use Rattle.am32trace.specs.declared.signal_line.Repeated.{Repeated}
-use Rattle.am32trace.specs.Frames.{rest_of, IsSent}
-use Rattle.am32trace.specs.Frames.{first_edge}
+use Rattle.am32trace.specs.Frames.{rest_of, first_edge, IsSent, IsSpoilt}
 
 -- ---- what was sent: some edges at a time, in the order of their times
 pub data Transmission : Type 0 where
   -- a frame as it should be, which began at this tick
   Sent : Mode → ℕ → Frame → List Edge → Transmission
   -- a frame with something wrong
-  Spoiled : List Edge → Transmission
-  -- a servo pulse
-  Pulse : List Edge → Transmission
+  Spoiled : Mode → ℕ → Frame → Spoil → List Edge → Transmission
+  -- a servo pulse: its first edge, and the tick at which it falls
+  Pulse : Edge → Tick → Transmission
   -- one edge of noise
   Noise : Edge → Transmission
   -- a level that the script asks for
@@ -27,16 +27,17 @@ pub data Transmission : Type 0 where
 
 abbrev pub edges_of : Transmission → List Edge
 edges_of (Sent m s frame edges) = edges
-edges_of (Spoiled edges) = edges
-edges_of (Pulse edges) = edges
+edges_of (Spoiled m s frame spoil edges) = edges
+edges_of (Pulse e t) = e ∷ record { t = t; level = false } ∷ []
 edges_of (Noise e) = e ∷ []
 edges_of (Level e) = e ∷ []
 
--- a frame as it should be has the exact edges of its word, and its receiver hears that frame
+-- a frame as it should be has the exact edges of its word, and its receiver hears that frame; a spoilt one has those edges but for
+-- what is wrong
 abbrev pub IsHeard : Transmission → Type 0
 IsHeard (Sent m s frame edges) = HasFrames m → IsSent m s frame edges
-IsHeard (Spoiled edges) = Unit {0}
-IsHeard (Pulse edges) = Unit {0}
+IsHeard (Spoiled m s frame spoil edges) = HasFrames m → IsSpoilt m s frame spoil edges
+IsHeard (Pulse e t) = Unit {0}
 IsHeard (Noise e) = Unit {0}
 IsHeard (Level e) = Unit {0}
 

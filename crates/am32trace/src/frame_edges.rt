@@ -22,7 +22,7 @@ fn active_width(bit: u32, is_one: bool) -> u32
 }
 
 impl FrameOut {
-    ghost use Rattle.am32trace.specs.Frames.{rest_of, IsSent, first_edge};
+    ghost use Rattle.am32trace.specs.Frames.{rest_of, first_edge, IsSent, IsSpoilt};
 
     /// A frame as it should be, from `start` on.
     pub fn whole(mode: Mode, start: Tick, payload: Payload) -> FrameOut
@@ -44,7 +44,8 @@ impl FrameOut {
     /// A frame with something wrong, from `start` on.
     pub fn spoiled(mode: Mode, start: Tick, payload: Payload, spoil: Spoil) -> FrameOut
         requires { start.0 ≤ 1073741824 }
-        ensures { slice_get (rest_of result) 0 ≡ Some (first_edge mode start) }
+        ensures spoilt { HasFrames mode → IsSpoilt mode start.0 payload.frame spoil (rest_of result) }
+        ensures begins { slice_get (rest_of result) 0 ≡ Some (first_edge mode start) }
     {
         let word = encode(payload.frame, mode_numbers(mode).inverted);
         FrameOut {
