@@ -1,5 +1,5 @@
 -- The edges of a frame, from the front on.
-use Rattle.std.proofs.Common.{◌≡◌, ◌≤◌, ◌<◌, ℕ, zero, suc, ◌+◌, ◌-◌, ◌*◌, ◌/◌, ◌%◌, ◌^◌, Bool, true, false, not, ◌==◌, if◌then◌else◌, List, [], ◌∷◌, length, take, drop, Option, Some, None, refl, sym, ◌∙◌, ap, subst, arith}
+use Rattle.std.proofs.Common.{◌≡◌, ◌<◌, ℕ, zero, suc, ◌+◌, ◌-◌, ◌*◌, ◌/◌, ◌%◌, ◌^◌, Bool, true, false, not, ◌==◌, if◌then◌else◌, List, [], ◌∷◌, length, take, drop, Option, Some, None, refl, ◌∙◌, ap, arith}
 use Rattle.std.specs.Prelude.{slice_get}
 use Rattle.std.proofs.lemmas.List.{take_all}
 use Rattle.esc_base.specs.declared.signal.Edge.{Edge}
@@ -10,7 +10,7 @@ use Rattle.edge_capture.specs.Modes.{numbers}
 use Rattle.dshot_frame.specs.Bits.{low_bits}
 use Rattle.dshot_frame.specs.Sent.{active_width, edges_from, sent}
 use Rattle.dshot_frame.specs.Verdict.{verdict_of}
-use Rattle.am32trace.specs.Frames.{is_wide, width_of, edges_left, IsSent}
+use Rattle.am32trace.specs.Frames.{width_of, edges_left, IsSent}
 
 -- with no pulse too wide they are those that the frame's sender makes
 pub left_exact : (bit : ℕ) (inverted : Bool) (s k word : ℕ) → edges_left bit inverted None s k word ≡ edges_from bit inverted s (low_bits k word)

@@ -1,5 +1,5 @@
 -- A flight goes on, event by event.
-use Rattle.std.proofs.Common.{◌≡◌, ℕ, Bool, List, [], ◌∷◌, ◌++◌, Option, Some, None, refl, sym, ◌∙◌, ap, subst, append_assoc, append-nil}
+use Rattle.std.proofs.Common.{◌≡◌, ℕ, Bool, List, [], ◌∷◌, ◌++◌, Option, refl, sym, ◌∙◌, ap, subst, append_assoc, append-nil}
 use Rattle.std.proofs.lemmas.List.Elements.{All-nil, All-append}
 use Rattle.std.proofs.lemmas.Grind.{flat_map-append}
 use Rattle.esc_base.specs.declared.tick.Tick.{Tick}
@@ -10,7 +10,7 @@ use Rattle.trace_tools.specs.declared.writer.Writer.{Writer}
 use Rattle.trace_tools.specs.Written.{HasWritten, IsTrace}
 use Rattle.am32trace.specs.declared.flight.Flight.{Flight}
 use Rattle.am32trace.specs.Line.{Transmission, Level, edges_of, IsHeard, all_edges, pending, Begins, Adds}
-use Rattle.am32trace.specs.Flown.{edges_in, IsFlight, Keeps, GoesOn, Ends, Writes, Sets}
+use Rattle.am32trace.specs.Flown.{edges_in, Keeps, GoesOn, Ends, Writes, Sets}
 use Rattle.am32trace.proofs.Begun.{one_begun, nothing_begun}
 
 edges_both : (xs ys : List Event) → edges_in (xs ++ ys) ≡ edges_in xs ++ edges_in ys

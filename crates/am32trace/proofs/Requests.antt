@@ -1,5 +1,5 @@
 -- A request's bytes are read as that request.
-use Rattle.std.proofs.Common.{◌≡◌, ◌≤◌, ◌<◌, ℕ, ◌+◌, ◌-◌, ◌*◌, ◌/◌, ◌%◌, ◌^◌, Bool, true, false, ◌==◌, if◌then◌else◌, List, [], ◌∷◌, ◌++◌, length, length-append, take, drop, refl, sym, ◌∙◌, ap, subst, arith}
+use Rattle.std.proofs.Common.{◌≡◌, ◌≤◌, ◌<◌, ℕ, ◌+◌, ◌-◌, ◌%◌, Bool, true, ◌==◌, List, [], ◌∷◌, ◌++◌, length, length-append, take, drop, refl, sym, ◌∙◌, ap, arith}
 use Rattle.std.proofs.Math.Seq.{take-append_seam}
 use Rattle.std.proofs.lemmas.Bool.{eq-eqb, le-leb}
 use Rattle.std.proofs.lemmas.Bool.Decides.{nat_tests}
@@ -7,8 +7,8 @@ use Rattle.byteorder.specs.Endian.{big_bytes, big_number}
 use Rattle.fourway_packet.specs.declared.packet.Packet.TheVariants.{Whole}
 use Rattle.fourway_packet.specs.Command.{count_of}
 use Rattle.fourway_packet.specs.Crc.{crc_of}
-use Rattle.fourway_packet.specs.Cut.{covered_of, len_of, is_complete, packet_by, packet_of}
-use Rattle.am32trace.specs.Request.{head_of, body_of, request_of, IsRequest}
+use Rattle.fourway_packet.specs.Cut.{covered_of, len_of, packet_by, packet_of}
+use Rattle.am32trace.specs.Request.{body_of, request_of, IsRequest}
 
 count_back : (n : ℕ) → 1 ≤ n → n ≤ 256 → count_of (n % 256) ≡ n
 count_back n some most = grind (arith, nat_tests)

@@ -1,5 +1,5 @@
 -- The edges of a frame on its way.
-use Rattle.std.specs.Prelude.{◌≡◌, ℕ, zero, suc, ◌+◌, ◌-◌, ◌/◌, ◌%◌, ◌^◌, Bool, true, false, not, ◌==◌, if◌then◌else◌, List, [], ◌∷◌, take, drop, bit_xor, Option, Some, None}
+use Rattle.std.specs.Prelude.{◌≡◌, ℕ, zero, suc, ◌+◌, ◌-◌, ◌/◌, ◌%◌, ◌^◌, Bool, false, not, ◌==◌, if◌then◌else◌, List, [], ◌∷◌, take, drop, bit_xor, Option, Some, None}
 use Rattle.esc_base.specs.declared.tick.Tick.{Tick}
 use Rattle.esc_base.specs.declared.signal.Edge.{Edge}
 use Rattle.esc_base.specs.declared.signal.Frame.{Frame}

@@ -1,5 +1,5 @@
 -- Powers of ten.
-use Rattle.std.proofs.Common.{◌≡◌, ◌≤◌, ◌<◌, ℕ, ◌+◌, ◌*◌, ◌^◌, arith}
+use Rattle.std.proofs.Common.{◌≤◌, ℕ, ◌^◌, arith}
 use Rattle.std.proofs.Math.Nat.{pow-le-pow_right, one-le-pow}
 
 pub pow_some : (n : ℕ) → 1 ≤ 10 ^ n

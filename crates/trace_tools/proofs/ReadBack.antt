@@ -1,10 +1,9 @@
 -- The line of an event, and the END line, are read back.
 use Rattle.std.proofs.Common.{◌≡◌, ◌≤◌, ◌<◌, ℕ, ◌+◌, ◌^◌, ◌==◌, Bool, true, false, List, [], ◌∷◌, ◌++◌, length, length-append, codes, Option, Some, None, Ok, refl, sym, ◌∙◌, ap, subst, arith, append_assoc, append-nil}
-use Rattle.std.specs.List.{All}
 use Rattle.std.specs.Fmt.{decimal}
 use Rattle.std.proofs.lemmas.Bool.{le-ltb, cases_lt}
 use Rattle.std.proofs.lemmas.Fmt.{decimal_digit, decimal_is_IsNumeral, length-decimal-le}
-use Rattle.std.proofs.lemmas.List.Elements.{All-nil, All-cons, All-append, All-head, All-tail, All-weaker}
+use Rattle.std.proofs.lemmas.List.Elements.{All-cons, All-append, All-head, All-tail, All-weaker}
 use Rattle.std.proofs.lemmas.Bool.Decides.{nat_tests}
 use Rattle.esc_base.specs.declared.tick.Tick.{Tick}
 use Rattle.esc_base.specs.declared.event.Event.{Event}
@@ -14,10 +13,10 @@ use Rattle.trace_text.specs.declared.item.Place.{Place}
 use Rattle.trace_text.specs.declared.parse.LineKind.{LineKind}
 use Rattle.trace_text.specs.declared.parse.LineKind.TheVariants as kind
 use Rattle.trace_text.specs.declared.parse.Entry.TheVariants as entry
-use Rattle.trace_text.specs.Line.{fields, is_decimal, number, level_of, event_of, kind_of, is_end_kind, said, said_in, soon_after, too_close, after_event}
+use Rattle.trace_text.specs.Line.{is_decimal, number, level_of, event_of, kind_of, is_end_kind, said, said_in, soon_after, too_close, after_event}
 use Rattle.trace_text.specs.Read.{Trace, with_event, read_from}
-use Rattle.trace_text.specs.Ahead.{IsSpaced, StallFits, Follows, InTime, NoLineFeed}
-use Rattle.trace_text.specs.Text.{spaced, line_of, hex, level_number, event_fields, event_bytes}
+use Rattle.trace_text.specs.Ahead.{IsSpaced, Follows, NoLineFeed}
+use Rattle.trace_text.specs.Text.{spaced, hex, level_number, event_fields, event_bytes}
 use Rattle.trace_text.proofs.NoteBack.{IsHigh, AllHigh, NoFeed, all_digits, starts_plainly, number_back, byte_back, fields_spaced, no_feed_spaced, high_decimal, high_letter, high_hex}
 use Rattle.trace_text.proofs.Saying.{said-fields, good, end_line}
 use Rattle.trace_text.proofs.Cut.{read_whole, all_read}

@@ -1,4 +1,4 @@
-use Rattle.std.proofs.Common.{◌≡◌, ◌≤◌, ◌<◌, ◌^◌, ◌++◌, ℕ, List, sym, ◌∙◌, ap, subst, arith}
+use Rattle.std.proofs.Common.{◌≡◌, ◌<◌, ◌^◌, ◌++◌, ℕ, List, sym, ◌∙◌, ap, subst, arith}
 use Rattle.byteorder.specs.Endian.{big_bytes}
 use Rattle.fourway_packet.specs.Crc.{crc_of}
 use Rattle.am32trace.specs.Request.{body_of, request_of, IsRequest}

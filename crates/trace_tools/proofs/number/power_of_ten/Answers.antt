@@ -1,4 +1,4 @@
-use Rattle.std.proofs.Common.{◌≡◌, ◌≤◌, ◌<◌, ◌*◌, ◌^◌, arith, rules}
+use Rattle.std.proofs.Common.{◌≡◌, ◌^◌, arith}
 use Rattle.trace_tools.proofs.Powers.{pow_some, pow_most}
 use Rattle.trace_tools.proofs.number.power_of_ten.Goals as goal
 

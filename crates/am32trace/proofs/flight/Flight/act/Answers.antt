@@ -1,4 +1,4 @@
-use Rattle.am32trace.proofs.Flying.{no_edge_comp, no_edge_stall, sets_only, goes_on_both}
+use Rattle.am32trace.proofs.Flying.{no_edge_comp, no_edge_stall, sets_only}
 use Rattle.am32trace.proofs.flight.Flight.act.Goals as goal
 
 pub put_other-requires : goal.put_other-requires

@@ -1,4 +1,4 @@
-use Rattle.std.proofs.Common.{◌≡◌, ap}
+use Rattle.std.proofs.Common.{ap}
 use Rattle.am32trace.specs.Line.{pending}
 use Rattle.am32trace.proofs.Flying.{writes_other}
 use Rattle.am32trace.proofs.flight.Flight.put_other.Goals as goal

@@ -1,4 +1,4 @@
-use Rattle.std.proofs.Common.{◌≡◌, ◌∙◌, ap, subst, sym}
+use Rattle.std.proofs.Common.{◌∙◌, ap, subst}
 use Rattle.esc_base.specs.declared.event.Event.{Event}
 use Rattle.am32trace.specs.declared.signal_line.SignalLine.{SignalLine}
 use Rattle.am32trace.specs.Line.{pending, Adds}

@@ -1,4 +1,4 @@
-use Rattle.std.proofs.Common.{◌≡◌, ◌<◌, ℕ, ◌+◌, ◌-◌, true, false, drop, refl, sym, ◌∙◌, ap, arith}
+use Rattle.std.proofs.Common.{◌≡◌, ◌-◌, true, drop, refl, sym, ◌∙◌, ap, arith}
 use Rattle.edge_capture.specs.Modes.{numbers}
 use Rattle.am32trace.proofs.Edges.{not_false, none_left, behind_bit}
 use Rattle.am32trace.proofs.frame_out.FrameOut.after.Goals as goal

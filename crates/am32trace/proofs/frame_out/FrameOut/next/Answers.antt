@@ -1,5 +1,4 @@
-use Rattle.std.proofs.Common.{◌≡◌, ◌<◌, ℕ, ◌+◌, ◌-◌, true, false, refl, sym, ◌∙◌, ap, arith, Some, None}
-use Rattle.std.specs.Prelude.{slice_get, take}
+use Rattle.std.proofs.Common.{◌≡◌, ◌-◌, true, false, refl, sym, ◌∙◌, arith}
 use Rattle.edge_capture.specs.Modes.{numbers}
 use Rattle.am32trace.specs.Frames.{width_of}
 use Rattle.am32trace.proofs.Edges.{none_left, begins_bit, ends_active}

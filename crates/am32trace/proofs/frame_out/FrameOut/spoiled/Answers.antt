@@ -1,4 +1,4 @@
-use Rattle.std.proofs.Common.{◌≡◌, ◌≤◌, ◌<◌, refl, sym, arith}
+use Rattle.std.proofs.Common.{refl, sym, arith}
 use Rattle.edge_capture.specs.Modes.{numbers}
 use Rattle.am32trace.proofs.Edges.{begins_bit}
 use Rattle.am32trace.proofs.frame_out.FrameOut.spoiled.Goals as goal

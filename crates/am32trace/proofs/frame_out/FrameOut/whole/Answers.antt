@@ -1,4 +1,4 @@
-use Rattle.std.proofs.Common.{◌≡◌, refl, sym, ◌∙◌, ap, arith}
+use Rattle.std.proofs.Common.{refl, sym, arith}
 use Rattle.edge_capture.specs.Modes.{numbers}
 use Rattle.am32trace.proofs.Edges.{is_sent, begins_bit}
 use Rattle.am32trace.proofs.frame_out.FrameOut.whole.Goals as goal

@@ -1,6 +1,6 @@
-use Rattle.std.proofs.Common.{◌≡◌, ◌∙◌, ap, Some, None, []}
-use Rattle.am32trace.specs.Line.{left_of, Adds}
-use Rattle.am32trace.specs.Frames.{rest_of, first_edge}
+use Rattle.std.proofs.Common.{◌∙◌, ap, Some}
+use Rattle.am32trace.specs.Line.{left_of}
+use Rattle.am32trace.specs.Frames.{rest_of}
 use Rattle.am32trace.proofs.Begun.{edge_is, no_message, frame_first, pulse_begun}
 use Rattle.am32trace.proofs.signal_line.SignalLine.begin.Goals as goal
 

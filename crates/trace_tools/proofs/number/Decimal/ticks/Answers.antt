@@ -1,4 +1,4 @@
-use Rattle.std.proofs.Common.{◌≡◌, ◌*◌, ◌+◌, ◌-◌, ◌^◌, ◌∙◌, ap, refl, arith}
+use Rattle.std.proofs.Common.{◌≡◌, ◌*◌, ◌∙◌, ap, refl, arith}
 use Rattle.trace_tools.proofs.Rounding.{nearest_below, nearest_above}
 use Rattle.trace_tools.proofs.number.Decimal.ticks.Goals as goal
 

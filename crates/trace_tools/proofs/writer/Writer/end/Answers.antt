@@ -1,5 +1,4 @@
-use Rattle.std.proofs.Common.{◌≡◌, ◌≤◌, ◌<◌, ◌∙◌, ap, refl, arith, rules}
-use Rattle.std.specs.Io.KnownBytes.{append_known}
+use Rattle.std.proofs.Common.{arith}
 use Rattle.trace_tools.proofs.Steps.{written_end}
 use Rattle.trace_tools.proofs.writer.Writer.end.Goals as goal
 
