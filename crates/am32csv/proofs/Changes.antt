@@ -1,12 +1,12 @@
 -- The changes of the line that were written, one by one.
-use Rattle.std.proofs.Common.{◌≡◌, ℕ, Bool, true, false, not, List, [], ◌∷◌, ◌++◌, Option, Some, None, refl, sym, ◌∙◌, ap, subst}
+use Rattle.std.proofs.Common.{◌≡◌, ℕ, Bool, true, false, not, List, [], ◌∷◌, ◌++◌, Option, refl, sym, ◌∙◌, ap, subst}
 use mathlib.Core.Bool.{beq}
 use Rattle.esc_base.specs.declared.tick.Tick.{Tick}
 use Rattle.esc_base.specs.declared.event.Event.{Event}
 use Rattle.esc_base.specs.declared.event.Event.TheVariants as event
 use Rattle.trace_tools.specs.Written.{HasWritten, IsTrace}
 use Rattle.am32csv.specs.declared.capture.Capture.{Capture}
-use Rattle.am32csv.specs.Captured.{AreChanges, level_behind, IsCapture, Keeps, GoesOn, Ends}
+use Rattle.am32csv.specs.Captured.{AreChanges, level_behind, Keeps, GoesOn, Ends}
 
 changes_more : (level : Bool) (events : List Event) (t : Tick) (changed : Bool) → AreChanges level events → changed ≡ not (level_behind level events)
     → AreChanges level (events ++ event.Edge t changed ∷ [])

@@ -1,5 +1,5 @@
 -- A rounded quotient.
-use Rattle.std.proofs.Common.{◌≡◌, ◌≤◌, ℕ, ◌+◌, ◌*◌, ◌/◌, sym, ◌∙◌, ap, subst, arith}
+use Rattle.std.proofs.Common.{◌≡◌, ◌≤◌, ℕ, ◌+◌, ◌*◌, ◌/◌, sym, ◌∙◌, subst, arith}
 use Rattle.trace_tools.specs.Nearest.{IsNearest}
 use Rattle.trace_tools.proofs.Rounding.{nearest_div}
 

@@ -1,4 +1,4 @@
-use Rattle.std.proofs.Common.{◌≡◌, ◌≤◌, ◌+◌, ◌*◌, ◌∙◌, ap, arith}
+use Rattle.std.proofs.Common.{◌+◌, ◌*◌, ◌∙◌, ap}
 use Rattle.am32csv.proofs.Ticks.{rounded}
 use Rattle.am32csv.proofs.clock.nearest.Goals as goal
 

@@ -1,5 +1,3 @@
-use Rattle.std.proofs.Common.{◌≡◌, subst, sym}
-use Rattle.am32csv.specs.Captured.{Keeps}
 use Rattle.am32csv.proofs.run.csv_main.Goals as goal
 use Rattle.am32csv.proofs.run.csv_main.Goals.{in-Ok+in-Ok-row, in-Err-row_of+else-rows-gt1}
 

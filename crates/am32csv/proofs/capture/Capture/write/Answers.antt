@@ -1,4 +1,4 @@
-use Rattle.std.proofs.Common.{◌≡◌, Bool, not, refl}
+use Rattle.std.proofs.Common.{◌≡◌, not, refl}
 use Rattle.am32csv.proofs.Changes.{one_change, other_level}
 use Rattle.am32csv.proofs.capture.Capture.write.Goals as goal
 
