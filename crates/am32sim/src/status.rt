@@ -2,8 +2,12 @@ ghost use Rattle.std.specs.Prelude.{◌≡◌, ◌≤◌, length};
 ghost use Rattle.am32sim.specs.Status.{status_bytes, refusal_name, exit_number};
 ghost use Rattle.am32sim.specs.declared.status.Status.TheVariants.{Refused as IsRefused};
 
+use arrayvec::ArrayString;
 use itoa::Buffer;
-use trace_text::{Line, Refusal};
+use trace_text::Refusal;
+
+/// The line on standard error.
+type Line = ArrayString<64>;
 
 /// How a command ended.
 #[derive(Clone, Copy, Debug, PartialEq, Eq, Drop)]

@@ -1,10 +1,11 @@
 ghost use Rattle.std.specs.Prelude.{◌≡◌, ◌<◌, ◌≤◌, ◌+◌, ◌^◌, ◌++◌, ◌&&◌, ◌==◌, not, ℕ, Bool, List, [], ◌∷◌, length, true, false};
 ghost use Rattle.std.specs.List.{All};
 ghost use Rattle.esc_base.specs.declared.signal.Edge.{Edge};
+ghost use Rattle.esc_base.specs.Times.{is_reached};
 ghost use Rattle.edge_capture.specs.Edges.{last_at, Rising};
 ghost use Rattle.edge_capture.specs.Burst.{close_of, is_closed, comes_early, wait};
 ghost use Rattle.edge_capture.specs.Modes.{limit, may_be_high as is_high};
-ghost use Rattle.edge_capture.specs.Window.{Window, unarmed, opened_in, window_hears, after_edge, window_closed, idle_at, IsHanded};
+ghost use Rattle.edge_capture.specs.Window.{Window, unarmed, opened_in, window_hears, after_edge, window_closed, idle_at, number_of, IsHanded};
 ghost use Rattle.edge_capture.specs.Heard.{heard_of};
 
 use crate::{Burst, mode_numbers};
@@ -163,6 +164,13 @@ impl Capture {
         self.closes
     }
 
+    /// The tick from which on the window is closed, if it hears no further edge. None where it isn't armed or has no edge.
+    pub fn closes_at(&self) -> Option<Tick>
+        ensures { (t : ℕ) → window_closed self.now t ≡ is_reached (number_of result) t }
+    {
+        if self.armed { self.closes } else { None }
+    }
+
     /// Whether the window is closed at this tick: it has heard the last edge allowed, or the idle limit
     /// has passed since the last heard edge.
     pub fn closed(&self, t: Tick) -> bool
@@ -170,6 +178,13 @@ impl Capture {
         ensures settled { (handed : List Edge) (e : Edge) → IsHanded self.now handed → result ≡ true → t.0 ≤ e.t.0 → IsHanded self.now (handed ++ e ∷ []) }
     {
         self.armed && self.is_over(t)
+    }
+
+    /// The mode in which the window opened.
+    pub fn mode(&self) -> Mode
+        ensures { result ≡ self.now.mode }
+    {
+        self.mode
     }
 
     /// The edges that the window has heard.

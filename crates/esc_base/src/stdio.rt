@@ -2,7 +2,6 @@ ghost use Rattle.std.specs.Prelude.{◌≡◌, ◌≤◌, ◌<◌, ◌^◌, ℕ,
 ghost use Rattle.esc_base.specs.Outside.{Rose};
 
 use crate::{Failed, Sink, Source, raised};
-use arrayvec::ArrayVec;
 use std::io::{Input, Read, Write};
 
 /// Bytes that a sink of the system holds back until they fill a write.
@@ -47,8 +46,11 @@ impl<R: Read + Drop> Source for InSource<R> {
 #[derive(Drop)]
 pub struct OutSink<W: Write + Drop> {
     writer: W,
-    held: ArrayVec<u8, HELD>,
+    buffer: [u8; HELD],
+    /// How many bytes of the buffer are held back.
+    len: usize,
     faults: u64,
+    ghost fits: { len ≤ 16384 },
     ghost counted: { faults < 2 ^ 64 },
 }
 
@@ -57,7 +59,8 @@ impl<W: Write + Drop> OutSink<W> {
     pub fn new(writer: W) -> OutSink<W> {
         OutSink {
             writer,
-            held: ArrayVec::new(),
+            buffer: [0; HELD],
+            len: 0,
             faults: 0,
         }
     }
@@ -67,8 +70,35 @@ impl<W: Write + Drop> OutSink<W> {
         ensures no_fewer { self.old.faults ≤ self.new.faults }
         ensures failed { OnErr result (Rose self.old.faults self.new.faults) }
     {
-        let answer = self.writer.write_all(self.held.as_slice());
-        self.held.clear();
+        let answer = self.writer.write_all(&self.buffer[..self.len]);
+        self.len = 0;
+        self.judged(answer.is_ok())
+    }
+
+    /// Holds bytes back, if there is room for them.
+    fn hold(&mut self, bytes: &[u8]) -> bool
+        ensures { self.new.faults ≡ self.old.faults }
+    {
+        if HELD - self.len < bytes.len() {
+            return false;
+        }
+        let end = self.len + bytes.len();
+        self.buffer[self.len..end].copy_from_slice(bytes);
+        self.len = end;
+        true
+    }
+
+    /// Makes room for bytes and holds them back, or writes them where they are more than it holds.
+    #[inline(never)]
+    fn put_anew(&mut self, bytes: &[u8]) -> Result<(), Failed>
+        ensures no_fewer { self.old.faults ≤ self.new.faults }
+        ensures failed { OnErr result (Rose self.old.faults self.new.faults) }
+    {
+        self.flush()?;
+        if self.hold(bytes) {
+            return Ok(());
+        }
+        let answer = self.writer.write_all(bytes);
         self.judged(answer.is_ok())
     }
 
@@ -94,14 +124,9 @@ impl<W: Write + Drop> Sink for OutSink<W> {
     ghost broke = { λ _ _ _. Unit {0} };
 
     fn put(&mut self, bytes: &[u8]) -> Result<(), Failed> {
-        if self.held.try_extend_from_slice(bytes).is_ok() {
+        if self.hold(bytes) {
             return Ok(());
         }
-        self.flush()?;
-        if self.held.try_extend_from_slice(bytes).is_ok() {
-            return Ok(());
-        }
-        let answer = self.writer.write_all(bytes);
-        self.judged(answer.is_ok())
+        self.put_anew(bytes)
     }
 }

@@ -2,9 +2,8 @@ ghost use Rattle.std.specs.Prelude.{◌≡◌, true};
 ghost use Rattle.interrupt_machine.specs.Turn.{IsHeld};
 
 use crate::Core;
-use arrayvec::ArrayVec;
 use esc_base::{FlashOp, MemFlash, Note, Tick};
-use interrupt_machine::{Machine, Nest};
+use interrupt_machine::{Machine, Nest, Notes};
 use settings_block::{Settings, default_block, read_block, write_block};
 use std::process::Abort;
 use std::test::Fail;
@@ -21,7 +20,7 @@ pub(crate) fn follow(
     requires { regs.old.masked ≡ true → IsHeld machine.old.firmware.hold machine.old.open_kinds }
     ensures mask { regs.new.masked ≡ true → IsHeld machine.new.firmware.hold machine.new.open_kinds }
 {
-    let mut notes = ArrayVec::new();
+    let mut notes = Notes::new();
     for row in rows {
         assert!(rt; !machine.idle(regs));
         assert!(rt; regs.accesses() < 1000);

@@ -295,7 +295,17 @@ above_none One k = All-nil (λ j. (kind_number j ≡ 0) × (0 < k))
 
 said_at : (loaded : Loaded) (nest : Nest) (t u : ℕ) (rest : List Note) → t ≤ u → Said loaded nest two_edges t rest → Said loaded nest two_edges u rest
 said_at loaded nest t u rest le s =
-    record { in_time = s.in_time; windowed = s.windowed; dead_safe = s.dead_safe; driven = s.driven; commutated = s.commutated; nested = s.nested; waits = s.waits; past = λ k d l. (let a = s.past k d l in omega arith) }
+    record {
+      in_time = s.in_time;
+      windowed = s.windowed;
+      dead_safe = s.dead_safe;
+      driven = s.driven;
+      commutated = s.commutated;
+      nested = s.nested;
+      waits =
+          s.waits;
+      past = λ k d l. (let a = s.past k d l in omega arith);
+    }
 
 sees_nothing : (allowed : InputKind) (servo : Servo) (t : ℕ)
     → nothing t ≡ verdict_note t (judged (mode_of 0) (burst (line two_edges).edges 0 (mode_of 0)) allowed servo)
@@ -306,7 +316,14 @@ sees_nothing input.Servo servo t = refl
 
 answers : (loaded : Loaded) → Answers loaded two_edges 0 0 4200 4202 (nothing 4202)
 unfolding line burst
-answers loaded = record { closed_at = 4200; closes = refl; waits = omega arith; entered_before = omega arith; verdict_is = sees_nothing loaded.settings.input (servo_of loaded.settings) 4202 }
+answers loaded = record {
+  closed_at = 4200;
+  closes = refl;
+  waits = omega arith;
+  entered_before = omega arith;
+  verdict_is =
+      sees_nothing loaded.settings.input (servo_of loaded.settings) 4202;
+}
 
 rules_1 : (loaded : Loaded) (nest : Nest)
     → WindowRule loaded two_edges (opening loaded ++ ([])) (enters 2400 2) × NestRule nest (opening loaded ++ ([])) (enters 2400 2)
@@ -345,15 +362,40 @@ rules_6 loaded nest = (λ e. refl, (refl, inl refl))
 
 one_said : (loaded : Loaded) (nest : Nest) → Said loaded nest two_edges 2400 (enters 2400 2 ∷ [])
 one_said loaded nest =
-    said_push loaded nest two_edges 2400 [] (enters 2400 2) (start_said loaded nest two_edges 2400) refl (record { window = (rules_1 loaded nest).0; safe = tt; driven = tt; turns = tt; nesting = (rules_1 loaded nest).1; waits = tt })
+    said_push loaded nest two_edges 2400 [] (enters 2400 2) (start_said loaded nest two_edges 2400) refl (record {
+      window = (rules_1 loaded nest).0;
+      safe =
+          tt;
+      driven = tt;
+      turns = tt;
+      nesting = (rules_1 loaded nest).1;
+      waits = tt;
+    })
 
 all_said : (loaded : Loaded) (nest : Nest) → Said loaded nest two_edges 4202 tick_and_verdict
 all_said loaded nest =
     let s2 = said_push loaded nest two_edges 2402 (enters 2400 2 ∷ []) (ticks 2402 1 0 0)
-    (said_at loaded nest 2400 2402 (enters 2400 2 ∷ []) (omega arith) (one_said loaded nest)) refl (record { window = (rules_2 loaded nest).0; safe = tt; driven = tt; turns = tt; nesting = (rules_2 loaded nest).1; waits = tt }) in
-    let s3 = said_push loaded nest two_edges 2402 (enters 2400 2 ∷ ticks 2402 1 0 0 ∷ []) (leaves 2402 2) s2 refl (record { window = (rules_3 loaded nest).0; safe = tt; driven = λ e d. (refl, refl); turns = tt; nesting = (rules_3 loaded nest).1; waits = tt }) in
+    (said_at loaded nest 2400 2402 (enters 2400 2 ∷ []) (omega arith) (one_said loaded nest)) refl (record {
+      window = (rules_2 loaded nest).0;
+      safe =
+          tt;
+      driven = tt;
+      turns = tt;
+      nesting = (rules_2 loaded nest).1;
+      waits = tt;
+    }) in
+    let s3 = said_push loaded nest two_edges 2402 (enters 2400 2 ∷ ticks 2402 1 0 0 ∷ []) (leaves 2402 2) s2 refl
+    (record { window = (rules_3 loaded nest).0; safe = tt; driven = λ e d. (refl, refl); turns = tt; nesting = (rules_3 loaded nest).1; waits = tt }) in
     let s4 = said_push loaded nest two_edges 4200 (enters 2400 2 ∷ ticks 2402 1 0 0 ∷ leaves 2402 2 ∷ []) (enters 4200 3)
-    (said_at loaded nest 2402 4200 (enters 2400 2 ∷ ticks 2402 1 0 0 ∷ leaves 2402 2 ∷ []) (omega arith) s3) refl (record { window = (rules_4 loaded nest).0; safe = tt; driven = tt; turns = tt; nesting = (rules_4 loaded nest).1; waits = tt }) in
+    (said_at loaded nest 2402 4200 (enters 2400 2 ∷ ticks 2402 1 0 0 ∷ leaves 2402 2 ∷ []) (omega arith) s3) refl (record {
+      window =
+          (rules_4 loaded nest).0;
+      safe = tt;
+      driven = tt;
+      turns = tt;
+      nesting = (rules_4 loaded nest).1;
+      waits = tt;
+    }) in
     let s5 = said_push loaded nest two_edges 4202 (enters 2400 2 ∷ ticks 2402 1 0 0 ∷ leaves 2402 2 ∷ enters 4200 3 ∷ []) (nothing 4202)
     (said_at loaded nest 4200 4202 (enters 2400 2 ∷ ticks 2402 1 0 0 ∷ leaves 2402 2 ∷ enters 4200 3 ∷ []) (omega arith) s4) refl
     (record { window = (rules_5 loaded nest).0; safe = tt; driven = tt; turns = tt; nesting = (rules_5 loaded nest).1; waits = tt }) in

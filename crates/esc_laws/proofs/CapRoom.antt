@@ -105,7 +105,19 @@ open_window : (x : World) (outer : List Kind) (s : Signal) → Ground x → (so_
     → StepKeeps kind.Cap outer x (opens x.core x.bank)
 open_window x outer s g e may none done on = record {
   gates = quiet_gates kind.Cap x _ (λ e. cc) refl refl refl;
-  fits = λ told. (record { at = refl; owned = refl; window = (rw e may, g.control.ties.mode_is); nest = inside (so_far x).stack kind.Cap outer on; driven = tt; turns = tt; waits = tt }, tt);
+  fits = λ told. (
+    record {
+      at = refl;
+      owned = refl;
+      window = (rw e may, g.control.ties.mode_is);
+      nest = inside (so_far x).stack kind.Cap outer on;
+      driven =
+          tt;
+      turns = tt;
+      waits = tt;
+    },
+    tt,
+  );
   ground = ground_noted x (note.Window (as_tick x.bank.time) (mode_number x.core.control.mode)) refl refl tt refl g;
   tie = λ told. (
     opens_tied x.trace x.core x.bank (so_far x) g.edges.0 none done,
@@ -180,7 +192,19 @@ good : (o : Option Act) (x : World) (outer : List Kind) (frame : Frame) (w m : �
     })
 good None x outer frame w m g sound k answers on shut named st = record {
   gates = quiet_gates kind.Cap x _ (λ e. cc) refl refl refl;
-  fits = λ told. (record { at = refl; owned = refl; window = answers; nest = inside (so_far x).stack kind.Cap outer on; driven = tt; turns = tt; waits = tt }, tt);
+  fits = λ told. (
+    record {
+      at = refl;
+      owned = refl;
+      window = answers;
+      nest = inside (so_far x).stack kind.Cap outer on;
+      driven = tt;
+      turns = tt;
+      waits =
+          tt;
+    },
+    tt,
+  );
   ground = record {
     control = st;
     orders = orders_other x.loaded x.core.orders (note.Good (as_tick x.bank.time) frame.value (bit_of frame.telemetry)) x.back refl g.orders;
@@ -198,7 +222,19 @@ good (Some act) x outer frame w m g sound k answers on shut named st =
     let here = inside (so_far x).stack kind.Cap outer on in
     record {
       gates = quiet_gates kind.Cap x _ (λ e. cc) refl refl refl;
-      fits = λ told. (record { at = refl; owned = refl; window = answers; nest = here; driven = tt; turns = tt; waits = tt }, (record { at = refl; owned = refl; window = tt; nest = here; driven = tt; turns = tt; waits = tt }, tt));
+      fits = λ told. (
+        record {
+          at = refl;
+          owned = refl;
+          window = answers;
+          nest = here;
+          driven = tt;
+          turns = tt;
+          waits =
+              tt;
+        },
+        (record { at = refl; owned = refl; window = tt; nest = here; driven = tt; turns = tt; waits = tt }, tt),
+      );
       ground = record {
         control = st;
         orders = obeyed_tied x.loaded x.core.orders act (as_tick x.bank.time) (n ∷ x.back) (named act refl)
@@ -220,7 +256,8 @@ good (Some act) x outer frame w m g sound k answers on shut named st =
 
 judges : (j : Judgement) (x : World) (outer : List Kind) (w m : ℕ) → Ground x → WindowSound x.bank.window x.bank.time
     → IsClosing (cap_seen x) w m
-    → AnswersAt x.loaded x.trace (so_far x).signal (so_far x).cap_entered x.bank.time (verdict_note x.bank.time j) → (so_far x).stack ≡ kind.Cap ∷ outer → x.core.comm_at ≡ comm.Shut
+    → AnswersAt x.loaded x.trace (so_far x).signal (so_far x).cap_entered x.bank.time (verdict_note x.bank.time j) → (so_far x).stack ≡ kind.Cap ∷ outer
+    → x.core.comm_at ≡ comm.Shut
     → StepKeeps kind.Cap outer x (judge_step j x.core x.bank)
 judges (Good frame) x outer w m g sound k answers on shut =
     good (act_in x.core frame) x outer frame w m g sound k answers on shut
@@ -228,7 +265,19 @@ judges (Good frame) x outer w m g sound k answers on shut =
     (frame_stands x.core.control x.back (as_tick x.bank.time) frame.value (bit_of frame.telemetry) g.control)
 judges (Bad why) x outer w m g sound k answers on shut = record {
   gates = quiet_gates kind.Cap x _ (λ e. cc) refl refl refl;
-  fits = λ told. (record { at = refl; owned = refl; window = answers; nest = inside (so_far x).stack kind.Cap outer on; driven = tt; turns = tt; waits = tt }, tt);
+  fits = λ told. (
+    record {
+      at = refl;
+      owned = refl;
+      window = answers;
+      nest = inside (so_far x).stack kind.Cap outer on;
+      driven = tt;
+      turns = tt;
+      waits =
+          tt;
+    },
+    tt,
+  );
   ground = ground_noted x (note.Bad (as_tick x.bank.time) (why_number why)) refl refl tt refl g;
   tie = λ told. (
     (record { verdict = ap (λ (n : ℕ). n + 1) k.no_verdict; taken = k.taken; running = k.hears.running; no_timer = k.hears.no_timer }, (refl, refl)),
@@ -240,7 +289,19 @@ judges (Bad why) x outer w m g sound k answers on shut = record {
 }
 judges (Found mode) x outer w m g sound k answers on shut = record {
   gates = quiet_gates kind.Cap x _ (λ e. cc) refl refl refl;
-  fits = λ told. (record { at = refl; owned = refl; window = answers; nest = inside (so_far x).stack kind.Cap outer on; driven = tt; turns = tt; waits = tt }, tt);
+  fits = λ told. (
+    record {
+      at = refl;
+      owned = refl;
+      window = answers;
+      nest = inside (so_far x).stack kind.Cap outer on;
+      driven = tt;
+      turns = tt;
+      waits =
+          tt;
+    },
+    tt,
+  );
   ground = record {
     control = found_stands x.core.control x.back (as_tick x.bank.time) mode g.control;
     orders = orders_other x.loaded x.core.orders (note.Detected (as_tick x.bank.time) (mode_number mode)) x.back refl g.orders;
@@ -249,13 +310,38 @@ judges (Found mode) x outer w m g sound k answers on shut = record {
     rested = g.rested;
     small = g.small;
   };
-  tie = λ told. ((record { verdict = ap (λ (n : ℕ). n + 1) k.no_verdict; taken = k.taken; running = k.hears.running; no_timer = k.hears.no_timer }, refl), sound, tt);
+  tie = λ told. (
+    (
+      record {
+        verdict = ap (λ (n : ℕ). n + 1) k.no_verdict;
+        taken = k.taken;
+        running = k.hears.running;
+        no_timer =
+            k.hears.no_timer;
+      },
+      refl,
+    ),
+    sound,
+    tt,
+  );
   others = elim [ kind.Cap ↦ λ ne t. absurd (ne refl) | j ↦ λ ne t. t ];
   stack_is = on;
 }
 judges Nothing x outer w m g sound k answers on shut = record {
   gates = quiet_gates kind.Cap x _ (λ e. cc) refl refl refl;
-  fits = λ told. (record { at = refl; owned = refl; window = answers; nest = inside (so_far x).stack kind.Cap outer on; driven = tt; turns = tt; waits = tt }, tt);
+  fits = λ told. (
+    record {
+      at = refl;
+      owned = refl;
+      window = answers;
+      nest = inside (so_far x).stack kind.Cap outer on;
+      driven = tt;
+      turns = tt;
+      waits =
+          tt;
+    },
+    tt,
+  );
   ground = ground_noted x (note.Nothing (as_tick x.bank.time)) refl refl tt refl g;
   tie = λ told. (
     (record { verdict = ap (λ (n : ℕ). n + 1) k.no_verdict; taken = k.taken; running = k.hears.running; no_timer = k.hears.no_timer }, (refl, refl)),
@@ -357,7 +443,14 @@ edge : (v : Bool) (w : World) (level : Bool) → differ w.bank.level level ≡ v
     → CapTie (record w {
       trace = w.trace ++ event.Edge
           (as_tick w.bank.time) level ∷ [];
-      bank = record w.bank { level = (if v then edge_bank w.bank level else w.bank).level; window = (if v then edge_bank w.bank level else w.bank).window; timer = (if v then edge_bank w.bank level else w.bank).timer; changed = (if v then edge_bank w.bank level else w.bank).changed };
+      bank = record w.bank {
+        level = (if v then edge_bank w.bank level else w.bank).level;
+        window =
+            (if v then edge_bank w.bank level else w.bank).window;
+        timer = (if v then edge_bank w.bank level else w.bank).timer;
+        changed =
+            (if v then edge_bank w.bank level else w.bank).changed;
+      };
     })
 edge true w level d g t = (
   signal_follows (so_far w).signal w.core.cap_at (cap_seen w)
@@ -379,7 +472,13 @@ outside w (event.Edge at level) is g t =
     (record w {
       trace = w.trace ++ event.Edge
           (as_tick n) level ∷ [];
-      bank = record w.bank { level = (after_line w.bank level).level; window = (after_line w.bank level).window; timer = (after_line w.bank level).timer; changed = (after_line w.bank level).changed };
+      bank = record w.bank {
+        level = (after_line w.bank level).level;
+        window = (after_line w.bank level).window;
+        timer =
+            (after_line w.bank level).timer;
+        changed = (after_line w.bank level).changed;
+      };
     }))
     (sym is)
     (edge (differ w.bank.level level) w level refl g t)
@@ -389,7 +488,8 @@ outside w (event.Stall at n) is g t = plain w (event.Stall at n) (line-push w.tr
 
 pub cap_law : HandlerLaw kind.Cap
 cap_law = record {
-  called = λ w g t told unheld none s. cap_called w.core.orders.save_asked (so_far w).signal w.trace w.core w.bank (so_far w) w.made.cap_past (shut_tie w (t kind.Cap) none)
+  called = λ w g t told unheld none s. cap_called w.core.orders.save_asked (so_far w).signal w.trace w.core w.bank (so_far w) w.made.cap_past
+      (shut_tie w (t kind.Cap) none)
       (shut_timer w (t kind.Cap) none) s;
   asked = λ w g t unheld due. (tt, tt);
   entered = λ w g t unheld none due past. (
@@ -400,7 +500,8 @@ cap_law = record {
   );
   beside = λ w g t unheld none due past. elim [ kind.Cap ↦ λ ne. absurd (ne refl) | j ↦ λ ne. t j ];
   steps = λ w answers outer g t above alone past on left.
-      steps (so_far w).signal w.core.cap_at w outer g (t kind.Cap).1 refl (t kind.Cap).0 (t kind.Cap).2 past.cap on (comm_shut w.core.comm_at w.core.drive.turn.at (above kind.Comm (omega arith))) left;
+      steps (so_far w).signal w.core.cap_at w outer g (t kind.Cap).1 refl (t kind.Cap).0 (t kind.Cap).2 past.cap on
+      (comm_shut w.core.comm_at w.core.drive.turn.at (above kind.Comm (omega arith))) left;
   later = λ w u from small g t. later w u from (t kind.Cap);
   outside = λ w e at g t. outside w e at g (t kind.Cap);
 }

@@ -23,12 +23,10 @@ use Rattle.dshot_commands.specs.declared.act.Act.{Act}
 use Rattle.arming.specs.Kept.{after_frame}
 use Rattle.esc_core.specs.declared.state.CapAt.{CapAt}
 use Rattle.esc_core.specs.declared.state.CapAt.TheVariants as cap
-use Rattle.input_detect.specs.declared.window.Judgement.{Judgement}
-use Rattle.input_detect.specs.declared.window.Judgement.TheVariants.{Good, Bad, Found, Nothing}
 use Rattle.esc_core.specs.Brain.{Brain}
 use Rattle.esc_core.specs.Orders.{obeyed_if}
 use Rattle.esc_core.specs.Stepped.{Stepped, goes_on}
-use Rattle.esc_core.specs.Cap.{act_in, after_edges, after_copy, command_note, edge_of, judge_step, next_edge, opens, takes}
+use Rattle.esc_core.specs.Cap.{after_edges, after_copy, command_note, edge_of, next_edge, opens, takes}
 use Rattle.esc_laws.specs.Place.{Signal, Silent, Listens, Judged, Rests, Place, next, rested}
 use Rattle.esc_laws.specs.Windowed.{MayReturn}
 use Rattle.esc_laws.specs.Tied.{CapView, cap_view, Hears, IsClosing, IsCopying, IsListening, IsJudged, IsPaused, SignalTied, TimerTied, WindowSound}
@@ -111,7 +109,16 @@ start_tied trace c b p w m e few i =
     (begin_copied (cap_view trace (record c { burst = []; cap_at = cap.Copy (length b.window.edges) }) (accessed b (Reads reg.CapState)) p) w m
     (length b.window.edges)
     (record {
-      hears = record { armed = i.hears.armed; mode = i.hears.mode; opened = i.hears.opened; edges = i.hears.edges; core_mode = i.hears.core_mode; running = i.hears.running; no_timer = i.hears.no_timer };
+      hears = record {
+        armed = i.hears.armed;
+        mode = i.hears.mode;
+        opened = i.hears.opened;
+        edges = i.hears.edges;
+        core_mode = i.hears.core_mode;
+        running =
+            i.hears.running;
+        no_timer = i.hears.no_timer;
+      };
       closed_at = i.closed_at;
       closes = i.closes;
       waits = i.waits;
@@ -207,7 +214,16 @@ copy_tied trace c b p w m rest e sound small i =
     (cap_view trace (record c { burst = c.burst ++ next_edge c b ∷ []; cap_at = after_copy rest })
     (accessed b (Reads (reg.CapEdge (length c.burst)))) p) w m refl
     (record {
-      hears = record { armed = k.hears.armed; mode = k.hears.mode; opened = k.hears.opened; edges = k.hears.edges; core_mode = k.hears.core_mode; running = k.hears.running; no_timer = k.hears.no_timer };
+      hears = record {
+        armed = k.hears.armed;
+        mode = k.hears.mode;
+        opened = k.hears.opened;
+        edges = k.hears.edges;
+        core_mode = k.hears.core_mode;
+        running =
+            k.hears.running;
+        no_timer = k.hears.no_timer;
+      };
       closed_at = k.closed_at;
       closes = k.closes;
       waits = k.waits;
@@ -232,7 +248,6 @@ good_tied None frame trace c b p w m i =
     (record { verdict = ap (λ (n : ℕ). n + 1) i.no_verdict; taken = i.taken; running = i.hears.running; no_timer = i.hears.no_timer }, refl)
 good_tied (Some act) frame trace c b p w m i =
     (record { verdict = ap (λ (n : ℕ). n + 1) i.no_verdict; taken = i.taken; running = i.hears.running; no_timer = i.hears.no_timer }, refl)
-
 
 -- it opens a window
 opened_hears : (trace : List Event) (c : Brain) (b : Bank) (p : Place) (m : Mode) → All (λ e. e.t.0 ≤ b.time) (line trace).edges → b.timer ≡ None
@@ -276,7 +291,19 @@ pub back_tied : (trace : List Event) (c : Brain) (b : Bank) (p : Place) (s : Sig
 back_tied trace c b p Silent t e i = absurd i
 back_tied trace c b p (Listens w m) t e i =
     let k : IsListening (cap_view trace c b p) w m = i.0 in
-    rw e (record { hears = record { armed = k.hears.armed; mode = k.hears.mode; opened = k.hears.opened; edges = k.hears.edges; core_mode = k.hears.core_mode; running = k.hears.running; no_timer = k.hears.no_timer }; untaken = k.untaken })
+    rw e (record {
+      hears = record {
+        armed = k.hears.armed;
+        mode = k.hears.mode;
+        opened = k.hears.opened;
+        edges = k.hears.edges;
+        core_mode =
+            k.hears.core_mode;
+        running = k.hears.running;
+        no_timer = k.hears.no_timer;
+      };
+      untaken = k.untaken;
+    })
 back_tied trace c b p (Judged f opens_next) t e i =
     let k : IsPaused (cap_view trace c b p) = i.0 in
     rw e (record { taken = k.taken; paused = k.paused })

@@ -154,7 +154,8 @@ none_before (Some d) b k t u is le from below = is.none_before k u from (let m =
 
 -- while nothing is due nothing is seen due
 none_seen : (loaded : Loaded) (nest : Nest) (trace : List Event) (c : Brain) (b : Bank) (log : List Turned) (t u : ℕ) (k : Kind)
-    → Keeps c b [] → Ground (world loaded nest trace c b log) → ((j : Kind) → Tie j (world loaded nest trace c b log)) → WordTold c b (reverse (journal loaded log))
+    → Keeps c b [] → Ground (world loaded nest trace c b log) → ((j : Kind) → Tie j (world loaded nest trace c b log))
+    → WordTold c b (reverse (journal loaded log))
     → highest (due_now c.orders.save_asked b) ≡ None → ((j : Kind) (v : ℕ) → b.time < v → v < t → becomes_due b j v ≡ false) → b.time ≤ u → u < t
     → t < 2147483648 → sees trace (journal loaded log) u k ≡ false
 none_seen loaded nest trace c b log t u k keeps g ties told none quiet from below small = by_seen (sees trace (journal loaded log) u k) refl
@@ -172,7 +173,13 @@ none_seen loaded nest trace c b log t u k keeps g ties told none quiet from belo
         let d =
         sees_due loaded nest trace c (advanced b u) [] log (keeps_later c b [] u keeps)
         (later_ground (world loaded nest trace c b log) u from (omega arith) g)
-        (λ j. (law j).later (world loaded nest trace c b log) u from (omega arith) g ties) (record { hi_is = told.hi_is; lo_is = told.lo_is; hi_free = told.hi_free; lo_free = told.lo_free })
+        (λ j. (law j).later (world loaded nest trace c b log) u from (omega arith) g ties) (record {
+          hi_is = told.hi_is;
+          lo_is = told.lo_is;
+          hi_free =
+              told.hi_free;
+          lo_free = told.lo_free;
+        })
         (unheld_idle c b keeps) k (rw e refl) in
         absurd (let z : true ≡ false = sym d ∙ shut_now in cc)
     by_seen false e = e

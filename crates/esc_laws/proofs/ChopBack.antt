@@ -73,7 +73,8 @@ says_notes : (v : View) (before notes : List Note) → Says v (reverse before) �
 says_notes v before [] s = subst (λ (l : List Note). Says v (reverse l)) (sym (append-nil before)) s
 says_notes v before (n ∷ notes) s =
     subst (λ (l : List Note). Says (fold noted (noted v n) notes) (reverse l)) (append_assoc before (n ∷ []) notes)
-    (says_notes (noted v n) (before ++ n ∷ []) notes (subst (λ (l : List Note). Says (noted v n) l) (sym (reverse-push before n)) (says_note v (reverse before) n s)))
+    (says_notes (noted v n) (before ++ n ∷ []) notes (subst (λ (l : List Note). Says (noted v n) l) (sym (reverse-push before n))
+    (says_note v (reverse before) n s)))
 
 pub says_moved : (v : View) (by : By) (t : ℕ) (back : List Note) → Says v back → Says (moved v by t) back
 says_moved v CommEnters t back s = record { hi = s.hi; lo = s.lo; hi_free = s.hi_free; lo_free = s.lo_free; demand = s.demand; sector = s.sector }
@@ -88,18 +89,24 @@ notes-push log e = flat_map-append (λ x. x.notes) log (e ∷ []) ∙ ap (λ (ns
 journal-push : (loaded : Loaded) (log : List Turned) (e : Turned) → journal loaded (log ++ e ∷ []) ≡ journal loaded log ++ e.notes
 journal-push loaded log e = ap (λ (ns : List Note). opening loaded ++ ns) (notes-push log e) ∙ sym (append_assoc (opening loaded) (notes_in log) e.notes)
 
-says_step : (loaded : Loaded) (before : List Turned) (e : Turned) → Says (view before) (reverse (journal loaded before)) → Says (view (before ++ e ∷ [])) (reverse (journal loaded (before ++ e ∷ [])))
+says_step : (loaded : Loaded) (before : List Turned) (e : Turned) → Says (view before) (reverse (journal loaded before))
+    → Says (view (before ++ e ∷ [])) (reverse (journal loaded (before ++ e ∷ [])))
 says_step loaded before e s =
-    let r = says_notes (moved (view before) (by_of e) e.tick) (journal loaded before) e.notes (says_moved (view before) (by_of e) e.tick (reverse (journal loaded before)) s) in
+    let r = says_notes (moved (view before) (by_of e) e.tick) (journal loaded before) e.notes
+    (says_moved (view before) (by_of e) e.tick (reverse (journal loaded before)) s) in
     subst (λ (l : List Note). Says (view (before ++ e ∷ [])) (reverse l)) (sym (journal-push loaded before e))
-    (subst (λ (w : View). Says w (reverse (journal loaded before ++ e.notes))) (sym (view-push before e)) (record { hi = r.hi; lo = r.lo; hi_free = r.hi_free; lo_free = r.lo_free; demand = r.demand; sector = r.sector }))
+    (subst (λ (w : View). Says w (reverse (journal loaded before ++ e.notes))) (sym (view-push before e))
+    (record { hi = r.hi; lo = r.lo; hi_free = r.hi_free; lo_free = r.lo_free; demand = r.demand; sector = r.sector }))
 
-says_from : (loaded : Loaded) (before rest : List Turned) → Says (view before) (reverse (journal loaded before)) → Says (view (before ++ rest)) (reverse (journal loaded (before ++ rest)))
+says_from : (loaded : Loaded) (before rest : List Turned) → Says (view before) (reverse (journal loaded before))
+    → Says (view (before ++ rest)) (reverse (journal loaded (before ++ rest)))
 says_from loaded before [] s = subst (λ (l : List Turned). Says (view l) (reverse (journal loaded l))) (sym (append-nil before)) s
-says_from loaded before (e ∷ rest) s = subst (λ (l : List Turned). Says (view l) (reverse (journal loaded l))) (append_assoc before (e ∷ []) rest) (says_from loaded (before ++ e ∷ []) rest (says_step loaded before e s))
+says_from loaded before (e ∷ rest) s = subst (λ (l : List Turned). Says (view l) (reverse (journal loaded l))) (append_assoc before (e ∷ []) rest)
+    (says_from loaded (before ++ e ∷ []) rest (says_step loaded before e s))
 
 pub says_all : (loaded : Loaded) (log : List Turned) → Says (view log) (reverse (journal loaded log))
-says_all loaded log = says_from loaded [] log (subst (λ (v : View). Says v (reverse (journal loaded []))) (sym view-none) (record { hi = refl; lo = refl; hi_free = none; lo_free = none; demand = refl; sector = refl }))
+says_all loaded log = says_from loaded [] log (subst (λ (v : View). Says v (reverse (journal loaded []))) (sym view-none)
+    (record { hi = refl; lo = refl; hi_free = none; lo_free = none; demand = refl; sector = refl }))
   where
     none : (x : Leg) → at_leg no_legs x ≡ 0
     none leg.A = refl
@@ -124,20 +131,25 @@ upto_out : (t u : ℕ) (notes rest : List Note) → t < u → All (λ n. time_of
 upto_out t u [] rest l a e = e
 upto_out t u (n ∷ notes) rest l a e = let q : time_of n ≡ u = All-head (λ x. time_of x ≡ u) n notes a in rw (le_isnt (time_of n) t (omega arith)) refl
 
-none_above : (cost : ℕ) (trace : List Event) (t : ℕ) (before rest : List Turned) → t < after cost trace before → EachStep (StepFits cost trace) before rest → EachStep NotesFit before rest → upto t (notes_in rest) ≡ []
+none_above : (cost : ℕ) (trace : List Event) (t : ℕ) (before rest : List Turned) → t < after cost trace before → EachStep (StepFits cost trace) before rest
+    → EachStep NotesFit before rest → upto t (notes_in rest) ≡ []
 none_above cost trace t before [] l f g = refl
 none_above cost trace t before (e ∷ rest) l f g =
     let later : after cost trace before ≤ e.tick = f.0.later in
     let more = free_later trace (e.tick + cost) in
-    upto_out t e.tick e.notes (notes_in rest) (omega arith) g.0.at_tick (none_above cost trace t (before ++ e ∷ []) rest (rw (after-push cost trace before e) (omega arith)) f.1 g.1)
+    upto_out t e.tick e.notes (notes_in rest) (omega arith) g.0.at_tick (none_above cost trace t (before
+    ++ e ∷ []) rest (rw (after-push cost trace before e) (omega arith)) f.1 g.1)
 
-made_upto : (cost : ℕ) (trace : List Event) (t : ℕ) (before rest : List Turned) → EachStep (StepFits cost trace) before rest → EachStep NotesFit before rest → upto t (notes_in rest) ≡ notes_in (made t rest)
+made_upto : (cost : ℕ) (trace : List Event) (t : ℕ) (before rest : List Turned) → EachStep (StepFits cost trace) before rest → EachStep NotesFit before rest
+    → upto t (notes_in rest) ≡ notes_in (made t rest)
 made_upto cost trace t before [] f g = refl
 made_upto cost trace t before (e ∷ rest) f g = elim (cases_lt t e.tick) [
   | inl l ↦ rw (le_isnt e.tick t l) (
       let more = free_later trace (e.tick + cost) in
-      upto_out t e.tick e.notes (notes_in rest) l g.0.at_tick (none_above cost trace t (before ++ e ∷ []) rest (rw (after-push cost trace before e) (omega arith)) f.1 g.1))
-  | inr le ↦ rw (le_is e.tick t le) (upto_in t e.tick e.notes (notes_in rest) le g.0.at_tick ∙ ap (λ (l : List Note). e.notes ++ l) (made_upto cost trace t (before ++ e ∷ []) rest f.1 g.1))
+      upto_out t e.tick e.notes (notes_in rest) l g.0.at_tick (none_above cost trace t (before
+      ++ e ∷ []) rest (rw (after-push cost trace before e) (omega arith)) f.1 g.1))
+  | inr le ↦ rw (le_is e.tick t le) (upto_in t e.tick e.notes (notes_in rest) le g.0.at_tick
+      ∙ ap (λ (l : List Note). e.notes ++ l) (made_upto cost trace t (before ++ e ∷ []) rest f.1 g.1))
 ]
 
 -- ---- what disturbs
@@ -148,11 +160,19 @@ NoneWithin p (n ∷ notes) = (p ≤ time_of n → time_of n < p + 2000 → distu
 
 none_of : (p : ℕ) (notes : List Note) → All (λ n. p ≤ time_of n → time_of n < p + 2000 → disturbs n ≡ false) notes → NoneWithin p notes
 none_of p [] a = tt
-none_of p (n ∷ notes) a = (All-head (λ x. p ≤ time_of x → time_of x < p + 2000 → disturbs x ≡ false) n notes a, none_of p notes (All-tail (λ x. p ≤ time_of x → time_of x < p + 2000 → disturbs x ≡ false) n notes a))
+none_of p (n ∷ notes) a = (
+  All-head (λ x. p ≤ time_of x → time_of x < p + 2000 → disturbs x ≡ false) n notes a,
+  none_of p notes
+      (All-tail (λ x. p ≤ time_of x → time_of x < p + 2000 → disturbs x ≡ false) n notes a),
+)
 
 no_stall : (a b : ℕ) (trace : List Event) → NoStallIn a b trace → NoStall a b trace
 no_stall a b [] n = tt
-no_stall a b (e ∷ trace) n = (All-head (λ x. (stall_end x ≤ a) ⊎ (b < tick_of x)) e trace n, no_stall a b trace (All-tail (λ x. (stall_end x ≤ a) ⊎ (b < tick_of x)) e trace n))
+no_stall a b (e ∷ trace) n = (
+  All-head (λ x. (stall_end x ≤ a) ⊎ (b < tick_of x)) e trace n,
+  no_stall a b trace
+      (All-tail (λ x. (stall_end x ≤ a) ⊎ (b < tick_of x)) e trace n),
+)
 
 none_split : (p : ℕ) (xs ys : List Note) → NoneWithin p (xs ++ ys) → NoneWithin p xs × NoneWithin p ys
 none_split p [] ys n = (tt, n)
@@ -160,12 +180,17 @@ none_split p (x ∷ xs) ys n = let r = none_split p xs ys n.1 in ((n.0, r.0), r.
 
 no_q : (p t : ℕ) (notes : List Note) → All (λ n. time_of n ≡ t) notes → NoneWithin p notes → p ≤ t → t < p + 2000 → NoSteps notes
 no_q p t [] a w lo hi = tt
-no_q p t (note.Step u s ∷ notes) a w lo hi = let e : u.0 ≡ t = All-head (λ x. time_of x ≡ t) (note.Step u s) notes a in let z = w.0 (omega arith) (omega arith) in absurd (cc)
+no_q p t (note.Step u s ∷ notes) a w lo hi = let e : u.0 ≡ t = All-head (λ x. time_of x ≡ t) (note.Step u s) notes a in let z =
+    w.0 (omega arith) (omega arith) in absurd (cc)
 no_q p t (n ∷ notes) a w lo hi = no_q p t notes (All-tail (λ x. time_of x ≡ t) n notes a) w.1 lo hi
 
 q_times : (t : ℕ) (notes : List Note) → All (λ n. time_of n ≡ t) notes → AllAt t notes
 q_times t [] a = tt
-q_times t (note.Step u s ∷ notes) a = (All-head (λ x. time_of x ≡ t) (note.Step u s) notes a, q_times t notes (All-tail (λ x. time_of x ≡ t) (note.Step u s) notes a))
+q_times t (note.Step u s ∷ notes) a = (
+  All-head (λ x. time_of x ≡ t) (note.Step u s) notes a,
+  q_times t notes
+      (All-tail (λ x. time_of x ≡ t) (note.Step u s) notes a),
+)
 q_times t (n ∷ notes) a = q_times t notes (All-tail (λ x. time_of x ≡ t) n notes a)
 
 pub times_fit : (before rest : List Turned) → EachStep NotesFit before rest → EachStep TimesFit before rest
@@ -174,7 +199,11 @@ times_fit before (e ∷ rest) g = (q_times e.tick e.notes g.0.at_tick, times_fit
 
 no_steps : (p : ℕ) (before rest : List Turned) → EachStep NotesFit before rest → NoneWithin p (notes_in rest) → EachStep (NoStep p) before rest
 no_steps p before [] g n = tt
-no_steps p before (e ∷ rest) g n = let s = none_split p e.notes (notes_in rest) n in (λ lo hi. no_q p e.tick e.notes g.0.at_tick s.0 lo hi, no_steps p (before ++ e ∷ []) rest g.1 s.1)
+no_steps p before (e ∷ rest) g n = let s = none_split p e.notes (notes_in rest) n in (
+  λ lo hi. no_q p e.tick e.notes g.0.at_tick s.0 lo hi,
+  no_steps p
+      (before ++ e ∷ []) rest g.1 s.1,
+)
 
 comm_enters : (k : Kind) (b l : Bool) → by_kind k b l ≡ CommEnters → (k ≡ kind.Comm) × (b ≡ true)
 comm_enters kind.Comm true l e = (refl, refl)
@@ -193,7 +222,8 @@ no_comm p before (e ∷ rest) g n =
     let s = none_split p e.notes (notes_in rest) n in (
       λ lo hi q.
           let c = comm_enters e.kind e.enters (leaves e.notes) q in
-          let is : e.notes ≡ note.Enter (record { 0 = e.tick }) 6 ∷ [] = g.0.entry c.1 ∙ ap (λ (k : Kind). note.Enter (record { 0 = e.tick }) (kind_number k) ∷ []) c.0 in
+          let is : e.notes ≡ note.Enter (record { 0 = e.tick }) 6 ∷ [] = g.0.entry c.1
+          ∙ ap (λ (k : Kind). note.Enter (record { 0 = e.tick }) (kind_number k) ∷ []) c.0 in
           let w = subst (λ (ns : List Note). NoneWithin p ns) is s.0 in
           (let z = w.0 lo hi in cc),
       no_comm p (before ++ e ∷ []) rest g.1 s.1,
@@ -204,7 +234,8 @@ no_comm p before (e ∷ rest) g n =
 -- the demands of a journal in range
 small_demand : (t : ℕ) (notes back : List Note) → All InRange notes → demand_at back ≤ 1900 → demand_at (reverse (upto t notes) ++ back) ≤ 1900
 small_demand t [] back a b = b
-small_demand t (n ∷ notes) back a b = by_time (nat_le (time_of n) t) (small_demand t notes (n ∷ back) (All-tail InRange n notes a) (one n (All-head InRange n notes a)))
+small_demand t (n ∷ notes) back a b = by_time (nat_le (time_of n) t) (small_demand t notes (n ∷ back) (All-tail InRange n notes a)
+    (one n (All-head InRange n notes a)))
   where
     one : (x : Note) → InRange x → demand_at (x ∷ back) ≤ 1900
     one (note.Control u number marks d) r = r.1.1.1
@@ -212,15 +243,18 @@ small_demand t (n ∷ notes) back a b = by_time (nat_le (time_of n) t) (small_de
 
     by_time : (v : Bool) → demand_at (reverse (upto t notes) ++ n ∷ back) ≤ 1900 → demand_at (reverse (if v then n ∷ upto t notes else []) ++ back) ≤ 1900
     by_time false r = b
-    by_time true r = subst (λ (l : List Note). demand_at l ≤ 1900) (sym (ap (λ (l : List Note). l ++ back) (reverse-append (n ∷ []) (upto t notes)) ∙ append_assoc (reverse (upto t notes)) (n ∷ []) back)) r
+    by_time true r = subst (λ (l : List Note). demand_at l ≤ 1900) (sym
+        (ap (λ (l : List Note). l ++ back) (reverse-append (n ∷ []) (upto t notes)) ∙ append_assoc (reverse (upto t notes)) (n ∷ []) back)) r
 
-module _ (loaded : Loaded) (cost : ℕ) (trace : List Event) (log : List Turned) (until : ℕ) (one : 1 ≤ cost) (few : cost ≤ 16) (legal : Legal cost trace until log) (fit : EachStep NotesFit [] log) (range : All InRange (journal loaded log)) where
+module _ (loaded : Loaded) (cost : ℕ) (trace : List Event) (log : List Turned) (until : ℕ) (one : 1 ≤ cost) (few : cost ≤ 16)
+    (legal : Legal cost trace until log) (fit : EachStep NotesFit [] log) (range : All InRange (journal loaded log)) where
   opening_times : All (λ n. time_of n ≡ 0) (opening loaded)
   opening_times = All-cons (λ n. time_of n ≡ 0) (note.Up (record { 0 = 0 }) (load_number loaded.fault)) (note.Window (record { 0 = 0 }) 0 ∷ []) refl
       (All-cons (λ n. time_of n ≡ 0) (note.Window (record { 0 = 0 }) 0) [] refl (All-nil (λ n. time_of n ≡ 0)))
 
   by_made : (t : ℕ) → by_tick t (journal loaded log) ≡ reverse (journal loaded (made t log))
-  by_made t = ap (λ (l : List Note). reverse l) (upto_in t 0 (opening loaded) (notes_in log) (omega arith) opening_times ∙ ap (λ (l : List Note). opening loaded ++ l) (made_upto cost trace t [] log legal.fits fit))
+  by_made t = ap (λ (l : List Note). reverse l) (upto_in t 0 (opening loaded) (notes_in log) (omega arith) opening_times
+      ∙ ap (λ (l : List Note). opening loaded ++ l) (made_upto cost trace t [] log legal.fits fit))
 
   says_at : (t : ℕ) → Says (at_tick t log) (by_tick t (journal loaded log))
   says_at t = subst (λ (l : List Note). Says (at_tick t log) l) (sym (by_made t)) (says_all loaded (made t log))
@@ -231,10 +265,12 @@ module _ (loaded : Loaded) (cost : ℕ) (trace : List Event) (log : List Turned)
   small : (t d : ℕ) → demand_at (by_tick t (journal loaded log)) ≡ d → d ≤ 1900
   small t d e =
       let a : demand_at (reverse (upto t (journal loaded log)) ++ []) ≤ 1900 = small_demand t (journal loaded log) [] range (omega arith) in
-      let b : demand_at (by_tick t (journal loaded log)) ≤ 1900 = subst (λ (l : List Note). demand_at l ≤ 1900) (append-nil (reverse (upto t (journal loaded log)))) a in
+      let b : demand_at (by_tick t (journal loaded log)) ≤ 1900 = subst (λ (l : List Note). demand_at l ≤ 1900)
+      (append-nil (reverse (upto t (journal loaded log)))) a in
       omega arith
 
-  quiet_of : (p d m : ℕ) → p ≡ 2000 * m → Undisturbed cost trace (journal loaded log) (2000 * m) d → Quiet cost trace log m d (sector_at (by_tick (2000 * m - 1) (journal loaded log)))
+  quiet_of : (p d m : ℕ) → p ≡ 2000 * m → Undisturbed cost trace (journal loaded log) (2000 * m) d
+      → Quiet cost trace log m d (sector_at (by_tick (2000 * m - 1) (journal loaded log)))
   quiet_of p d m e y = record {
     drives = y.drives;
     duty = small (2000 * m) d (y.demand (2000 * m) (omega arith) (omega arith));
@@ -248,7 +284,8 @@ module _ (loaded : Loaded) (cost : ℕ) (trace : List Event) (log : List Turned)
     high_free = rw ((says_at (2000 * m - 1)).lo_free (high_of (sector_at (by_tick (2000 * m - 1) (journal loaded log))))) y.free;
   }
 
-  at_multiple : (m d : ℕ) → Undisturbed cost trace (journal loaded log) (2000 * m) d → IsChopped cost until (journal loaded log) (2000 * m) d (sector_at (by_tick (2000 * m - 1) (journal loaded log)))
+  at_multiple : (m d : ℕ) → Undisturbed cost trace (journal loaded log) (2000 * m) d
+      → IsChopped cost until (journal loaded log) (2000 * m) d (sector_at (by_tick (2000 * m - 1) (journal loaded log)))
   at_multiple m d y =
       let c = chopped cost trace log m d (sector_at (by_tick (2000 * m - 1) (journal loaded log))) until one few legal (quiet_of (2000 * m) d m refl y) in
       record {
@@ -260,4 +297,5 @@ module _ (loaded : Loaded) (cost : ℕ) (trace : List Event) (log : List Turned)
 
   pub is_chopped : Chopped cost trace until (journal loaded log)
   is_chopped p d y =
-      subst (λ (q : ℕ). Undisturbed cost trace (journal loaded log) q d → IsChopped cost until (journal loaded log) q d (sector_at (by_tick (q - 1) (journal loaded log)))) (sym y.starts) (at_multiple y.number d) y
+      subst (λ (q : ℕ). Undisturbed cost trace (journal loaded log) q d
+      → IsChopped cost until (journal loaded log) q d (sector_at (by_tick (q - 1) (journal loaded log)))) (sym y.starts) (at_multiple y.number d) y

@@ -38,7 +38,8 @@ none_above [] k j s l = rw (ne (kind_number k) (kind_number j) l) refl
   where
     ne : (x y : ℕ) → x < y → (x == y) ≡ false
     ne x y m = grind (arith, nat_tests)
-none_above (h ∷ outer) k j s l = rw (ne (kind_number k) (kind_number j) l) (let a : kind_number h < kind_number k = s.0 in none_above outer h j s.1 (omega arith))
+none_above (h ∷ outer) k j s l = rw (ne (kind_number k) (kind_number j) l)
+    (let a : kind_number h < kind_number k = s.0 in none_above outer h j s.1 (omega arith))
   where
     ne : (x y : ℕ) → x < y → (x == y) ≡ false
     ne x y m = grind (arith, nat_tests)
@@ -75,7 +76,19 @@ same_of kind.Comm = refl
 enter_stack : (p : Place) (t k : ℕ) → (next p (note.Enter (record { 0 = t }) k)).stack ≡ kind_of k ∷ p.stack
 enter_stack p t k = by_tests (k == 3) (k == 2) (k == 0)
   where
-    by_tests : (a b c : Bool) → (if a then record p { stack = kind_of k ∷ p.stack; cap_entered = t; windows = 0; verdicts = 0; last = t } else if b then record p { stack = kind_of k ∷ p.stack; ticks = 0; last = t } else if c then record p { stack = kind_of k ∷ p.stack; saves = 0; last = t } else record p { stack = kind_of k ∷ p.stack; last = t }).stack ≡ kind_of k ∷ p.stack
+    by_tests : (a b c : Bool) → (if a then record p {
+      stack = kind_of k ∷ p.stack;
+      cap_entered = t;
+      windows = 0;
+      verdicts = 0;
+      last =
+          t;
+    } else if b then record p { stack = kind_of k ∷ p.stack; ticks = 0; last = t } else if c then record p {
+      stack = kind_of k ∷ p.stack;
+      saves =
+          0;
+      last = t;
+    } else record p { stack = kind_of k ∷ p.stack; last = t }).stack ≡ kind_of k ∷ p.stack
     by_tests true b c = refl
     by_tests false true c = refl
     by_tests false false true = refl
@@ -101,19 +114,22 @@ quiet_stack before (n ∷ notes) e l =
 
 front_entries : (xs ys : List Note) → All (λ n. is_entry n ≡ false) (xs ++ ys) → All (λ n. is_entry n ≡ false) xs
 front_entries [] ys a = All-nil (λ n. is_entry n ≡ false)
-front_entries (x ∷ xs) ys a = All-cons (λ n. is_entry n ≡ false) x xs (All-head (λ n. is_entry n ≡ false) x (xs ++ ys) a) (front_entries xs ys (All-tail (λ n. is_entry n ≡ false) x (xs ++ ys) a))
+front_entries (x ∷ xs) ys a = All-cons (λ n. is_entry n ≡ false) x xs (All-head (λ n. is_entry n ≡ false) x (xs ++ ys) a)
+    (front_entries xs ys (All-tail (λ n. is_entry n ≡ false) x (xs ++ ys) a))
 
 leaves_back : (front : List Note) (b : Bool) (t k : ℕ) → leaves front ≡ false → leaves (front ++ (if b then note.Leave (record { 0 = t }) k ∷ [] else [])) ≡ b
 leaves_back [] true t k e = refl
 leaves_back [] false t k e = refl
-leaves_back (n ∷ front) b t k e = let parts = leaves_parts n front e in cons n (front ++ (if b then note.Leave (record { 0 = t }) k ∷ [] else [])) b parts.0 (leaves_back front b t k parts.1)
+leaves_back (n ∷ front) b t k e = let parts = leaves_parts n front e in cons n (front ++ (if b then note.Leave (record { 0 = t }) k ∷ [] else [])) b parts.0
+    (leaves_back front b t k parts.1)
   where
     cons : (x : Note) (rest : List Note) (c : Bool) → leaves (x ∷ []) ≡ false → leaves rest ≡ c → leaves (x ∷ rest) ≡ c
     cons (note.Leave u j) rest c f g = absurd (cc)
     cons x rest c f g = g
 
 own_stack : (before front : List Note) (b : Bool) (t k : ℕ) → All (λ n. is_entry n ≡ false) front → leaves front ≡ false
-    → (place (before ++ (front ++ (if b then note.Leave (record { 0 = t }) k ∷ [] else [])))).stack ≡ (if b then outer_ones (place before).stack else (place before).stack)
+    → (place (before ++ (front ++ (if b then note.Leave (record { 0 = t }) k ∷ [] else [])))).stack ≡
+    (if b then outer_ones (place before).stack else (place before).stack)
 own_stack before front false t k e l = ap (λ (x : List Note). (place (before ++ x)).stack) (append-nil front) ∙ quiet_stack before front e l
 own_stack before front true t k e l =
     ap (λ (x : List Note). (place x).stack) (sym (append_assoc before front (note.Leave (record { 0 = t }) k ∷ [])))
@@ -137,7 +153,8 @@ record StackOut (stack : List Kind) (k : Kind) (enters back : Bool) (stack' : Li
   entry : enters ≡ true → stack' ≡ k ∷ stack
   own : enters ≡ false → stack' ≡ (if back then outer_ones stack else stack)
 
-open_out : (loaded : Loaded) (cost : ℕ) (trace : List Event) (before : List Turned) (e : Turned) → StepFits loaded Full cost trace before e → (b : OneBack e) → StackOut (open_in loaded before) e.kind e.enters b.back (open_in loaded (before ++ e ∷ []))
+open_out : (loaded : Loaded) (cost : ℕ) (trace : List Event) (before : List Turned) (e : Turned) → StepFits loaded Full cost trace before e → (b : OneBack e)
+    → StackOut (open_in loaded before) e.kind e.enters b.back (open_in loaded (before ++ e ∷ []))
 open_out loaded cost trace before e f b = record {
   entry = λ q.
       ap (λ (x : List Note). (place x).stack) (journal-push loaded before e ∙ ap (λ (x : List Note). journal loaded before ++ x) (f.entry q))
@@ -146,14 +163,16 @@ open_out loaded cost trace before e f b = record {
       ∙ ap (λ (k : Kind). k ∷ open_in loaded before) (same_of e.kind);
   own = λ q.
       ap (λ (x : List Note). (place x).stack) (journal-push loaded before e ∙ ap (λ (x : List Note). journal loaded before ++ x) b.notes_are)
-      ∙ own_stack (journal loaded before) b.front b.back e.tick (kind_number e.kind) (front_entries b.front _ (subst (λ (x : List Note). All (λ n. is_entry n ≡ false) x) b.notes_are (f.no_entry q))) b.none;
+      ∙ own_stack (journal loaded before) b.front b.back e.tick (kind_number e.kind) (front_entries b.front _ (subst (λ (x : List Note). All
+      (λ n. is_entry n ≡ false) x) b.notes_are (f.no_entry q))) b.none;
 }
 
 back_is : (e : Turned) (b : OneBack e) → leaves e.notes ≡ b.back
 back_is e b = ap leaves b.notes_are ∙ leaves_back b.front b.back e.tick (kind_number e.kind) b.none
 
 -- an entry has no O
-entry_leaves : (loaded : Loaded) (cost : ℕ) (trace : List Event) (before : List Turned) (e : Turned) → StepFits loaded Full cost trace before e → e.enters ≡ true → leaves e.notes ≡ false
+entry_leaves : (loaded : Loaded) (cost : ℕ) (trace : List Event) (before : List Turned) (e : Turned) → StepFits loaded Full cost trace before e
+    → e.enters ≡ true → leaves e.notes ≡ false
 entry_leaves loaded cost trace before e f q = ap leaves (f.entry q)
 
 -- the innermost open kind is on top
@@ -165,14 +184,16 @@ top_is (h ∷ outer) k e = ap (λ (x : Kind). x ∷ outer) (some_same h k e)
     some_same x y e = cc
 
 -- whether a kind is open after a step
-open_self : (stack stack' : List Kind) (k : Kind) (back : Bool) → IsStack stack → innermost stack ≡ Some k → stack' ≡ (if back then outer_ones stack else stack) → is_open stack' k ≡ not back
+open_self : (stack stack' : List Kind) (k : Kind) (back : Bool) → IsStack stack → innermost stack ≡ Some k
+    → stack' ≡ (if back then outer_ones stack else stack) → is_open stack' k ≡ not back
 open_self stack stack' k true s top e = ap (λ (x : List Kind). is_open x k) e ∙ none_twice (outer_ones stack) k (subst IsStack (top_is stack k top) s)
 open_self stack stack' k false s top e = ap (λ (x : List Kind). is_open x k) (e ∙ top_is stack k top) ∙ rw (same (kind_number k)) refl
   where
     same : (x : ℕ) → (x == x) ≡ true
     same x = grind (arith, nat_tests)
 
-open_other : (stack stack' : List Kind) (k j : Kind) (back : Bool) → (kind_number k == kind_number j) ≡ false → innermost stack ≡ Some k → stack' ≡ (if back then outer_ones stack else stack) → is_open stack' j ≡ is_open stack j
+open_other : (stack stack' : List Kind) (k j : Kind) (back : Bool) → (kind_number k == kind_number j) ≡ false → innermost stack ≡ Some k
+    → stack' ≡ (if back then outer_ones stack else stack) → is_open stack' j ≡ is_open stack j
 open_other stack stack' k j true ne top e = ap (λ (x : List Kind). is_open x j) e ∙ sym (ap (λ (x : List Kind). is_open x j) (top_is stack k top) ∙ rw ne refl)
 open_other stack stack' k j false ne top e = ap (λ (x : List Kind). is_open x j) e
 
@@ -185,12 +206,14 @@ record StepIn (loaded : Loaded) (cost : ℕ) (trace : List Event) (before : List
   fits : StepFits loaded Full cost trace before (record { tick = t; kind = k; enters = en; notes = ns })
   bridge : BridgeFits loaded trace before (record { tick = t; kind = k; enters = en; notes = ns })
 
-turn_is : (loaded : Loaded) (cost : ℕ) (trace : List Event) (before : List Turned) (k : Kind) (en : Bool) (t : ℕ) (ns : List Note) → StepIn loaded cost trace before k en t ns → IsTurn (view before) (by_kind k en (leaves ns))
+turn_is : (loaded : Loaded) (cost : ℕ) (trace : List Event) (before : List Turned) (k : Kind) (en : Bool) (t : ℕ) (ns : List Note)
+    → StepIn loaded cost trace before k en t ns → IsTurn (view before) (by_kind k en (leaves ns))
 turn_is loaded cost trace before kind.Comm true t ns i = i.link.comm ∙ all_below (open_in loaded before) 6 6 (i.bridge.above refl) kind.Comm refl (omega arith)
 turn_is loaded cost trace before kind.Comm false t ns i = record {
   is_open = i.link.comm ∙ ap (λ (x : List Kind). is_open x kind.Comm) (top_is (open_in loaded before) kind.Comm (i.fits.own refl));
   few = let a : own_steps kind.Comm (before ++ record { tick = t; kind = kind.Comm; enters = false; notes = ns } ∷ []) ≤ 24 = i.fits.few refl in
-      let b : own_steps kind.Comm (before ++ record { tick = t; kind = kind.Comm; enters = false; notes = ns } ∷ []) ≡ own_steps kind.Comm before + 1 = own-push kind.Comm before (record { tick = t; kind = kind.Comm; enters = false; notes = ns }) in
+      let b : own_steps kind.Comm (before ++ record { tick = t; kind = kind.Comm; enters = false; notes = ns } ∷ []) ≡ own_steps kind.Comm before + 1 =
+      own-push kind.Comm before (record { tick = t; kind = kind.Comm; enters = false; notes = ns }) in
       let c = i.link.comm_own in omega arith;
 }
 turn_is loaded cost trace before kind.Pwm true t ns i = record {
@@ -200,10 +223,12 @@ turn_is loaded cost trace before kind.Pwm true t ns i = record {
 turn_is loaded cost trace before kind.Pwm false t ns i =
     let top = top_is (open_in loaded before) kind.Pwm (i.fits.own refl) in
     let a : own_steps kind.Pwm (before ++ record { tick = t; kind = kind.Pwm; enters = false; notes = ns } ∷ []) ≤ 12 = i.fits.few refl in
-    let b : own_steps kind.Pwm (before ++ record { tick = t; kind = kind.Pwm; enters = false; notes = ns } ∷ []) ≡ own_steps kind.Pwm before + 1 = own-push kind.Pwm before (record { tick = t; kind = kind.Pwm; enters = false; notes = ns }) in
+    let b : own_steps kind.Pwm (before ++ record { tick = t; kind = kind.Pwm; enters = false; notes = ns } ∷ []) ≡ own_steps kind.Pwm before + 1 =
+    own-push kind.Pwm before (record { tick = t; kind = kind.Pwm; enters = false; notes = ns }) in
     let c = i.link.pwm_own in
     record {
-      comm = i.link.comm ∙ ap (λ (x : List Kind). is_open x kind.Comm) top ∙ none_above (outer_ones (open_in loaded before)) kind.Pwm kind.Comm (subst IsStack top i.link.sorted) (omega arith);
+      comm = i.link.comm ∙ ap (λ (x : List Kind). is_open x kind.Comm) top
+          ∙ none_above (outer_ones (open_in loaded before)) kind.Pwm kind.Comm (subst IsStack top i.link.sorted) (omega arith);
       is_open = i.link.pwm ∙ ap (λ (x : List Kind). is_open x kind.Pwm) top;
       few = omega arith;
       all = λ q. let d = i.bridge.pwm_back refl refl q in omega arith;
@@ -215,8 +240,10 @@ turn_is loaded cost trace before k true t ns i = record {
 turn_is loaded cost trace before k false t ns i =
     let top = top_is (open_in loaded before) k (i.fits.own refl) in
     record {
-      comm = i.link.comm ∙ ap (λ (x : List Kind). is_open x kind.Comm) top ∙ none_above (outer_ones (open_in loaded before)) k kind.Comm (subst IsStack top i.link.sorted) (omega arith);
-      pwm = i.link.pwm ∙ ap (λ (x : List Kind). is_open x kind.Pwm) top ∙ none_above (outer_ones (open_in loaded before)) k kind.Pwm (subst IsStack top i.link.sorted) (omega arith);
+      comm = i.link.comm ∙ ap (λ (x : List Kind). is_open x kind.Comm) top
+          ∙ none_above (outer_ones (open_in loaded before)) k kind.Comm (subst IsStack top i.link.sorted) (omega arith);
+      pwm = i.link.pwm ∙ ap (λ (x : List Kind). is_open x kind.Pwm) top
+          ∙ none_above (outer_ones (open_in loaded before)) k kind.Pwm (subst IsStack top i.link.sorted) (omega arith);
     }
 
 -- ---- the link after a step
@@ -229,7 +256,8 @@ sorted_own [] true s = s
 sorted_own (k ∷ outer) true s = s.1
 sorted_own stack false s = s
 
-sorted_next : (loaded : Loaded) (cost : ℕ) (trace : List Event) (before : List Turned) (k : Kind) (en : Bool) (t : ℕ) (ns : List Note) → StepIn loaded cost trace before k en t ns → IsStack (open_in loaded (before ++ step_of k en t ns ∷ []))
+sorted_next : (loaded : Loaded) (cost : ℕ) (trace : List Event) (before : List Turned) (k : Kind) (en : Bool) (t : ℕ) (ns : List Note)
+    → StepIn loaded cost trace before k en t ns → IsStack (open_in loaded (before ++ step_of k en t ns ∷ []))
 sorted_next loaded cost trace before k true t ns i =
     let o = open_out loaded cost trace before (step_of k true t ns) i.fits i.bridge.one_back in
     subst IsStack (sym (o.entry refl)) (above_stack (open_in loaded before) k (i.bridge.above refl) i.link.sorted)
@@ -238,7 +266,8 @@ sorted_next loaded cost trace before k false t ns i =
     subst IsStack (sym (o.own refl)) (sorted_own (open_in loaded before) i.bridge.one_back.back i.link.sorted)
 
 -- another kind's step leaves whether it is open
-others_next : (loaded : Loaded) (cost : ℕ) (trace : List Event) (before : List Turned) (k j : Kind) (en : Bool) (t : ℕ) (ns : List Note) → StepIn loaded cost trace before k en t ns → (kind_number k == kind_number j) ≡ false
+others_next : (loaded : Loaded) (cost : ℕ) (trace : List Event) (before : List Turned) (k j : Kind) (en : Bool) (t : ℕ) (ns : List Note)
+    → StepIn loaded cost trace before k en t ns → (kind_number k == kind_number j) ≡ false
     → is_open (open_in loaded (before ++ step_of k en t ns ∷ [])) j ≡ is_open (open_in loaded before) j
 others_next loaded cost trace before k j true t ns i ne =
     let o = open_out loaded cost trace before (step_of k true t ns) i.fits i.bridge.one_back in
@@ -247,7 +276,8 @@ others_next loaded cost trace before k j false t ns i ne =
     let o = open_out loaded cost trace before (step_of k false t ns) i.fits i.bridge.one_back in
     open_other (open_in loaded before) _ k j i.bridge.one_back.back ne (i.fits.own refl) (o.own refl)
 
-self_entered : (loaded : Loaded) (cost : ℕ) (trace : List Event) (before : List Turned) (k : Kind) (t : ℕ) (ns : List Note) → StepIn loaded cost trace before k true t ns → is_open (open_in loaded (before ++ step_of k true t ns ∷ [])) k ≡ true
+self_entered : (loaded : Loaded) (cost : ℕ) (trace : List Event) (before : List Turned) (k : Kind) (t : ℕ) (ns : List Note)
+    → StepIn loaded cost trace before k true t ns → is_open (open_in loaded (before ++ step_of k true t ns ∷ [])) k ≡ true
 self_entered loaded cost trace before k t ns i =
     let o = open_out loaded cost trace before (step_of k true t ns) i.fits i.bridge.one_back in
     ap (λ (x : List Kind). is_open x k) (o.entry refl) ∙ rw (same (kind_number k)) refl
@@ -255,10 +285,12 @@ self_entered loaded cost trace before k t ns i =
     same : (x : ℕ) → (x == x) ≡ true
     same x = grind (arith, nat_tests)
 
-self_own : (loaded : Loaded) (cost : ℕ) (trace : List Event) (before : List Turned) (k : Kind) (t : ℕ) (ns : List Note) → StepIn loaded cost trace before k false t ns → is_open (open_in loaded (before ++ step_of k false t ns ∷ [])) k ≡ not (leaves ns)
+self_own : (loaded : Loaded) (cost : ℕ) (trace : List Event) (before : List Turned) (k : Kind) (t : ℕ) (ns : List Note)
+    → StepIn loaded cost trace before k false t ns → is_open (open_in loaded (before ++ step_of k false t ns ∷ [])) k ≡ not (leaves ns)
 self_own loaded cost trace before k t ns i =
     let o = open_out loaded cost trace before (step_of k false t ns) i.fits i.bridge.one_back in
-    open_self (open_in loaded before) _ k i.bridge.one_back.back i.link.sorted (i.fits.own refl) (o.own refl) ∙ ap not (sym (back_is (step_of k false t ns) i.bridge.one_back))
+    open_self (open_in loaded before) _ k i.bridge.one_back.back i.link.sorted (i.fits.own refl) (o.own refl)
+    ∙ ap not (sym (back_is (step_of k false t ns) i.bridge.one_back))
 
 record OpenNext (loaded : Loaded) (log : List Turned) : Type 0 where
   comm : (view log).comm ≡ is_open (open_in loaded log) kind.Comm
@@ -266,7 +298,8 @@ record OpenNext (loaded : Loaded) (log : List Turned) : Type 0 where
   comm_own : (view log).comm_own ≡ own_steps kind.Comm log
   pwm_own : (view log).pwm_own ≡ own_steps kind.Pwm log
 
-open_next : (loaded : Loaded) (cost : ℕ) (trace : List Event) (before : List Turned) (k : Kind) (en : Bool) (t : ℕ) (ns : List Note) → StepIn loaded cost trace before k en t ns → OpenNext loaded (before ++ step_of k en t ns ∷ [])
+open_next : (loaded : Loaded) (cost : ℕ) (trace : List Event) (before : List Turned) (k : Kind) (en : Bool) (t : ℕ) (ns : List Note)
+    → StepIn loaded cost trace before k en t ns → OpenNext loaded (before ++ step_of k en t ns ∷ [])
 open_next loaded cost trace before kind.Comm true t ns i = let s = same_after before (step_of kind.Comm true t ns) in record {
   comm = s.comm ∙ sym (self_entered loaded cost trace before kind.Comm t ns i);
   pwm = s.pwm ∙ i.link.pwm ∙ sym (others_next loaded cost trace before kind.Comm kind.Pwm true t ns i refl);
@@ -300,7 +333,8 @@ open_next loaded cost trace before k en t ns i = let s = same_after before (step
 
 -- ---- the counts
 
-wait_mono : (b a c b' a' c' : Bool) (w w' : ℕ) → (b ≡ true → b' ≡ true) → (a ≡ true → a' ≡ true) → c' ≡ c → w ≤ w' → waits_next b a c w ≤ (if b' && a' then (if c' then w' + 1 else w') else 0)
+wait_mono : (b a c b' a' c' : Bool) (w w' : ℕ) → (b ≡ true → b' ≡ true) → (a ≡ true → a' ≡ true) → c' ≡ c → w ≤ w'
+    → waits_next b a c w ≤ (if b' && a' then (if c' then w' + 1 else w') else 0)
 wait_mono true true true b' a' c' w w' f g e le = rw (f refl, g refl, e) (omega arith)
 wait_mono true true false b' a' c' w w' f g e le = rw (f refl, g refl, e) le
 wait_mono true false c b' a' c' w w' f g e le = omega arith
@@ -310,13 +344,15 @@ both_true : (a b : Bool) → a ≡ true → b ≡ true → (a && b) ≡ true
 both_true true b e f = f
 both_true false b e f = e
 
-pwm_is_called : (loaded : Loaded) (trace : List Event) (log : List Turned) (t : ℕ) → CallsSeen loaded trace log → (view log).pwm ≡ is_open (open_in loaded log) kind.Pwm → pwm_called (view log) t ≡ true → is_called loaded trace log t kind.Pwm ≡ true
+pwm_is_called : (loaded : Loaded) (trace : List Event) (log : List Turned) (t : ℕ) → CallsSeen loaded trace log
+    → (view log).pwm ≡ is_open (open_in loaded log) kind.Pwm → pwm_called (view log) t ≡ true → is_called loaded trace log t kind.Pwm ≡ true
 pwm_is_called loaded trace log t c e q =
     let p = and_parts _ (not (view log).pwm) q in
     let r : not (is_open (open_in loaded log) kind.Pwm) ≡ true = ap not (sym e) ∙ p.1 in
     both_true (sees trace (journal loaded log) t kind.Pwm) (not (is_open (open_in loaded log) kind.Pwm)) (c.pwm t q) r
 
-comm_is_called : (loaded : Loaded) (trace : List Event) (log : List Turned) (t : ℕ) → CallsSeen loaded trace log → (view log).comm ≡ is_open (open_in loaded log) kind.Comm → comm_called (view log) t ≡ true → is_called loaded trace log t kind.Comm ≡ true
+comm_is_called : (loaded : Loaded) (trace : List Event) (log : List Turned) (t : ℕ) → CallsSeen loaded trace log
+    → (view log).comm ≡ is_open (open_in loaded log) kind.Comm → comm_called (view log) t ≡ true → is_called loaded trace log t kind.Comm ≡ true
 comm_is_called loaded trace log t c e q =
     let p = and_parts _ (not (view log).comm) q in
     let r : not (is_open (open_in loaded log) kind.Comm) ≡ true = ap not (sym e) ∙ p.1 in
@@ -333,10 +369,13 @@ comm_counts : (k : Kind) → counts Full kind.Comm (Some k) ≡ true
 comm_counts kind.Comm = refl
 comm_counts k = refl
 
-comm_waits_after : (before : List Turned) (e : Turned) → (view (before ++ e ∷ [])).comm_waits ≡ waits_next (comm_called (view before) e.tick) (comm_called (view (before ++ e ∷ [])) e.tick) true (view before).comm_waits
-comm_waits_after before e = subst (λ (w : View). w.comm_waits ≡ waits_next (comm_called (view before) e.tick) (comm_called w e.tick) true (view before).comm_waits) (sym (view-push before e)) refl
+comm_waits_after : (before : List Turned) (e : Turned) → (view (before ++ e ∷ [])).comm_waits ≡ waits_next (comm_called (view before) e.tick)
+    (comm_called (view (before ++ e ∷ [])) e.tick) true (view before).comm_waits
+comm_waits_after before e = subst (λ (w : View). w.comm_waits ≡ waits_next (comm_called (view before) e.tick) (comm_called w e.tick) true
+    (view before).comm_waits) (sym (view-push before e)) refl
 
-link_next : (loaded : Loaded) (cost : ℕ) (trace : List Event) (before : List Turned) (e : Turned) → SeesDrive trace → StepIn loaded cost trace before e.kind e.enters e.tick e.notes → Linked loaded trace (before ++ e ∷ [])
+link_next : (loaded : Loaded) (cost : ℕ) (trace : List Event) (before : List Turned) (e : Turned) → SeesDrive trace
+    → StepIn loaded cost trace before e.kind e.enters e.tick e.notes → Linked loaded trace (before ++ e ∷ [])
 link_next loaded cost trace before e d i =
     let o = open_next loaded cost trace before e.kind e.enters e.tick e.notes i in
     let a = asks_next loaded cost trace before e i.fits i.link.asks in
@@ -349,11 +388,17 @@ link_next loaded cost trace before e d i =
       comm_own = o.comm_own;
       pwm_own = o.pwm_own;
       pwm_waits = rw (pwm_waits_after before e, called-push loaded Full trace before e kind.Pwm)
-          (wait_mono (pwm_called (view before) e.tick) (pwm_called (view (before ++ e ∷ [])) e.tick) (not (is_comm (by_of e))) (is_called loaded trace before e.tick kind.Pwm) (is_called loaded trace (before ++ e ∷ []) e.tick kind.Pwm) (counts Full kind.Pwm (Some e.kind)) (view before).pwm_waits (called loaded Full trace before kind.Pwm)
-          (pwm_is_called loaded trace before e.tick c i.link.pwm) (pwm_is_called loaded trace (before ++ e ∷ []) e.tick c' o.pwm) (pwm_counts e.kind e.enters (leaves e.notes)) i.link.pwm_waits);
+          (wait_mono (pwm_called (view before) e.tick) (pwm_called (view (before
+          ++ e ∷ [])) e.tick) (not (is_comm (by_of e))) (is_called loaded trace before e.tick kind.Pwm) (is_called loaded trace (before
+          ++ e ∷ []) e.tick kind.Pwm) (counts Full kind.Pwm (Some e.kind)) (view before).pwm_waits (called loaded Full trace before kind.Pwm)
+          (pwm_is_called loaded trace before e.tick c i.link.pwm) (pwm_is_called loaded trace (before
+          ++ e ∷ []) e.tick c' o.pwm) (pwm_counts e.kind e.enters (leaves e.notes)) i.link.pwm_waits);
       comm_waits = rw (comm_waits_after before e, called-push loaded Full trace before e kind.Comm)
-          (wait_mono (comm_called (view before) e.tick) (comm_called (view (before ++ e ∷ [])) e.tick) true (is_called loaded trace before e.tick kind.Comm) (is_called loaded trace (before ++ e ∷ []) e.tick kind.Comm) (counts Full kind.Comm (Some e.kind)) (view before).comm_waits (called loaded Full trace before kind.Comm)
-          (comm_is_called loaded trace before e.tick c i.link.comm) (comm_is_called loaded trace (before ++ e ∷ []) e.tick c' o.comm) (comm_counts e.kind) i.link.comm_waits);
+          (wait_mono (comm_called (view before) e.tick) (comm_called (view (before
+          ++ e ∷ [])) e.tick) true (is_called loaded trace before e.tick kind.Comm) (is_called loaded trace (before
+          ++ e ∷ []) e.tick kind.Comm) (counts Full kind.Comm (Some e.kind)) (view before).comm_waits (called loaded Full trace before kind.Comm)
+          (comm_is_called loaded trace before e.tick c i.link.comm) (comm_is_called loaded trace (before
+          ++ e ∷ []) e.tick c' o.comm) (comm_counts e.kind) i.link.comm_waits);
       asks = a;
     }
 
@@ -363,7 +408,8 @@ not_true : (v : Bool) → (v ≡ true → ⊥) → v ≡ false
 not_true true f = absurd (f refl)
 not_true false f = refl
 
-rests_idle : (loaded : Loaded) (trace : List Event) (log : List Turned) (t : ℕ) → Linked loaded trace log → CallsSeen loaded trace log → open_in loaded log ≡ [] → ((k : Kind) → sees trace (journal loaded log) t k ≡ false) → Rests (view log) t
+rests_idle : (loaded : Loaded) (trace : List Event) (log : List Turned) (t : ℕ) → Linked loaded trace log → CallsSeen loaded trace log
+    → open_in loaded log ≡ [] → ((k : Kind) → sees trace (journal loaded log) t k ≡ false) → Rests (view log) t
 rests_idle loaded trace log t l c e none = record {
   comm = l.comm ∙ ap (λ (x : List Kind). is_open x kind.Comm) e;
   pwm = l.pwm ∙ ap (λ (x : List Kind). is_open x kind.Pwm) e;
@@ -378,13 +424,15 @@ idle_or_not : (stack : List Kind) → (stack ≡ []) ⊎ (stack ≢ [])
 idle_or_not [] = inl refl
 idle_or_not (k ∷ outer) = inr (λ e. cc)
 
-step_passes : (loaded : Loaded) (cost : ℕ) (trace : List Event) (before : List Turned) (e : Turned) → Linked loaded trace before → CallsSeen loaded trace before → StepFits loaded Full cost trace before e → NonePassed cost trace before e.tick
+step_passes : (loaded : Loaded) (cost : ℕ) (trace : List Event) (before : List Turned) (e : Turned) → Linked loaded trace before
+    → CallsSeen loaded trace before → StepFits loaded Full cost trace before e → NonePassed cost trace before e.tick
 step_passes loaded cost trace before e l c f t lo hi free = elim (idle_or_not (open_in loaded before)) [
   | inl q ↦ rests_idle loaded trace before t l c q (f.idle q t lo hi free)
   | inr q ↦ absurd (let a = f.open_step q in omega arith)
 ]
 
-end_passes : (loaded : Loaded) (cost : ℕ) (trace : List Event) (log : List Turned) (until : ℕ) → Linked loaded trace log → CallsSeen loaded trace log → Awaits loaded cost trace until log → NonePassed cost trace log until
+end_passes : (loaded : Loaded) (cost : ℕ) (trace : List Event) (log : List Turned) (until : ℕ) → Linked loaded trace log → CallsSeen loaded trace log
+    → Awaits loaded cost trace until log → NonePassed cost trace log until
 end_passes loaded cost trace log until l c f t lo hi free = elim (idle_or_not (open_in loaded log)) [
   | inl q ↦ rests_idle loaded trace log t l c q (f.idle q t lo hi free)
   | inr q ↦ absurd (let a = f.open_step q in omega arith)
@@ -392,7 +440,8 @@ end_passes loaded cost trace log until l c f t lo hi free = elim (idle_or_not (o
 
 -- ---- over the log
 
-fits_from : (loaded : Loaded) (cost : ℕ) (trace : List Event) (d : SeesDrive trace) (before rest : List Turned) → Linked loaded trace before → EachStep (StepFits loaded Full cost trace) before rest → EachStep (BridgeFits loaded trace) before rest
+fits_from : (loaded : Loaded) (cost : ℕ) (trace : List Event) (d : SeesDrive trace) (before rest : List Turned) → Linked loaded trace before
+    → EachStep (StepFits loaded Full cost trace) before rest → EachStep (BridgeFits loaded trace) before rest
     → EachStep (LawFits cost trace) before rest × Linked loaded trace (before ++ rest)
 fits_from loaded cost trace d before [] l f g = (tt, subst (λ (x : List Turned). Linked loaded trace x) (sym (append-nil before)) l)
 fits_from loaded cost trace d before (e ∷ rest) l f g =
@@ -421,12 +470,14 @@ start_linked loaded trace = record {
   asks = asks_start loaded;
 }
 
-notes_fit : (loaded : Loaded) (cost : ℕ) (trace : List Event) (before rest : List Turned) → EachStep (StepFits loaded Full cost trace) before rest → EachStep NotesFit before rest
+notes_fit : (loaded : Loaded) (cost : ℕ) (trace : List Event) (before rest : List Turned) → EachStep (StepFits loaded Full cost trace) before rest
+    → EachStep NotesFit before rest
 notes_fit loaded cost trace before [] f = tt
 notes_fit loaded cost trace before (e ∷ rest) f = (record { at_tick = f.0.at_tick; entry = f.0.entry }, notes_fit loaded cost trace (before ++ e ∷ []) rest f.1)
 
 -- From the rules of steps, and the laws of the drive, `Chopped`.
-pub chopped_of : (loaded : Loaded) (cost : ℕ) (trace : List Event) (log : List Turned) (until : ℕ) → 1 ≤ cost → cost ≤ 16 → EachStep (StepFits loaded Full cost trace) [] log → Awaits loaded cost trace until log → SeesDrive trace → EachStep (BridgeFits loaded trace) [] log
+pub chopped_of : (loaded : Loaded) (cost : ℕ) (trace : List Event) (log : List Turned) (until : ℕ) → 1 ≤ cost → cost ≤ 16
+    → EachStep (StepFits loaded Full cost trace) [] log → Awaits loaded cost trace until log → SeesDrive trace → EachStep (BridgeFits loaded trace) [] log
     → EachStep DriveFits [] log → EachStep PairFits [] log → All InRange (journal loaded log) → Chopped cost trace until (journal loaded log)
 chopped_of loaded cost trace log until one few fits awaits d bridge drives pairs range =
     let r = fits_from loaded cost trace d [] log (start_linked loaded trace) fits bridge in

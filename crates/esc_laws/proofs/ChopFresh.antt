@@ -27,7 +27,8 @@ or_true : (f : Bool) → (f || true) ≡ true
 or_true true = refl
 or_true false = refl
 
-pub edge_calls : (m d edge t : ℕ) (v : View) → 0 < d → d ≤ 1900 → IsEdge m d edge → v.demand ≡ d → v.pwm ≡ false → v.entered < edge → edge ≤ t → pwm_called v t ≡ true
+pub edge_calls : (m d edge t : ℕ) (v : View) → 0 < d → d ≤ 1900 → IsEdge m d edge → v.demand ≡ d → v.pwm ≡ false → v.entered < edge → edge ≤ t
+    → pwm_called v t ≡ true
 edge_calls m d edge t v some small is e shut l le =
     let g : edges v.demand v.entered < edges v.demand t = rw e (edge_counts m d edge v.entered t small is l le) in
     rw (lt_is 0 v.demand (omega arith), lt_is (edges v.demand v.entered) (edges v.demand t) g, shut, or_true v.asked) refl
@@ -46,8 +47,10 @@ record Bounds (cost edge x n : ℕ) : Type 0 where
   by_edge : n * cost < 49 * cost
 
 bounds_on : (cost edge x x' t n n' : ℕ) → n' + 1 ≤ n → (t ≤ x) ⊎ (t ≤ edge) → x' ≡ t + cost → Bounds cost edge x n → Bounds cost edge x' n'
-bounds_on cost edge x x' t n n' le (inl l) e b = let a = b.by_next in let c = b.by_edge in let f = less cost n' n le in record { by_next = omega arith; by_edge = omega arith }
-bounds_on cost edge x x' t n n' le (inr l) e b = let a = b.by_next in let c = b.by_edge in let f = less cost n' n le in record { by_next = omega arith; by_edge = omega arith }
+bounds_on cost edge x x' t n n' le (inl l) e b = let a = b.by_next in let c = b.by_edge in let f =
+    less cost n' n le in record { by_next = omega arith; by_edge = omega arith }
+bounds_on cost edge x x' t n n' le (inr l) e b = let a = b.by_next in let c = b.by_edge in let f =
+    less cost n' n le in record { by_next = omega arith; by_edge = omega arith }
 
 -- ---- what is left is some step
 
@@ -101,7 +104,8 @@ returned false e = cc
 rest_is : (m t : ℕ) → 2000 * m ≤ t → t < 2000 * m + 2000 → t % 2000 ≡ t - 2000 * m
 rest_is m t a b = omega arith
 
-chop_level : (cost x x' m d s t edge tick : ℕ) (v w : View) (l : Bool) → IsEdge m d edge → Within cost x x' m d s t v (PwmSteps l) tick w → v.pwm_own ≡ 4 → edge ≤ v.sampled → v.sampled < t → w.wrote ≡ v.sampled → w.comm ≡ false → Fresh edge m d s t w
+chop_level : (cost x x' m d s t edge tick : ℕ) (v w : View) (l : Bool) → IsEdge m d edge → Within cost x x' m d s t v (PwmSteps l) tick w → v.pwm_own ≡ 4
+    → edge ≤ v.sampled → v.sampled < t → w.wrote ≡ v.sampled → w.comm ≡ false → Fresh edge m d s t w
 chop_level cost x x' m d s t edge tick v w l is i four ge lt e shut =
     let c = i.chops l refl four in
     let front : 2000 * m ≤ v.sampled = edge_front is in
@@ -119,7 +123,8 @@ chop_level cost x x' m d s t edge tick v w l is i four ge lt e shut =
     edge_front (inl f) = omega arith
     edge_front (inr f) = omega arith
 
-pub fresh_on : (cost x x' m d s t edge tick : ℕ) (v w : View) (by : By) → IsEdge m d edge → 1 ≤ cost → Placed cost x v → Within cost x x' m d s t v by tick w → Fresh edge m d s t v → Fresh edge m d s t w
+pub fresh_on : (cost x x' m d s t edge tick : ℕ) (v w : View) (by : By) → IsEdge m d edge → 1 ≤ cost → Placed cost x v → Within cost x x' m d s t v by tick w
+    → Fresh edge m d s t v → Fresh edge m d s t w
 fresh_on cost x x' m d s t edge tick v w CommEnters is one p i f = absurd (i.none_enters refl)
 fresh_on cost x x' m d s t edge tick v w (CommSteps l) is one p i f = absurd (let a = i.turn.is_open in let b = f.comm in cc)
 fresh_on cost x x' m d s t edge tick v w PwmEnters is one p i f =
@@ -131,7 +136,9 @@ fresh_on cost x x' m d s t edge tick v w (PwmSteps l) is one p i f = by_own (own
     quiet n e = let q = i.quiet n in
         record { comm = i.same.comm ∙ f.comm; wrote = rw e f.wrote; past = rw e f.past; on = rw (e, q) f.on; off = rw (e, q) f.off }
 
-    by_own : OwnFirst v.pwm_own tick v.sampled v.wrote (moved v (PwmSteps l) tick).sampled (moved v (PwmSteps l) tick).wrote ⊎ (OwnWrites v.pwm_own tick v.sampled v.wrote (moved v (PwmSteps l) tick).sampled (moved v (PwmSteps l) tick).wrote ⊎ OwnOther v.pwm_own tick v.sampled v.wrote (moved v (PwmSteps l) tick).sampled (moved v (PwmSteps l) tick).wrote) → Fresh edge m d s t w
+    by_own : OwnFirst v.pwm_own tick v.sampled v.wrote (moved v (PwmSteps l) tick).sampled (moved v (PwmSteps l) tick).wrote
+        ⊎ (OwnWrites v.pwm_own tick v.sampled v.wrote (moved v (PwmSteps l) tick).sampled (moved v (PwmSteps l) tick).wrote
+        ⊎ OwnOther v.pwm_own tick v.sampled v.wrote (moved v (PwmSteps l) tick).sampled (moved v (PwmSteps l) tick).wrote) → Fresh edge m d s t w
     by_own (inl h) = quiet (let a = h.is in grind (arith, nat_tests)) (i.same.wrote ∙ h.wrote)
     by_own (inr (inr h)) = quiet (let a = h.fourth in grind (arith, nat_tests)) (i.same.wrote ∙ h.wrote)
     by_own (inr (inl h)) =
@@ -153,7 +160,8 @@ abbrev Next : ℕ → ℕ → ℕ → ℕ → ℕ → ℕ → ℕ → View → T
 Next cost edge x' m d s t w = Stale cost edge x' w ⊎ Fresh edge m d s t w
 
 -- one step of COMM less
-comm_on : (cost x x' m d s t edge tick : ℕ) (v w : View) (l : Bool) → 0 < d → d ≤ 1900 → IsEdge m d edge → edge ≤ tick → (tick ≤ x) ⊎ (tick ≤ edge) → Within cost x x' m d s t v (CommSteps l) tick w → Stale cost edge x v → Stale cost edge x' w
+comm_on : (cost x x' m d s t edge tick : ℕ) (v w : View) (l : Bool) → 0 < d → d ≤ 1900 → IsEdge m d edge → edge ≤ tick → (tick ≤ x) ⊎ (tick ≤ edge)
+    → Within cost x x' m d s t v (CommSteps l) tick w → Stale cost edge x v → Stale cost edge x' w
 comm_on cost x x' m d s t edge tick v w l some small is ge at i st =
     let o = i.turn.is_open in let few = i.turn.few in
     let c24 = st.left.comm o in
@@ -182,7 +190,8 @@ comm_on cost x x' m d s t edge tick v w l some small is ge at i st =
     }
 
 -- PWM is entered
-enter_on : (cost x x' m d s t edge tick : ℕ) (v w : View) → (tick ≤ x) ⊎ (tick ≤ edge) → Placed cost x v → Within cost x x' m d s t v PwmEnters tick w → Stale cost edge x v → Stale cost edge x' w
+enter_on : (cost x x' m d s t edge tick : ℕ) (v w : View) → (tick ≤ x) ⊎ (tick ≤ edge) → Placed cost x v → Within cost x x' m d s t v PwmEnters tick w
+    → Stale cost edge x v → Stale cost edge x' w
 enter_on cost x x' m d s t edge tick v w at p i st =
     let g = st.left.shut i.turn.pwm in let le = p.patient in
     let b = bounds_on cost edge x x' tick (st.c + st.k) (st.c + (st.k - 1)) (omega arith) at i.next (record { by_next = st.by_next; by_edge = st.by_edge }) in
@@ -204,7 +213,8 @@ enter_on cost x x' m d s t edge tick v w at p i st =
     }
 
 -- a step of a lower kind
-lower_on : (cost x x' m d s t edge tick : ℕ) (v w : View) → 0 < d → d ≤ 1900 → IsEdge m d edge → edge ≤ tick → (tick ≤ x) ⊎ (tick ≤ edge) → Placed cost x v → Within cost x x' m d s t v Lower tick w → Stale cost edge x v → Stale cost edge x' w
+lower_on : (cost x x' m d s t edge tick : ℕ) (v w : View) → 0 < d → d ≤ 1900 → IsEdge m d edge → edge ≤ tick → (tick ≤ x) ⊎ (tick ≤ edge) → Placed cost x v
+    → Within cost x x' m d s t v Lower tick w → Stale cost edge x v → Stale cost edge x' w
 lower_on cost x x' m d s t edge tick v w some small is ge at p i st =
     let z = i.turn.pwm in
     let g = st.left.shut z in let le = p.patient in let le' = i.patient in
@@ -231,8 +241,10 @@ lower_on cost x x' m d s t edge tick v w some small is ge at p i st =
     }
 
 -- an own step of PWM that doesn't write what was read since
-pwm_on : (cost x x' m d s t edge tick : ℕ) (v w : View) (l : Bool) → (tick ≤ x) ⊎ (tick ≤ edge) → Placed cost x v → Within cost x x' m d s t v (PwmSteps l) tick w → (st : Stale cost edge x v) → 1 ≤ st.k → w.wrote < edge
-    → (w.pwm_own ≤ 1 → 5 ≤ w.pwm_own + (st.k - 1)) → (2 ≤ w.pwm_own → w.pwm_own ≤ 4 → edge ≤ w.sampled → 5 ≤ w.pwm_own + (st.k - 1)) → (2 ≤ w.pwm_own → w.sampled < edge → 26 ≤ w.pwm_own + (st.k - 1)) → (l ≡ true → w.entered < edge × (26 ≤ w.pwm_own + (st.k - 1)))
+pwm_on : (cost x x' m d s t edge tick : ℕ) (v w : View) (l : Bool) → (tick ≤ x) ⊎ (tick ≤ edge) → Placed cost x v
+    → Within cost x x' m d s t v (PwmSteps l) tick w → (st : Stale cost edge x v) → 1 ≤ st.k → w.wrote < edge
+    → (w.pwm_own ≤ 1 → 5 ≤ w.pwm_own + (st.k - 1)) → (2 ≤ w.pwm_own → w.pwm_own ≤ 4 → edge ≤ w.sampled → 5 ≤ w.pwm_own + (st.k - 1))
+    → (2 ≤ w.pwm_own → w.sampled < edge → 26 ≤ w.pwm_own + (st.k - 1)) → (l ≡ true → w.entered < edge × (26 ≤ w.pwm_own + (st.k - 1)))
     → Stale cost edge x' w
 pwm_on cost x x' m d s t edge tick v w l at p i st some wr early good old back =
     let b = bounds_on cost edge x x' tick (st.c + st.k) (st.c + (st.k - 1)) (omega arith) at i.next (record { by_next = st.by_next; by_edge = st.by_edge }) in
@@ -253,8 +265,10 @@ pwm_on cost x x' m d s t edge tick v w l at p i st some wr early good old back =
       by_edge = b.by_edge;
     }
 
-own_on : (cost x x' m d s t edge tick : ℕ) (v w : View) (l : Bool) → IsEdge m d edge → 1 ≤ cost → edge ≤ tick → (tick ≤ x) ⊎ (tick ≤ edge) → Placed cost x v → Within cost x x' m d s t v (PwmSteps l) tick w → (st : Stale cost edge x v)
-    → OwnFirst v.pwm_own tick v.sampled v.wrote w.sampled w.wrote ⊎ (OwnWrites v.pwm_own tick v.sampled v.wrote w.sampled w.wrote ⊎ OwnOther v.pwm_own tick v.sampled v.wrote w.sampled w.wrote)
+own_on : (cost x x' m d s t edge tick : ℕ) (v w : View) (l : Bool) → IsEdge m d edge → 1 ≤ cost → edge ≤ tick → (tick ≤ x) ⊎ (tick ≤ edge) → Placed cost x v
+    → Within cost x x' m d s t v (PwmSteps l) tick w → (st : Stale cost edge x v)
+    → OwnFirst v.pwm_own tick v.sampled v.wrote w.sampled w.wrote ⊎ (OwnWrites v.pwm_own tick v.sampled v.wrote w.sampled w.wrote
+    ⊎ OwnOther v.pwm_own tick v.sampled v.wrote w.sampled w.wrote)
     → Next cost edge x' m d s t w
 own_on cost x x' m d s t edge tick v w l is one ge at p i st (inl h) =
     let n = h.is in let o : w.pwm_own ≡ v.pwm_own + 1 = i.same.pwm_own in let sa = h.sampled in
@@ -300,7 +314,8 @@ own_on cost x x' m d s t edge tick v w l is one ge at p i st (inr (inr h)) =
       ]
     ]
 
-pub stale_on : (cost x x' m d s t edge tick : ℕ) (v w : View) (by : By) → 0 < d → d ≤ 1900 → IsEdge m d edge → 1 ≤ cost → edge ≤ tick → (tick ≤ x) ⊎ (tick ≤ edge) → Placed cost x v → Within cost x x' m d s t v by tick w → Stale cost edge x v
+pub stale_on : (cost x x' m d s t edge tick : ℕ) (v w : View) (by : By) → 0 < d → d ≤ 1900 → IsEdge m d edge → 1 ≤ cost → edge ≤ tick → (tick ≤ x)
+    ⊎ (tick ≤ edge) → Placed cost x v → Within cost x x' m d s t v by tick w → Stale cost edge x v
     → Next cost edge x' m d s t w
 stale_on cost x x' m d s t edge tick v w CommEnters some small is one ge at p i st = absurd (i.none_enters refl)
 stale_on cost x x' m d s t edge tick v w (CommSteps l) some small is one ge at p i st = inl (comm_on cost x x' m d s t edge tick v w l some small is ge at i st)

@@ -1,5 +1,5 @@
 -- `Chopped` of what stands where a write failed, and of a journal without a drive.
-use Rattle.std.proofs.Common.{◌≡◌, ◌≤◌, ◌<◌, ◌+◌, ◌-◌, ◌*◌, ℕ, Bool, true, false, if◌then◌else◌, nat_le, List, [], ◌∷◌, ◌++◌, reverse, refl, sym, ◌∙◌, ap, subst, arith, inl, inr, append_assoc, append-nil, All}
+use Rattle.std.proofs.Common.{◌≡◌, ◌≤◌, ◌<◌, ◌+◌, ◌-◌, ◌*◌, ℕ, Bool, true, false, if◌then◌else◌, nat_le, List, [], ◌∷◌, ◌++◌, reverse, refl, sym, ◌∙◌, ap, arith, inl, inr, append_assoc, append-nil, All}
 use Rattle.std.proofs.lemmas.List.{reverse-append}
 use Rattle.std.proofs.lemmas.List.Elements.{All-head, All-tail, All-nil, All-cons, All-append, All-weaker}
 use Rattle.std.proofs.lemmas.Bool.{cases_lt}
@@ -13,11 +13,8 @@ use Rattle.settings_block.specs.declared.stored.Loaded.{Loaded}
 use Rattle.interrupt_machine.specs.declared.nest.Nest.{Nest}
 use Rattle.arming.specs.ControlAt.{demand_at}
 use Rattle.commutation.specs.Commutated.{sector_at}
-use Rattle.commutation.specs.Sectors.{high_of, low_of}
-use Rattle.esc_base.specs.Legs.{is_on}
-use Rattle.gate_driver.specs.DeadSafe.{high_at, low_at, low_free_at}
 use Rattle.esc_laws.specs.Steps.{Turned, opening, load_number, notes_in, journal, Below, EachStep, StepFits}
-use Rattle.esc_laws.specs.Chopped.{upto, by_tick, disturbs, Undisturbed, IsChopped, Chopped}
+use Rattle.esc_laws.specs.Chopped.{upto, by_tick, disturbs, Undisturbed, Chopped}
 use Rattle.esc_laws.proofs.Notes.{all_front}
 
 le_is : (m n : ℕ) → m ≤ n → nat_le m n ≡ true
@@ -79,13 +76,15 @@ chopped_on : (cost : ℕ) (trace : List Event) (until : ℕ) (notes front : List
     → All (λ n. time_of n < until) notes → All (λ n. time_of n ≡ until) front → Chopped cost trace until notes → Chopped cost trace until (notes ++ front)
 chopped_on cost trace until notes front below at c p d y = record {
   high_on = λ t lt late by.
-      rw (front_tick t until notes front lt at, sector_is t lt late) ((c p d (undisturbed_before cost trace until p d t notes front lt late below at y)).high_on t lt late by);
+      rw (front_tick t until notes front lt at, sector_is t lt late)
+          ((c p d (undisturbed_before cost trace until p d t notes front lt late below at y)).high_on t lt late by);
   high_off = λ t lt late by.
       let since : p + 48 * cost ≤ t = omega arith in
       rw (front_tick t until notes front lt at, sector_is t lt since)
       ((c p d (undisturbed_before cost trace until p d t notes front lt since below at y)).high_off t lt late by);
   low_on = λ t lt late by.
-      rw (front_tick t until notes front lt at, sector_is t lt late) ((c p d (undisturbed_before cost trace until p d t notes front lt late below at y)).low_on t lt late by);
+      rw (front_tick t until notes front lt at, sector_is t lt late)
+          ((c p d (undisturbed_before cost trace until p d t notes front lt late below at y)).low_on t lt late by);
   other_low_off = λ t lt late by.
       rw (front_tick t until notes front lt at, sector_is t lt late)
       ((c p d (undisturbed_before cost trace until p d t notes front lt late below at y)).other_low_off t lt late by);

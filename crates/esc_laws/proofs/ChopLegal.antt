@@ -1,5 +1,5 @@
 -- From the laws of a log to `Chopped` of its journal.
-use Rattle.std.proofs.Common.{◌≡◌, ◌≢◌, ◌≤◌, ◌<◌, ◌+◌, ◌%◌, ℕ, Bool, true, false, not, ◌&&◌, ◌==◌, if◌then◌else◌, nat_le, List, [], ◌∷◌, ◌++◌, reverse, refl, sym, ◌∙◌, ap, subst, arith, append_assoc, append-nil, All}
+use Rattle.std.proofs.Common.{◌≡◌, ◌≢◌, ◌≤◌, ◌<◌, ◌+◌, ℕ, Bool, true, false, not, ◌==◌, if◌then◌else◌, nat_le, List, [], ◌∷◌, ◌++◌, reverse, refl, sym, ◌∙◌, ap, subst, arith, append-nil, All}
 use Rattle.std.specs.List.{fold}
 use Rattle.std.proofs.lemmas.List.{reverse-append}
 use Rattle.std.proofs.lemmas.List.Elements.{All-head, All-tail}
@@ -18,21 +18,18 @@ use Rattle.esc_base.specs.Numbers.{kind_number}
 use Rattle.esc_base.specs.Range.{InRange}
 use Rattle.settings_block.specs.declared.stored.Loaded.{Loaded}
 use Rattle.interrupt_machine.specs.declared.nest.Nest.TheVariants.{Full}
-use Rattle.arming.specs.ControlAt.{demand_at}
 use Rattle.arming.proofs.InOrder.{each_front, each_rest}
 use Rattle.commutation.specs.Sectors.{high_of, low_of}
-use Rattle.commutation.specs.Commutated.{sector_at}
-use Rattle.gate_driver.specs.DeadSafe.{high_at, low_at, low_free_at}
 use Rattle.gate_driver.specs.Gated.{at_leg}
 use Rattle.esc_laws.specs.Driven.{IsDriven, Driven}
 use Rattle.esc_laws.specs.Rooms.{TurnWaits}
-use Rattle.esc_laws.specs.Calls.{calls_pwm, calls_turn, calls_low}
+use Rattle.esc_laws.specs.Calls.{calls_turn, calls_low}
 use Rattle.esc_laws.specs.Steps.{Turned, opening, notes_in, journal, own_steps, ReturnsLast, EachStep, StepFits, Awaits}
-use Rattle.esc_laws.specs.World.{Made, none_made, made_next, made}
+use Rattle.esc_laws.specs.World.{Made, made_next, made}
 use Rattle.esc_laws.specs.ChopSteps.{told, ChopFits}
-use Rattle.esc_laws.specs.ChopView.{View, view, noted, moved, turned, by_of, by_kind, leaves}
-use Rattle.esc_laws.specs.ChopView.By.{CommEnters, CommSteps, PwmEnters, PwmSteps, Lower}
-use Rattle.esc_laws.specs.ChopLaws.{is_quiet, is_comm_step, may_chop, DriveFits}
+use Rattle.esc_laws.specs.ChopView.{View, view, noted, moved, by_of, by_kind, leaves}
+use Rattle.esc_laws.specs.ChopView.By.{PwmSteps}
+use Rattle.esc_laws.specs.ChopLaws.{is_quiet, is_comm_step, DriveFits}
 use Rattle.esc_laws.specs.ChopPairs.{NoteFits, InPair, EachNote, PairFits}
 use Rattle.esc_laws.specs.ChopBridge.{OneBack, BridgeFits, SeesDrive}
 use Rattle.esc_laws.specs.Chopped.{Chopped}
@@ -246,16 +243,20 @@ pairs_from loaded before (e ∷ rest) d w r p =
     (each_front DrivenRule (journal loaded before) e.notes (notes_in rest) d) (each_front WaitsRule (journal loaded before) e.notes (notes_in rest) w)
     (all_front InRange e.notes (notes_in rest) r) (pair_moved (view before) e.kind e.enters (leaves e.notes) e.tick p) in
     let next : InPair (view (before ++ e ∷ [])) =
-    subst InPair (sym (view-push before e)) (record { high = one.after.high; low = one.after.low; sector = one.after.sector }) in
-    (
+    subst InPair (sym (view-push before e)) (record { high = one.after.high; low = one.after.low; sector = one.after.sector }) in (
       one.each,
       pairs_from loaded (before ++ e ∷ []) rest (rw (journal-push loaded before e) (each_rest DrivenRule (journal loaded before) e.notes (notes_in rest) d))
-      (rw (journal-push loaded before e) (each_rest WaitsRule (journal loaded before) e.notes (notes_in rest) w))
-      (all_rest e.notes (notes_in rest) r) next,
+          (rw (journal-push loaded before e) (each_rest WaitsRule (journal loaded before) e.notes (notes_in rest) w))
+          (all_rest e.notes (notes_in rest) r) next,
     )
 
 start_pair : InPair (view [])
-start_pair = rw view-none (record { high = λ x on. absurd (let z : false ≡ true = sym (none_on x) ∙ on in cc); low = λ x on. absurd (let z : false ≡ true = sym (none_on x) ∙ on in cc); sector = omega arith })
+start_pair = rw view-none (record {
+  high = λ x on. absurd (let z : false ≡ true = sym (none_on x) ∙ on in cc);
+  low =
+      λ x on. absurd (let z : false ≡ true = sym (none_on x) ∙ on in cc);
+  sector = omega arith;
+})
 
 -- ---- the whole log
 

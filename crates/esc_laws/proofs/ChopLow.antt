@@ -27,15 +27,18 @@ le_is : (m n : ℕ) → m ≤ n → nat_le m n ≡ true
 le_is m n l = grind (arith, nat_tests)
 
 -- an off low switch calls COMM
-low_calls : (d s f t : ℕ) (v : View) → 0 < d → v.demand ≡ d → v.sector ≡ s → is_on v.lo (low_of s) ≡ false → at_leg v.hi_free (low_of s) ≤ f → f ≤ t → v.comm ≡ false → comm_called v t ≡ true
+low_calls : (d s f t : ℕ) (v : View) → 0 < d → v.demand ≡ d → v.sector ≡ s → is_on v.lo (low_of s) ≡ false → at_leg v.hi_free (low_of s) ≤ f → f ≤ t
+    → v.comm ≡ false → comm_called v t ≡ true
 low_calls d s f t v some e h off free le shut =
     rw (lt_is 0 v.demand (omega arith), h, off, le_is (at_leg v.hi_free (low_of s)) t (omega arith), shut) refl
 
 both_called : (b a : Bool) (w : ℕ) → b ≡ true → a ≡ true → wait_next b a true w ≡ w + 1
 both_called b a w e f = rw (e, f) refl
 
-waits_after : (before : List Turned) (e : Turned) → (view (before ++ e ∷ [])).comm_waits ≡ wait_next (comm_called (view before) e.tick) (comm_called (view (before ++ e ∷ [])) e.tick) true (view before).comm_waits
-waits_after before e = subst (λ (w : View). w.comm_waits ≡ wait_next (comm_called (view before) e.tick) (comm_called w e.tick) true (view before).comm_waits) (sym (view-push before e)) refl
+waits_after : (before : List Turned) (e : Turned) → (view (before ++ e ∷ [])).comm_waits ≡ wait_next (comm_called (view before) e.tick)
+    (comm_called (view (before ++ e ∷ [])) e.tick) true (view before).comm_waits
+waits_after before e = subst (λ (w : View). w.comm_waits ≡ wait_next (comm_called (view before) e.tick) (comm_called w e.tick) true (view before).comm_waits)
+    (sym (view-push before e)) refl
 
 less : (cost n m : ℕ) → n + 1 ≤ m → n * cost + cost ≤ m * cost
 less cost n m le = let l : (n + 1) * cost ≤ m * cost = mul-le (n + 1) cost m cost le (omega arith) in omega (arith, l)
@@ -59,14 +62,16 @@ not_comm v PwmEnters turn e = refl
 not_comm v (PwmSteps l) turn e = refl
 not_comm v Lower turn e = refl
 
-module _ (cost : ℕ) (trace : List Event) (log : List Turned) (m d s until t : ℕ) (one : 1 ≤ cost) (few : cost ≤ 16) (u : Calm cost trace log m d s) (in_period : t < 2000 * m + 2000) (below : t < until) (late : 2000 * m + 48 * cost ≤ t) where
+module _ (cost : ℕ) (trace : List Event) (log : List Turned) (m d s until t : ℕ) (one : 1 ≤ cost) (few : cost ≤ 16) (u : Calm cost trace log m d s)
+    (in_period : t < 2000 * m + 2000) (below : t < until) (late : 2000 * m + 48 * cost ≤ t) where
   free_in : (y : ℕ) → 2000 * m ≤ y → y < 2000 * m + 2000 → free trace y ≡ y
   free_in y a b = free_same trace (2000 * m - 48 * cost) (2000 * m + 1999) y u.stalls (omega arith) (omega arith)
 
   -- an open COMM returns within 24 steps
   pub record Before (before : List Turned) : Type 0 where
     pub c : ℕ
-    pub left : (view before).comm ≡ true → (24 ≤ (view before).comm_own + c) × (after cost trace before + c * cost < 2000 * m + 25 * cost) × (c * cost < 25 * cost)
+    pub left : (view before).comm ≡ true → (24 ≤ (view before).comm_own + c) × (after cost trace before + c * cost < 2000 * m + 25 * cost)
+        × (c * cost < 25 * cost)
     pub soon : after cost trace before < 2000 * m + 40 * cost
 
   -- the low switch is off, and calls COMM
@@ -91,8 +96,10 @@ module _ (cost : ℕ) (trace : List Event) (log : List Turned) (m d s until t : 
     pub sector : (view before).sector ≡ s
     pub low_free : at_leg (view before).hi_free (low_of s) ≤ 2000 * m + 39
 
-  inside : (w : ℕ) (before rest : List Turned) → log ≡ before ++ rest → AllBy w before → FirstAbove w rest → 2000 * m ≤ w + 1 → w < 2000 * m + 2000 → Inside w before
-  inside w before rest e b f lo hi = named (subst (λ (v : View). (v.demand ≡ d) × (v.sector ≡ s) × (at_leg v.hi_free (low_of s) ≤ 2000 * m + 39)) (at_split w log before rest e b f) (u.demand w (omega arith) hi, u.sector w lo hi, u.low_free w lo hi))
+  inside : (w : ℕ) (before rest : List Turned) → log ≡ before ++ rest → AllBy w before → FirstAbove w rest → 2000 * m ≤ w + 1 → w < 2000 * m + 2000
+      → Inside w before
+  inside w before rest e b f lo hi = named (subst (λ (v : View). (v.demand ≡ d) × (v.sector ≡ s) × (at_leg v.hi_free (low_of s) ≤ 2000 * m + 39))
+      (at_split w log before rest e b f) (u.demand w (omega arith) hi, u.sector w lo hi, u.low_free w lo hi))
     where
       named : ((view before).demand ≡ d) × ((view before).sector ≡ s) × (at_leg (view before).hi_free (low_of s) ≤ 2000 * m + 39) → Inside w before
       named h = record { demand = h.0; sector = h.1; low_free = h.2 }
@@ -101,11 +108,13 @@ module _ (cost : ℕ) (trace : List Event) (log : List Turned) (m d s until t : 
   State before = Before before ⊎ ((2000 * m + 39 * cost ≤ after cost trace before) × (Waiting before ⊎ Done before))
 
   -- an open COMM passes no tick
-  open_passes : (before : List Turned) (z y : ℕ) → NonePassed cost trace before z → (view before).comm ≡ true → after cost trace before ≤ y → 2000 * m ≤ y → y < z → y < 2000 * m + 2000 → ⊥
+  open_passes : (before : List Turned) (z y : ℕ) → NonePassed cost trace before z → (view before).comm ≡ true → after cost trace before ≤ y → 2000 * m ≤ y
+      → y < z → y < 2000 * m + 2000 → ⊥
   open_passes before z y none o a b c f = let r = (none y a c (free_in y b f)).comm in cc
 
   -- so it is shut by then
-  shut_by : (before : List Turned) (z : ℕ) → NonePassed cost trace before z → 2000 * m + 39 * cost ≤ z → Before before → (v : Bool) → (view before).comm ≡ v → (view before).comm ≡ false
+  shut_by : (before : List Turned) (z : ℕ) → NonePassed cost trace before z → 2000 * m + 39 * cost ≤ z → Before before → (v : Bool) → (view before).comm ≡ v
+      → (view before).comm ≡ false
   shut_by before z none le b false e = e
   shut_by before z none le b true e =
       let l : after cost trace before + b.c * cost < 2000 * m + 25 * cost = (b.left e).1 in
@@ -115,7 +124,8 @@ module _ (cost : ℕ) (trace : List Event) (log : List Turned) (m d s until t : 
       ])
 
   -- the low switch is on then, or calls COMM
-  settled : (before : List Turned) → Before before → (view before).comm ≡ false → (v : Bool) → is_on (view before).lo (low_of s) ≡ v → Waiting before ⊎ Done before
+  settled : (before : List Turned) → Before before → (view before).comm ≡ false → (v : Bool) → is_on (view before).lo (low_of s) ≡ v → Waiting before
+      ⊎ Done before
   settled before b shut true e = inr (record { on = e; shut = shut })
   settled before b shut false e = inl (record {
     x = after cost trace before;
@@ -129,14 +139,16 @@ module _ (cost : ℕ) (trace : List Event) (log : List Turned) (m d s until t : 
     shut = shut;
   })
 
-  wait_passes : (before : List Turned) (z y w : ℕ) → NonePassed cost trace before z → Inside w before → (i : Waiting before) → i.x ≤ y → 2000 * m + 39 * cost ≤ y → y < z → y < 2000 * m + 2000 → ⊥
+  wait_passes : (before : List Turned) (z y w : ℕ) → NonePassed cost trace before z → Inside w before → (i : Waiting before) → i.x ≤ y
+      → 2000 * m + 39 * cost ≤ y → y < z → y < 2000 * m + 2000 → ⊥
   wait_passes before z y w none n i a b c f =
       let same : after cost trace before ≡ i.x = i.same (omega arith) in
       let call = low_calls d s (2000 * m + 39) y (view before) u.drives n.demand n.sector i.off n.low_free (omega arith) i.shut in
       let r = (none y (omega arith) c (free_in y (omega arith) f)).comm_called in cc
 
   -- it doesn't wait for long
-  wait_ends : (before : List Turned) (z w : ℕ) → NonePassed cost trace before z → Inside w before → Placed cost (after cost trace before) (view before) → t < z → Waiting before → ⊥
+  wait_ends : (before : List Turned) (z w : ℕ) → NonePassed cost trace before z → Inside w before → Placed cost (after cost trace before) (view before)
+      → t < z → Waiting before → ⊥
   wait_ends before z w none n p l i =
       let some : 1 ≤ i.r = (let a = p.comm_patient in let b = i.counts in omega arith) in
       let g : 1 * cost ≤ i.r * cost = mul-le 1 cost i.r cost some (omega arith) in
@@ -146,7 +158,8 @@ module _ (cost : ℕ) (trace : List Event) (log : List Turned) (m d s until t : 
         | inr ge ↦ wait_passes before z i.x w none n i (omega arith) ge (omega (arith, g)) (omega (arith, g))
       ]
 
-  at_next : (before : List Turned) (z w : ℕ) → NonePassed cost trace before z → Inside w before → (i : Waiting before) → z ≤ t → (z ≤ i.x) ⊎ (z ≤ 2000 * m + 39 * cost)
+  at_next : (before : List Turned) (z w : ℕ) → NonePassed cost trace before z → Inside w before → (i : Waiting before) → z ≤ t → (z ≤ i.x)
+      ⊎ (z ≤ 2000 * m + 39 * cost)
   at_next before z w none n i le = elim (cases_lt i.x z) [
     | inr a ↦ inl a
     | inl a ↦ elim (cases_lt (2000 * m + 39 * cost) z) [
@@ -164,30 +177,39 @@ module _ (cost : ℕ) (trace : List Event) (log : List Turned) (m d s until t : 
     pub inside_after : Inside e.tick (before ++ e ∷ [])
     pub none_enters : by_of e ≡ CommEnters → ⊥
 
-  steps : (before rest : List Turned) (e : Turned) → log ≡ before ++ (e ∷ rest) → EachStep (StepFits cost trace) before (e ∷ rest) → NoComm (2000 * m) before e → Past cost trace before → 2000 * m ≤ e.tick → e.tick ≤ t → Steps before e
+  steps : (before rest : List Turned) (e : Turned) → log ≡ before ++ (e ∷ rest) → EachStep (StepFits cost trace) before (e ∷ rest)
+      → NoComm (2000 * m) before e → Past cost trace before → 2000 * m ≤ e.tick → e.tick ≤ t → Steps before e
   steps before rest e h f none past ge le =
       let later = f.0.later in
       let w : ℕ = e.tick - 1 in
       let up : w + 1 ≡ e.tick = (let a = u.later in omega arith) in
-      let later' : e.tick < after cost trace (before ++ e ∷ []) = (let a = free_later trace (e.tick + cost) in rw (after-push cost trace before e) (omega arith)) in
+      let later' : e.tick < after cost trace (before ++ e ∷ []) = (let a =
+      free_later trace (e.tick + cost) in rw (after-push cost trace before e) (omega arith)) in
       record {
         inside = inside w before (e ∷ rest) h (past w (omega arith)) (omega arith) (omega arith) (omega arith);
-        inside_after = inside e.tick (before ++ e ∷ []) rest (split_on log before rest e h) (by-push e.tick before e (past e.tick (omega arith)) (omega arith)) (first_above cost trace (before ++ e ∷ []) rest e.tick later' f.1) (omega arith) (omega arith);
+        inside_after = inside e.tick (before ++ e ∷ []) rest (split_on log before rest e h)
+            (by-push e.tick before e (past e.tick (omega arith)) (omega arith)) (first_above cost trace (before
+            ++ e ∷ []) rest e.tick later' f.1) (omega arith) (omega arith);
         none_enters = none ge (omega arith);
       }
 
-  comm_left : (before : List Turned) (e : Turned) → IsTurn (view before) (by_of e) → (by_of e ≡ CommEnters → ⊥) → CommLeft (view before) (view (before ++ e ∷ []))
+  comm_left : (before : List Turned) (e : Turned) → IsTurn (view before) (by_of e) → (by_of e ≡ CommEnters → ⊥)
+      → CommLeft (view before) (view (before ++ e ∷ []))
   comm_left before e turn none =
       let c = moved_comm (view before) e.tick (by_of e) turn none in let same = same_after before e in
       record { shut = λ a. same.comm ∙ c.shut a; more = λ a. (let b = c.more a in (same.comm_own ∙ b.0, b.1)) }
 
   -- a step before p + 39 cost
-  early_step : (before rest : List Turned) (e : Turned) → log ≡ before ++ (e ∷ rest) → EachStep (StepFits cost trace) before (e ∷ rest) → NoComm (2000 * m) before e → Past cost trace before → e.tick < 2000 * m + 39 * cost → e.tick ≤ t → Before before → Before (before ++ e ∷ [])
+  early_step : (before rest : List Turned) (e : Turned) → log ≡ before ++ (e ∷ rest) → EachStep (StepFits cost trace) before (e ∷ rest)
+      → NoComm (2000 * m) before e → Past cost trace before → e.tick < 2000 * m + 39 * cost → e.tick ≤ t → Before before → Before (before ++ e ∷ [])
   early_step before rest e h f none past lt le b = elim (cases_lt e.tick (2000 * m)) [
     | inl l ↦ (
-        let x : after cost trace (before ++ e ∷ []) < 2000 * m + cost = rw (after-push cost trace before e) (elim (cases_lt (e.tick + cost) (2000 * m - 48 * cost)) [
-          | inl q ↦ (let a : free trace (e.tick + cost) ≤ 2000 * m - 48 * cost = free_low trace (2000 * m - 48 * cost) (2000 * m + 1999) (e.tick + cost) u.stalls (omega arith) (omega arith) in omega arith)
-          | inr g ↦ (let a : free trace (e.tick + cost) ≡ e.tick + cost = free_same trace (2000 * m - 48 * cost) (2000 * m + 1999) (e.tick + cost) u.stalls g (omega arith) in omega arith)
+        let x : after cost trace (before ++ e ∷ []) < 2000 * m + cost =
+        rw (after-push cost trace before e) (elim (cases_lt (e.tick + cost) (2000 * m - 48 * cost)) [
+          | inl q ↦ (let a : free trace (e.tick + cost) ≤ 2000 * m - 48 * cost =
+              free_low trace (2000 * m - 48 * cost) (2000 * m + 1999) (e.tick + cost) u.stalls (omega arith) (omega arith) in omega arith)
+          | inr g ↦ (let a : free trace (e.tick + cost) ≡ e.tick + cost =
+              free_same trace (2000 * m - 48 * cost) (2000 * m + 1999) (e.tick + cost) u.stalls g (omega arith) in omega arith)
         ]) in
         record { c = 24; left = λ o. (omega arith, omega arith, omega arith); soon = omega arith })
     | inr ge ↦ (
@@ -212,7 +234,8 @@ module _ (cost : ℕ) (trace : List Event) (log : List Turned) (m d s until t : 
         })
   ]
     where
-      was_open : (v : Bool) → (view before).comm ≡ v → CommLeft (view before) (view (before ++ e ∷ [])) → (view (before ++ e ∷ [])).comm ≡ true → (view before).comm ≡ true
+      was_open : (v : Bool) → (view before).comm ≡ v → CommLeft (view before) (view (before ++ e ∷ [])) → (view (before ++ e ∷ [])).comm ≡ true
+          → (view before).comm ≡ true
       was_open true q cl o = q
       was_open false q cl o = absurd (let a = cl.shut q in cc)
 
@@ -228,13 +251,15 @@ module _ (cost : ℕ) (trace : List Event) (log : List Turned) (m d s until t : 
         ]
       ]
 
-      goes : (tick : ℕ) → (b.c - 1) * cost + cost ≤ b.c * cost → (tick ≤ after cost trace before) ⊎ (tick ≤ 2000 * m) → after cost trace before + b.c * cost < 2000 * m + 25 * cost → b.c * cost < 25 * cost → after cost trace (before ++ e ∷ []) ≡ tick + cost
+      goes : (tick : ℕ) → (b.c - 1) * cost + cost ≤ b.c * cost → (tick ≤ after cost trace before) ⊎ (tick ≤ 2000 * m)
+          → after cost trace before + b.c * cost < 2000 * m + 25 * cost → b.c * cost < 25 * cost → after cost trace (before ++ e ∷ []) ≡ tick + cost
           → after cost trace (before ++ e ∷ []) + (b.c - 1) * cost < 2000 * m + 25 * cost
       goes tick l (inl a) q z x = omega arith
       goes tick l (inr a) q z x = omega arith
 
   -- a step from p + 39 cost on
-  late_step : (before rest : List Turned) (e : Turned) → log ≡ before ++ (e ∷ rest) → EachStep (StepFits cost trace) before (e ∷ rest) → DriveFits before e → NoComm (2000 * m) before e → Past cost trace before → 2000 * m + 39 * cost ≤ e.tick → e.tick ≤ t
+  late_step : (before rest : List Turned) (e : Turned) → log ≡ before ++ (e ∷ rest) → EachStep (StepFits cost trace) before (e ∷ rest) → DriveFits before e
+      → NoComm (2000 * m) before e → Past cost trace before → 2000 * m + 39 * cost ≤ e.tick → e.tick ≤ t
       → Placed cost (after cost trace before) (view before) → Waiting before ⊎ Done before → Waiting (before ++ e ∷ []) ⊎ Done (before ++ e ∷ [])
   late_step before rest e h f g none past ge le p st =
       let s' = steps before rest e h f none past (omega arith) le in
@@ -242,7 +267,8 @@ module _ (cost : ℕ) (trace : List Event) (log : List Turned) (m d s until t : 
       let dm = s'.inside.demand in let some : 0 < (view before).demand = (let a = u.drives in omega arith) in
       by_state s' cl some st
     where
-      by_state : Steps before e → CommLeft (view before) (view (before ++ e ∷ [])) → 0 < (view before).demand → Waiting before ⊎ Done before → Waiting (before ++ e ∷ []) ⊎ Done (before ++ e ∷ [])
+      by_state : Steps before e → CommLeft (view before) (view (before ++ e ∷ [])) → 0 < (view before).demand → Waiting before ⊎ Done before
+          → Waiting (before ++ e ∷ []) ⊎ Done (before ++ e ∷ [])
       by_state s' cl some (inr y) =
           let same = g.quiet_low some (not_comm (view before) (by_of e) f.0.turn y.shut) in
           inr (record { on = rw same y.on; shut = cl.shut y.shut })
@@ -252,7 +278,8 @@ module _ (cost : ℕ) (trace : List Event) (log : List Turned) (m d s until t : 
           let n = s'.inside in let n' = s'.inside_after in
           let c1 = low_calls d s (2000 * m + 39) e.tick (view before) u.drives n.demand n.sector i.off n.low_free (omega arith) i.shut in
           let c2 = low_calls d s (2000 * m + 39) e.tick (view (before ++ e ∷ [])) u.drives n'.demand n'.sector off n'.low_free (omega arith) (cl.shut i.shut) in
-          let more : (view (before ++ e ∷ [])).comm_waits ≡ (view before).comm_waits + 1 = waits_after before e ∙ both_called (comm_called (view before) e.tick) (comm_called (view (before ++ e ∷ [])) e.tick) (view before).comm_waits c1 c2 in
+          let more : (view (before ++ e ∷ [])).comm_waits ≡ (view before).comm_waits + 1 = waits_after before e
+          ∙ both_called (comm_called (view before) e.tick) (comm_called (view (before ++ e ∷ [])) e.tick) (view before).comm_waits c1 c2 in
           let pat = p.comm_patient in
           let co = i.counts in
           let at = at_next before e.tick (e.tick - 1) f.0.none_passed n i le in
@@ -269,11 +296,13 @@ module _ (cost : ℕ) (trace : List Event) (log : List Turned) (m d s until t : 
             shut = cl.shut i.shut;
           })
         where
-          goes : (tick x r r' : ℕ) → r * cost + cost ≤ r' * cost → (tick ≤ x) ⊎ (tick ≤ 2000 * m + 39 * cost) → x + r' * cost < 2000 * m + 49 * cost → r' * cost < 10 * cost → tick + cost + r * cost < 2000 * m + 49 * cost
+          goes : (tick x r r' : ℕ) → r * cost + cost ≤ r' * cost → (tick ≤ x) ⊎ (tick ≤ 2000 * m + 39 * cost) → x + r' * cost < 2000 * m + 49 * cost
+              → r' * cost < 10 * cost → tick + cost + r * cost < 2000 * m + 49 * cost
           goes tick x r r' l (inl a) q z = omega arith
           goes tick x r r' l (inr a) q z = omega arith
 
-  pub low_run : (before rest : List Turned) → log ≡ before ++ rest → EachStep (StepFits cost trace) before rest → EachStep DriveFits before rest → EachStep (NoComm (2000 * m)) before rest → NonePassed cost trace log until → Past cost trace before
+  pub low_run : (before rest : List Turned) → log ≡ before ++ rest → EachStep (StepFits cost trace) before rest → EachStep DriveFits before rest
+      → EachStep (NoComm (2000 * m)) before rest → NonePassed cost trace log until → Past cost trace before
       → Placed cost (after cost trace before) (view before) → AllBy t before → State before → is_on (at_tick t log).lo (low_of s) ≡ true
   low_run before [] h f g none made past p all st =
       subst (λ (v : View). is_on v.lo (low_of s) ≡ true) (sym (at_split t log before [] h all tt)) (ends st)
@@ -293,7 +322,8 @@ module _ (cost : ℕ) (trace : List Event) (log : List Turned) (m d s until t : 
       ends (inr (a, y)) = by y
   low_run before (e ∷ rest) h f g none made past p all st = elim (cases_lt t e.tick) [
     | inl lt ↦ subst (λ (v : View). is_on v.lo (low_of s) ≡ true) (sym (at_split t log before (e ∷ rest) h all lt)) (ends lt st)
-    | inr le ↦ low_run (before ++ e ∷ []) rest (split_on log before rest e h) f.1 g.1 none.1 made (past_on cost trace before e one f.0.later past) (placed_on cost trace before e f.0 p) (by-push t before e all le) (goes le st)
+    | inr le ↦ low_run (before ++ e ∷ []) rest (split_on log before rest e h) f.1 g.1 none.1 made (past_on cost trace before e one f.0.later past)
+        (placed_on cost trace before e f.0 p) (by-push t before e all le) (goes le st)
   ]
     where
       by : t < e.tick → Waiting before ⊎ Done before → is_on (view before).lo (low_of s) ≡ true
@@ -301,7 +331,8 @@ module _ (cost : ℕ) (trace : List Event) (log : List Turned) (m d s until t : 
       by lt (inr y) = y.on
 
       ends : t < e.tick → State before → is_on (view before).lo (low_of s) ≡ true
-      ends lt (inl b) = by lt (settled before b (shut_by before e.tick f.0.none_passed (omega arith) b (view before).comm refl) (is_on (view before).lo (low_of s)) refl)
+      ends lt (inl b) = by lt (settled before b (shut_by before e.tick f.0.none_passed (omega arith) b (view before).comm refl)
+          (is_on (view before).lo (low_of s)) refl)
       ends lt (inr (a, y)) = by lt y
 
       above : 2000 * m + 39 * cost ≤ e.tick → 2000 * m + 39 * cost ≤ after cost trace (before ++ e ∷ [])
@@ -310,7 +341,11 @@ module _ (cost : ℕ) (trace : List Event) (log : List Turned) (m d s until t : 
       goes : e.tick ≤ t → State before → State (before ++ e ∷ [])
       goes le (inl b) = elim (cases_lt e.tick (2000 * m + 39 * cost)) [
         | inl l ↦ inl (early_step before rest e h f none.0 past l le b)
-        | inr ge ↦ inr (above ge, late_step before rest e h f g.0 none.0 past ge le p (settled before b (shut_by before e.tick f.0.none_passed ge b (view before).comm refl) (is_on (view before).lo (low_of s)) refl))
+        | inr ge ↦ inr (
+          above ge,
+          late_step before rest e h f g.0 none.0 past ge le p
+              (settled before b (shut_by before e.tick f.0.none_passed ge b (view before).comm refl) (is_on (view before).lo (low_of s)) refl),
+        )
       ]
       goes le (inr (a, y)) =
           let l : after cost trace before ≤ e.tick = f.0.later in

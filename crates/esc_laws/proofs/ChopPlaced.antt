@@ -71,10 +71,12 @@ pub record OwnOther (n t s w s' w' : ℕ) : Type 0 where
   pub sampled : s' ≡ s
   pub wrote : w' ≡ w
 
-pub own_cases : (n t s w : ℕ) → OwnFirst n t s w (if n == 1 then t else s) (if n == 4 then s else w) ⊎ (OwnWrites n t s w (if n == 1 then t else s) (if n == 4 then s else w) ⊎ OwnOther n t s w (if n == 1 then t else s) (if n == 4 then s else w))
+pub own_cases : (n t s w : ℕ) → OwnFirst n t s w (if n == 1 then t else s) (if n == 4 then s else w)
+    ⊎ (OwnWrites n t s w (if n == 1 then t else s) (if n == 4 then s else w) ⊎ OwnOther n t s w (if n == 1 then t else s) (if n == 4 then s else w))
 own_cases n t s w = by_test (n == 1) (n == 4) refl refl
   where
-    by_test : (a b : Bool) → (n == 1) ≡ a → (n == 4) ≡ b → OwnFirst n t s w (if a then t else s) (if b then s else w) ⊎ (OwnWrites n t s w (if a then t else s) (if b then s else w) ⊎ OwnOther n t s w (if a then t else s) (if b then s else w))
+    by_test : (a b : Bool) → (n == 1) ≡ a → (n == 4) ≡ b → OwnFirst n t s w (if a then t else s) (if b then s else w)
+        ⊎ (OwnWrites n t s w (if a then t else s) (if b then s else w) ⊎ OwnOther n t s w (if a then t else s) (if b then s else w))
     by_test true true e f = absurd (grind (arith, nat_tests))
     by_test true false e f = inl (record { is = grind (arith, nat_tests); sampled = refl; wrote = refl })
     by_test false true e f = inr (inl (record { is = grind (arith, nat_tests); sampled = refl; wrote = refl }))
@@ -87,7 +89,8 @@ record OwnLeft (l : Bool) (v w : View) : Type 0 where
   entered : w.entered ≡ v.entered
 
 own_stands : (cost x x' t : ℕ) (l : Bool) (v w : View) → x ≤ t → t + cost ≤ x' → Stands cost x v → v.pwm ≡ true → (l ≡ true → 5 ≤ v.pwm_own + 1) → OwnLeft l v w
-    → OwnFirst v.pwm_own t v.sampled v.wrote w.sampled w.wrote ⊎ (OwnWrites v.pwm_own t v.sampled v.wrote w.sampled w.wrote ⊎ OwnOther v.pwm_own t v.sampled v.wrote w.sampled w.wrote)
+    → OwnFirst v.pwm_own t v.sampled v.wrote w.sampled w.wrote ⊎ (OwnWrites v.pwm_own t v.sampled v.wrote w.sampled w.wrote
+    ⊎ OwnOther v.pwm_own t v.sampled v.wrote w.sampled w.wrote)
     → Stands cost x' w
 own_stands cost x x' t l v w le nx st o all new (inl h) =
     let a = h.is in let b = h.sampled in let c = h.wrote in let n = new.own in let e = new.entered in
@@ -107,7 +110,8 @@ own_stands cost x x' t l v w le nx st o all new (inl h) =
     returned false e = cc
 own_stands cost x x' t l v w le nx st o all new (inr (inl h)) =
     let a = h.is in let b = h.sampled in let c = h.wrote in let n = new.own in let e = new.entered in
-    let se = st.entered in let ss = st.sampled in let sw = st.wrote in let sa : v.entered ≤ v.sampled = st.after_entry o (omega arith) in let sb : v.sampled + cost ≤ x = st.after_sample o (omega arith) in
+    let se = st.entered in let ss = st.sampled in let sw = st.wrote in let sa : v.entered ≤ v.sampled =
+    st.after_entry o (omega arith) in let sb : v.sampled + cost ≤ x = st.after_sample o (omega arith) in
     record {
       entered = omega arith;
       sampled = omega arith;
@@ -177,7 +181,8 @@ moved_stands cost x x' t v PwmEnters le nx turn st = record {
   shut = λ p. cc;
 }
 moved_stands cost x x' t v (PwmSteps l) le nx turn st =
-    own_stands cost x x' t l v (moved v (PwmSteps l) t) le nx st turn.is_open turn.all (record { pwm = refl; own = refl; entered = refl }) (own_cases v.pwm_own t v.sampled v.wrote)
+    own_stands cost x x' t l v (moved v (PwmSteps l) t) le nx st turn.is_open turn.all (record { pwm = refl; own = refl; entered = refl })
+    (own_cases v.pwm_own t v.sampled v.wrote)
 moved_stands cost x x' t v Lower le nx turn st = record {
   entered = let a = st.entered in omega arith;
   sampled = let a = st.sampled in omega arith;
@@ -189,7 +194,16 @@ moved_stands cost x x' t v Lower le nx turn st = record {
 }
 
 stands_of : (cost x : ℕ) (v : View) → Placed cost x v → Stands cost x v
-stands_of cost x v p = record { entered = p.entered; sampled = p.sampled; wrote = p.wrote; after_entry = p.after_entry; after_sample = p.after_sample; written = p.written; shut = p.shut }
+stands_of cost x v p = record {
+  entered = p.entered;
+  sampled = p.sampled;
+  wrote = p.wrote;
+  after_entry = p.after_entry;
+  after_sample =
+      p.after_sample;
+  written = p.written;
+  shut = p.shut;
+}
 
 moved_few : (v : View) (t : ℕ) (by : By) → IsTurn v by → v.pwm_own ≤ 12 → (moved v by t).pwm_own ≤ 12
 moved_few v t CommEnters turn le = le
@@ -201,10 +215,24 @@ moved_few v t Lower turn le = le
 next_few : (cost : ℕ) {x : ℕ} (v : View) (e : Turned) → IsTurn v (by_of e) → Placed cost x v → (view_next v e).pwm_own ≤ 12
 next_few cost v e turn p = let s = next_same v e in rw (s.pwm_own) (moved_few v e.tick (by_of e) turn p.few)
 
-pub next_placed : (cost x x' : ℕ) (v : View) (e : Turned) → x ≤ e.tick → e.tick + cost ≤ x' → IsTurn v (by_of e) → (view_next v e).pwm_waits ≤ 8 → (view_next v e).comm_waits ≤ 8 → Placed cost x v → Placed cost x' (view_next v e)
+pub next_placed : (cost x x' : ℕ) (v : View) (e : Turned) → x ≤ e.tick → e.tick + cost ≤ x' → IsTurn v (by_of e) → (view_next v e).pwm_waits ≤ 8
+    → (view_next v e).comm_waits ≤ 8 → Placed cost x v → Placed cost x' (view_next v e)
 next_placed cost x x' v e le nx turn a b p =
-    let st = still_stands cost x' x' (moved v (by_of e) e.tick) (view_next v e) (omega arith) (moved_stands cost x x' e.tick v (by_of e) le nx turn (stands_of cost x v p)) (next_same v e) in
-    record { entered = st.entered; sampled = st.sampled; wrote = st.wrote; after_entry = st.after_entry; after_sample = st.after_sample; written = st.written; shut = st.shut; few = next_few cost v e turn p; patient = a; comm_patient = b }
+    let st = still_stands cost x' x' (moved v (by_of e) e.tick) (view_next v e) (omega arith)
+    (moved_stands cost x x' e.tick v (by_of e) le nx turn (stands_of cost x v p)) (next_same v e) in
+    record {
+      entered = st.entered;
+      sampled = st.sampled;
+      wrote = st.wrote;
+      after_entry = st.after_entry;
+      after_sample = st.after_sample;
+      written =
+          st.written;
+      shut = st.shut;
+      few = next_few cost v e turn p;
+      patient = a;
+      comm_patient = b;
+    }
 
 pub start_placed : (cost x : ℕ) → Placed cost x start
 start_placed cost x = record {

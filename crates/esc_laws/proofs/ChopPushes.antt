@@ -2,8 +2,7 @@
 use Rattle.std.proofs.Common.{◌≡◌, ◌≤◌, ◌<◌, ℕ, true, false, List, [], ◌∷◌, ◌++◌, refl, ap, arith, nat_le}
 use Rattle.std.proofs.lemmas.List.Sums.{fold_push}
 use Rattle.std.proofs.lemmas.Bool.Decides.{nat_tests}
-use Rattle.esc_base.specs.declared.event.Event.{Event}
-use Rattle.esc_laws.specs.Steps.{free, Turned, after, next_step}
+use Rattle.esc_laws.specs.Steps.{Turned}
 use Rattle.esc_laws.specs.ChopView.{start, view, view_next}
 use Rattle.esc_laws.specs.ChopLog.{made}
 

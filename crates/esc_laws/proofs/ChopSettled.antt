@@ -60,9 +60,15 @@ pub record Static (last : ℕ) (v : View) : Type 0 where
   pub free : 0 < v.sector → at_leg v.hi_free (low_of v.sector) ≤ v.stepped + 40
   pub stepped : v.stepped ≤ last
 
-static_note : (last : ℕ) (v : View) (n : Note) → NoteFits v n → InPair (noted v n) → AllAt last (n ∷ []) → (u : ℕ) → last ≤ u → Static u v → Static u (noted v n)
+static_note : (last : ℕ) (v : View) (n : Note) → NoteFits v n → InPair (noted v n) → AllAt last (n ∷ []) → (u : ℕ) → last ≤ u → Static u v
+    → Static u (noted v n)
 static_note last v (note.Step t s) f p a u l st = record { pair = p; free = λ q. f.0; stepped = let e = a.0 in omega arith }
-static_note last v (note.Gate t hi lo) f p a u l st = record { pair = p; free = λ q. rw (off_stays (low_of v.sector) v.hi_free v.hi hi t.0 (high_off v st.pair)) (st.free q); stepped = st.stepped }
+static_note last v (note.Gate t hi lo) f p a u l st = record {
+  pair = p;
+  free =
+      λ q. rw (off_stays (low_of v.sector) v.hi_free v.hi hi t.0 (high_off v st.pair)) (st.free q);
+  stepped = st.stepped;
+}
 static_note last v (note.Control t number marks d) f p a u l st = record { pair = p; free = st.free; stepped = st.stepped }
 static_note last v n f p a u l st = st
 
@@ -76,15 +82,27 @@ static_notes t u (n ∷ notes) v l f a st = let o = one_at t n notes a in static
 
 static_moved : (u t : ℕ) (v : View) (by : By) → Static u v → Static u (moved v by t)
 static_moved u t v CommEnters s = record { pair = record { high = s.pair.high; low = s.pair.low; sector = s.pair.sector }; free = s.free; stepped = s.stepped }
-static_moved u t v (CommSteps l) s = record { pair = record { high = s.pair.high; low = s.pair.low; sector = s.pair.sector }; free = s.free; stepped = s.stepped }
+static_moved u t v (CommSteps l) s = record {
+  pair = record { high = s.pair.high; low = s.pair.low; sector = s.pair.sector };
+  free = s.free;
+  stepped =
+      s.stepped;
+}
 static_moved u t v PwmEnters s = record { pair = record { high = s.pair.high; low = s.pair.low; sector = s.pair.sector }; free = s.free; stepped = s.stepped }
-static_moved u t v (PwmSteps l) s = record { pair = record { high = s.pair.high; low = s.pair.low; sector = s.pair.sector }; free = s.free; stepped = s.stepped }
+static_moved u t v (PwmSteps l) s = record {
+  pair = record { high = s.pair.high; low = s.pair.low; sector = s.pair.sector };
+  free = s.free;
+  stepped =
+      s.stepped;
+}
 static_moved u t v Lower s = s
 
-static_next : (u : ℕ) (before : List Turned) (e : Turned) → e.tick ≤ u → PairFits before e → TimesFit before e → Static u (view before) → Static u (view (before ++ e ∷ []))
+static_next : (u : ℕ) (before : List Turned) (e : Turned) → e.tick ≤ u → PairFits before e → TimesFit before e → Static u (view before)
+    → Static u (view (before ++ e ∷ []))
 static_next u before e l f a s =
     let r = static_notes e.tick u e.notes (moved (view before) (by_of e) e.tick) l f a (static_moved u e.tick (view before) (by_of e) s) in
-    subst (λ (w : View). Static u w) (sym (view-push before e)) (record { pair = record { high = r.pair.high; low = r.pair.low; sector = r.pair.sector }; free = r.free; stepped = r.stepped })
+    subst (λ (w : View). Static u w) (sym (view-push before e)) (record
+    { pair = record { high = r.pair.high; low = r.pair.low; sector = r.pair.sector }; free = r.free; stepped = r.stepped })
 
 -- ---- within the period
 
@@ -114,34 +132,63 @@ held_notes p s [] v o f h = h
 held_notes p s (n ∷ notes) v o f h = let q = no_steps_one n notes o in held_notes p s notes (noted v n) q.1 f.2 (held_note p s v n q.0 f.1 h)
 
 held_moved : (p s t : ℕ) (v : View) (by : By) → Held p s v → Held p s (moved v by t)
-held_moved p s t v CommEnters h = record { pair = record { high = h.pair.high; low = h.pair.low; sector = h.pair.sector }; sector = h.sector; low_free = h.low_free; high_free = h.high_free }
-held_moved p s t v (CommSteps l) h = record { pair = record { high = h.pair.high; low = h.pair.low; sector = h.pair.sector }; sector = h.sector; low_free = h.low_free; high_free = h.high_free }
-held_moved p s t v PwmEnters h = record { pair = record { high = h.pair.high; low = h.pair.low; sector = h.pair.sector }; sector = h.sector; low_free = h.low_free; high_free = h.high_free }
-held_moved p s t v (PwmSteps l) h = record { pair = record { high = h.pair.high; low = h.pair.low; sector = h.pair.sector }; sector = h.sector; low_free = h.low_free; high_free = h.high_free }
+held_moved p s t v CommEnters h = record {
+  pair = record { high = h.pair.high; low = h.pair.low; sector = h.pair.sector };
+  sector = h.sector;
+  low_free =
+      h.low_free;
+  high_free = h.high_free;
+}
+held_moved p s t v (CommSteps l) h = record {
+  pair = record { high = h.pair.high; low = h.pair.low; sector = h.pair.sector };
+  sector = h.sector;
+  low_free =
+      h.low_free;
+  high_free = h.high_free;
+}
+held_moved p s t v PwmEnters h = record {
+  pair = record { high = h.pair.high; low = h.pair.low; sector = h.pair.sector };
+  sector = h.sector;
+  low_free =
+      h.low_free;
+  high_free = h.high_free;
+}
+held_moved p s t v (PwmSteps l) h = record {
+  pair = record { high = h.pair.high; low = h.pair.low; sector = h.pair.sector };
+  sector = h.sector;
+  low_free =
+      h.low_free;
+  high_free = h.high_free;
+}
 held_moved p s t v Lower h = h
 
 held_next : (p s : ℕ) (before : List Turned) (e : Turned) → NoSteps e.notes → PairFits before e → Held p s (view before) → Held p s (view (before ++ e ∷ []))
 held_next p s before e o f h =
     let r = held_notes p s e.notes (moved (view before) (by_of e) e.tick) o f (held_moved p s e.tick (view before) (by_of e) h) in
-    subst (λ (w : View). Held p s w) (sym (view-push before e)) (record { pair = record { high = r.pair.high; low = r.pair.low; sector = r.pair.sector }; sector = r.sector; low_free = r.low_free; high_free = r.high_free })
+    subst (λ (w : View). Held p s w) (sym (view-push before e)) (record
+    { pair = record { high = r.pair.high; low = r.pair.low; sector = r.pair.sector }; sector = r.sector; low_free = r.low_free; high_free = r.high_free })
 
 -- ---- over the log
 
-module _ (cost : ℕ) (trace : List Event) (log : List Turned) (p s u : ℕ) (one : 1 ≤ cost) (some : 0 < p) (drives : 0 < s) (from : p ≤ u + 1) (upto : u < p + 2000)
+module _ (cost : ℕ) (trace : List Event) (log : List Turned) (p s u : ℕ) (one : 1 ≤ cost) (some : 0 < p) (drives : 0 < s) (from : p ≤ u + 1)
+    (upto : u < p + 2000)
     (sector : (at_tick (p - 1) log).sector ≡ s) (free : at_leg (at_tick (p - 1) log).lo_free (high_of s) ≤ p) where
-  begins : (before rest : List Turned) → log ≡ before ++ rest → AllBy (p - 1) before → FirstAbove (p - 1) rest → Static (p - 1) (view before) → Held p s (view before)
+  begins : (before rest : List Turned) → log ≡ before ++ rest → AllBy (p - 1) before → FirstAbove (p - 1) rest → Static (p - 1) (view before)
+      → Held p s (view before)
   begins before rest h all above st =
       let same : at_tick (p - 1) log ≡ view before = at_split (p - 1) log before rest h all above in
       let sec : (view before).sector ≡ s = ap (λ (v : View). v.sector) (sym same) ∙ sector in
       let l : at_leg (view before).hi_free (low_of (view before).sector) ≤ (view before).stepped + 40 = st.free (omega arith) in
-      let l' : at_leg (view before).hi_free (low_of s) ≤ (view before).stepped + 40 = subst (λ (z : ℕ). at_leg (view before).hi_free (low_of z) ≤ (view before).stepped + 40) sec l in
+      let l' : at_leg (view before).hi_free (low_of s) ≤ (view before).stepped + 40 =
+      subst (λ (z : ℕ). at_leg (view before).hi_free (low_of z) ≤ (view before).stepped + 40) sec l in
       let k = st.stepped in
       record { pair = st.pair; sector = sec; low_free = omega arith; high_free = subst (λ (v : View). at_leg v.lo_free (high_of s) ≤ p) same free }
 
   abbrev pub Stage : List Turned → Type 0
   Stage before = (AllBy (p - 1) before × Static (p - 1) (view before)) ⊎ ((p ≤ after cost trace before) × Held p s (view before))
 
-  pub carried : (before rest : List Turned) → log ≡ before ++ rest → EachStep (StepFits cost trace) before rest → EachStep PairFits before rest → EachStep TimesFit before rest → EachStep (NoStep p) before rest → Past cost trace before → AllBy u before
+  pub carried : (before rest : List Turned) → log ≡ before ++ rest → EachStep (StepFits cost trace) before rest → EachStep PairFits before rest
+      → EachStep TimesFit before rest → EachStep (NoStep p) before rest → Past cost trace before → AllBy u before
       → Stage before → Held p s (at_tick u log)
   carried before [] h f g a n past all st = subst (λ (v : View). Held p s v) (sym (at_split u log before [] h all tt)) (ends st)
     where
@@ -150,7 +197,8 @@ module _ (cost : ℕ) (trace : List Event) (log : List Turned) (p s u : ℕ) (on
       ends (inr q) = q.1
   carried before (e ∷ rest) h f g a n past all st = elim (cases_lt u e.tick) [
     | inl lt ↦ subst (λ (v : View). Held p s v) (sym (at_split u log before (e ∷ rest) h all lt)) (ends (omega arith) st)
-    | inr le ↦ carried (before ++ e ∷ []) rest (split_on log before rest e h) f.1 g.1 a.1 n.1 (past_on cost trace before e one f.0.later past) (by-push u before e all le) (goes le st)
+    | inr le ↦ carried (before ++ e ∷ []) rest (split_on log before rest e h) f.1 g.1 a.1 n.1 (past_on cost trace before e one f.0.later past)
+        (by-push u before e all le) (goes le st)
   ]
     where
       ends : p - 1 < e.tick → Stage before → Held p s (view before)

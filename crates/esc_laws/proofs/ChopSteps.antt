@@ -1,9 +1,8 @@
 -- What an entry and an own step do to the gates, by the notes.
-use Rattle.std.proofs.Common.{◌≡◌, ◌≢◌, ◌≤◌, ◌<◌, ◌+◌, ◌%◌, ℕ, Bool, true, false, ◌&&◌, ◌==◌, nat_lt, if◌then◌else◌, List, [], ◌∷◌, ◌++◌, reverse, Option, Some, None, All, refl, sym, ◌∙◌, ap, subst, arith}
+use Rattle.std.proofs.Common.{◌≡◌, ◌≤◌, ◌<◌, ℕ, Bool, true, false, ◌&&◌, ◌==◌, if◌then◌else◌, List, [], ◌∷◌, ◌++◌, reverse, None, All, refl, sym, ◌∙◌, ap, subst}
 use Rattle.std.proofs.lemmas.Bool.{le-ltb}
 use Rattle.esc_base.specs.declared.gate.Leg.{Leg}
 use Rattle.esc_base.specs.declared.kind.Kind.{Kind}
-use Rattle.esc_base.specs.declared.kind.Kind.TheVariants as kind
 use Rattle.esc_base.specs.declared.event.Event.{Event}
 use Rattle.esc_base.specs.declared.note.Note.{Note}
 use Rattle.esc_base.specs.declared.note.Note.TheVariants as note
@@ -13,7 +12,6 @@ use Rattle.settings_block.specs.declared.stored.Loaded.{Loaded}
 use Rattle.timer_regs.specs.Bank.{Bank}
 use Rattle.interrupt_machine.specs.declared.nest.Nest.{Nest}
 use Rattle.interrupt_machine.specs.Did.{accessed}
-use Rattle.interrupt_machine.specs.Turn.{gate_note}
 use Rattle.arming.proofs.InOrder.{reverse-push}
 use Rattle.commutation.specs.Sectors.{high_of}
 use Rattle.commutation.specs.Commutated.{sector_at}
@@ -21,19 +19,20 @@ use Rattle.gate_driver.specs.DeadSafe.{high_at, low_at}
 use Rattle.gate_driver.specs.Gated.{at_leg, wait_of}
 use Rattle.esc_core.specs.Brain.{Brain}
 use Rattle.esc_core.specs.Stepped.{Stepped}
-use Rattle.esc_laws.specs.Steps.{Turned, opening, notes_in, journal, open_in}
+use Rattle.esc_laws.specs.Steps.{Turned, journal, open_in}
 use Rattle.esc_laws.specs.Tied.{WordTold}
-use Rattle.esc_laws.specs.World.{made, world, counted, enters, all_notes}
+use Rattle.esc_laws.specs.World.{world, counted, enters, all_notes}
 use Rattle.esc_laws.specs.Rooms.{DriveKeeps}
 use Rattle.esc_laws.specs.ChopView.{leaves}
-use Rattle.esc_laws.specs.ChopSteps.{told, Writes, ChopFits}
+use Rattle.esc_laws.specs.ChopSteps.{told, ChopFits}
 use Rattle.esc_laws.proofs.Pushes.{journal-push}
 
 -- an entry's I leaves the word
 entry_told : (loaded : Loaded) (log : List Turned) (t : ℕ) (k : Kind)
     → told loaded (log ++ record { tick = t; kind = k; enters = true; notes = enters k t ∷ [] } ∷ []) ≡ enters k t ∷ told loaded log
 entry_told loaded log t k =
-    ap reverse (journal-push loaded log (record { tick = t; kind = k; enters = true; notes = enters k t ∷ [] })) ∙ reverse-push (journal loaded log) (enters k t)
+    ap reverse (journal-push loaded log (record { tick = t; kind = k; enters = true; notes = enters k t ∷ [] }))
+    ∙ reverse-push (journal loaded log) (enters k t)
 
 pub entry_chops : (loaded : Loaded) (log : List Turned) (t : ℕ) (k : Kind) → All (λ j. kind_number j < kind_number k) (open_in loaded log)
     → ChopFits loaded log (record { tick = t; kind = k; enters = true; notes = enters k t ∷ [] })

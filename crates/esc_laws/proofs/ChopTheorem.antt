@@ -18,10 +18,12 @@ use Rattle.esc_laws.proofs.ChopHigh.{run}
 use Rattle.esc_laws.proofs.ChopLow.{low_run}
 use Rattle.esc_laws.proofs.ChopSettled.{Held, Static, carried, start_static, may_turn, low_off}
 
-module _ (cost : ℕ) (trace : List Event) (log : List Turned) (m d s until : ℕ) (one : 1 ≤ cost) (few : cost ≤ 16) (legal : Legal cost trace until log) (y : Undisturbed cost trace log m d s) where
+module _ (cost : ℕ) (trace : List Event) (log : List Turned) (m d s until : ℕ) (one : 1 ≤ cost) (few : cost ≤ 16) (legal : Legal cost trace until log)
+    (y : Undisturbed cost trace log m d s) where
   held : (v : ℕ) → 2000 * m ≤ v + 1 → v < 2000 * m + 2000 → Held (2000 * m) s (at_tick v log)
   held v lo hi = let a = y.later in
-      carried cost trace log (2000 * m) s v one (omega arith) y.some_sector lo hi y.sector y.high_free [] log refl legal.fits legal.pairs legal.times y.none_steps (λ w h. tt) tt
+      carried cost trace log (2000 * m) s v one (omega arith) y.some_sector lo hi y.sector y.high_free [] log refl legal.fits legal.pairs legal.times
+      y.none_steps (λ w h. tt) tt
       (inl (tt, subst (λ (x : View). Static (2000 * m - 1) x) (sym view-none) (start_static (2000 * m - 1))))
 
   u : Calm cost trace log m d s
@@ -33,21 +35,25 @@ module _ (cost : ℕ) (trace : List Event) (log : List Turned) (m d s until : �
     stalls = y.stalls;
     sector = λ v lo hi. (held v lo hi).sector;
     none_enters = y.none_enters;
-    allowed = λ v lo hi. let h = held v lo hi in let s0 = y.some_sector in let e = h.sector in may_turn (2000 * m) s (v + 1) (at_tick v log) y.some_sector (omega arith) h;
+    allowed = λ v lo hi. let h = held v lo hi in let s0 = y.some_sector in let e =
+        h.sector in may_turn (2000 * m) s (v + 1) (at_tick v log) y.some_sector (omega arith) h;
     low_free = λ v lo hi. (held v lo hi).low_free;
   }
 
   first_early : (edge : ℕ) → 2000 * m ≤ edge → Early cost edge (after cost trace []) (view [])
   first_early edge le =
-      let a = u.later in let c : free trace 0 ≤ 2000 * m - 48 * cost = free_low trace (2000 * m - 48 * cost) (2000 * m + 1999) 0 u.stalls (omega arith) (omega arith) in
-      subst (λ (v : View). Early cost edge (after cost trace []) v) (sym view-none) (record { entered = omega arith; sampled = omega arith; soon = rw (after-none cost trace) (omega arith) })
+      let a = u.later in let c : free trace 0 ≤ 2000 * m - 48 * cost =
+      free_low trace (2000 * m - 48 * cost) (2000 * m + 1999) 0 u.stalls (omega arith) (omega arith) in
+      subst (λ (v : View). Early cost edge (after cost trace []) v) (sym view-none)
+      (record { entered = omega arith; sampled = omega arith; soon = rw (after-none cost trace) (omega arith) })
 
   first_placed : Placed cost (after cost trace []) (view [])
   first_placed = subst (λ (v : View). Placed cost (after cost trace []) v) (sym view-none) (start_placed cost (after cost trace []))
 
   level : (t edge : ℕ) → IsEdge m d edge → 2000 * m ≤ edge → t < 2000 * m + 2000 → t < until → edge + 48 * cost ≤ t → Fresh edge m d s t (at_tick t log)
   level t edge is le inp below late =
-      run cost trace log m d s until t edge one few u is inp below late [] log refl legal.fits legal.drives u.none_enters legal.all_made (λ w h. tt) first_placed tt (inl (first_early edge le))
+      run cost trace log m d s until t edge one few u is inp below late [] log refl legal.fits legal.drives u.none_enters legal.all_made (λ w h. tt)
+      first_placed tt (inl (first_early edge le))
 
   pub high_on : (t : ℕ) → t < until → 2000 * m + 48 * cost ≤ t → t ≤ 2000 * m + d → is_on (at_tick t log).hi (high_of s) ≡ true
   high_on t below late le =
@@ -61,7 +67,8 @@ module _ (cost : ℕ) (trace : List Event) (log : List Turned) (m d s until : �
 
   pub low_on : (t : ℕ) → t < until → 2000 * m + 48 * cost ≤ t → t < 2000 * m + 2000 → is_on (at_tick t log).lo (low_of s) ≡ true
   low_on t below late inp =
-      let a = u.later in let c : free trace 0 ≤ 2000 * m - 48 * cost = free_low trace (2000 * m - 48 * cost) (2000 * m + 1999) 0 u.stalls (omega arith) (omega arith) in
+      let a = u.later in let c : free trace 0 ≤ 2000 * m - 48 * cost =
+      free_low trace (2000 * m - 48 * cost) (2000 * m + 1999) 0 u.stalls (omega arith) (omega arith) in
       let x : after cost trace [] ≤ 2000 * m - 48 * cost = rw (after-none cost trace) c in
       low_run cost trace log m d s until t one few u inp below late [] log refl legal.fits legal.drives u.none_enters legal.all_made (λ w h. tt) first_placed tt
       (inl (record { c = 24; left = λ o. (omega arith, omega arith, omega arith); soon = omega arith }))

@@ -1,6 +1,5 @@
 -- What the drive's tie becomes at a step of COMM.
-use Rattle.std.proofs.Common.{◌≡◌, ◌≢◌, ◌≤◌, ◌<◌, ◌+◌, ◌⊎◌, inl, inr, ℕ, Bool, true, false, not, ◌&&◌, ◌||◌, ◌==◌, nat_lt, nat_le, if◌then◌else◌, List, ◌∷◌, Option, Some, None, refl, sym, ◌∙◌, ap, subst, arith}
-use Rattle.std.proofs.lemmas.Bool.{cases_lt}
+use Rattle.std.proofs.Common.{◌≡◌, ◌≢◌, ◌≤◌, ◌<◌, ◌+◌, ◌⊎◌, inl, inr, ℕ, Bool, true, false, ◌||◌, nat_lt, if◌then◌else◌, List, ◌∷◌, Option, Some, None, refl, ◌∙◌, ap, subst, arith}
 use Rattle.std.proofs.lemmas.Bool.Decides.{nat_tests}
 use Rattle.esc_base.specs.declared.gate.Leg.{Leg}
 use Rattle.esc_base.specs.declared.kind.Kind.{Kind}
@@ -9,11 +8,10 @@ use Rattle.esc_base.specs.Legs.{is_on}
 use Rattle.interrupt_machine.specs.Did.{accessed}
 use Rattle.interrupt_machine.specs.Open.{innermost}
 use Rattle.arming.specs.ControlAt.{demand_at}
-use Rattle.commutation.specs.Sectors.{high_of, low_of}
-use Rattle.commutation.specs.Commutated.{sector_at}
+use Rattle.commutation.specs.Sectors.{high_of}
 use Rattle.gate_driver.specs.declared.to_sector.ChangeAt.{ChangeAt}
 use Rattle.gate_driver.specs.declared.to_sector.ChangeAt.TheVariants as change
-use Rattle.gate_driver.specs.Gated.{Legs, Gated, at_leg, offs, wait_of, gates_after}
+use Rattle.gate_driver.specs.Gated.{Legs, at_leg, offs, wait_of, gates_after}
 use Rattle.gate_driver.specs.Acted.{KeepsDeadTime}
 use Rattle.gate_driver.proofs.Bits.{off_is}
 use Rattle.gate_driver.proofs.OffTimes.{offs_same, off_stays}
@@ -149,7 +147,8 @@ pub same_to : (w : World) (outer : List Kind) (place : CommAt) (at : ChangeAt) �
     → w.core.drive.turn.to ≡ w.bank.sector
 same_to w outer place at i e = (i.ties kind.Comm).to_is (rw (i.place_is, i.change_is) e)
 
-pub same_marked : (w : World) (outer : List Kind) (place : CommAt) (at : ChangeAt) → IsComm w outer place at → is_marking place at ≡ false → 0 < demand_at w.back
+pub same_marked : (w : World) (outer : List Kind) (place : CommAt) (at : ChangeAt) → IsComm w outer place at → is_marking place at ≡ false
+    → 0 < demand_at w.back
     → is_stuck w.core.drive ≡ true → w.bank.stuck ≡ true
 same_marked w outer place at i e l = (i.ties kind.Comm).marked l (rw (i.place_is, i.change_is) e)
 

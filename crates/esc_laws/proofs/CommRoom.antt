@@ -1,13 +1,13 @@
 -- COMM's room.
-use Rattle.std.proofs.Common.{◌≡◌, ◌≢◌, ◌≤◌, ◌<◌, ◌+◌, ◌-◌, ◌⊎◌, inl, inr, ℕ, zero, suc, min, Bool, true, false, not, ◌&&◌, ◌||◌, ◌==◌, nat_lt, nat_le, bit_and, bit_or, if◌then◌else◌, List, ◌∷◌, Option, Some, None, refl, sym, ◌∙◌, ap, subst, arith}
-use Rattle.std.proofs.lemmas.Bool.{cases_lt, cases_Bool, and_parts, lt-ltb, ltb-true, le-ltb, leb-true, le-leb, or_left, or_right, not-true}
+use Rattle.std.proofs.Common.{◌≡◌, ◌≤◌, ◌<◌, ◌+◌, ◌-◌, ◌⊎◌, inl, inr, ℕ, zero, suc, min, Bool, true, false, not, ◌&&◌, ◌||◌, ◌==◌, nat_lt, nat_le, bit_and, bit_or, if◌then◌else◌, List, Option, Some, None, refl, sym, ◌∙◌, ap, subst, arith}
+use Rattle.std.proofs.lemmas.Bool.{cases_lt, and_parts, ltb-true, leb-true, le-leb, or_left, or_right, not-true}
 use Rattle.std.proofs.lemmas.Bool.Decides.{nat_tests}
 use Rattle.esc_base.specs.declared.gate.Leg.{Leg}
 use Rattle.esc_base.specs.declared.kind.Kind.{Kind}
 use Rattle.esc_base.specs.declared.kind.Kind.TheVariants as kind
 use Rattle.esc_base.specs.declared.note.Note.{Note}
 use Rattle.esc_base.specs.declared.note.Note.TheVariants as note
-use Rattle.esc_base.specs.Legs.{mask_of, is_on, IsOnly}
+use Rattle.esc_base.specs.Legs.{mask_of, is_on}
 use Rattle.esc_base.specs.Numbers.{as_tick}
 use Rattle.esc_base.specs.Times.{is_reached}
 use Rattle.timer_regs.specs.Bank.{Bank}
@@ -22,13 +22,11 @@ use Rattle.commutation.proofs.Order.{next_within, next_keeps}
 use Rattle.gate_driver.specs.declared.chop.Chop.TheVariants as chop
 use Rattle.gate_driver.specs.declared.to_sector.ChangeAt.{ChangeAt}
 use Rattle.gate_driver.specs.declared.to_sector.ChangeAt.TheVariants as change
-use Rattle.gate_driver.specs.DeadSafe.{high_at, low_at, high_free_at}
-use Rattle.gate_driver.specs.Gated.{Legs, Gated, at_leg, offs, gates_after, low_wait, high_wait}
-use Rattle.gate_driver.specs.Change.{Change, change_to, low_step, high_step, duty_step, place_step, change_step, IsSector}
+use Rattle.gate_driver.specs.DeadSafe.{low_at, high_free_at}
+use Rattle.gate_driver.specs.Gated.{Gated, at_leg, offs, gates_after, low_wait, high_wait}
+use Rattle.gate_driver.specs.Change.{change_to, low_step, high_step, duty_step, place_step}
 use Rattle.gate_driver.proofs.Bits.{on_and, or_on, or_is, only_kept, off_is}
-use Rattle.gate_driver.proofs.OffTimes.{gates_same}
-use Rattle.gate_driver.proofs.DeadTime.{MayTurnOn, may_turn_on, same_keeps, high_off_keeps, low_off_keeps, high_on_keeps, low_on_keeps}
-use Rattle.esc_core.specs.declared.orders.Orders.{Orders}
+use Rattle.gate_driver.proofs.DeadTime.{may_turn_on, high_off_keeps, low_off_keeps, high_on_keeps, low_on_keeps}
 use Rattle.esc_core.specs.declared.drive.Drive.{Drive}
 use Rattle.esc_core.specs.declared.state.CommAt.{CommAt}
 use Rattle.esc_core.specs.declared.state.CommAt.TheVariants as comm
@@ -38,7 +36,7 @@ use Rattle.esc_core.specs.declared.state.PwmAt.{PwmAt}
 use Rattle.esc_core.specs.declared.state.PwmAt.TheVariants as pwm
 use Rattle.esc_core.specs.Orders.{is_forward}
 use Rattle.esc_core.specs.Drive.{is_stuck, low_free, due_at, after_turn}
-use Rattle.esc_core.specs.Comm.{begins, waits_for, decided, turned, turn_step, resumed, resumed_step, acted, comm_step}
+use Rattle.esc_core.specs.Comm.{begins, waits_for, decided, turned, turn_step, resumed, resumed_step, comm_step}
 use Rattle.esc_core.specs.Stepped.{Stepped, goes_on}
 use Rattle.esc_core.specs.Firmware.{comm_left, pwm_need, tick_need}
 use Rattle.settings_block.specs.declared.settings.Settings.{Settings}
@@ -46,12 +44,12 @@ use Rattle.esc_laws.specs.Driven.{InPair}
 use Rattle.esc_laws.specs.Saves.{settings_at, forward_at}
 use Rattle.esc_laws.specs.Calls.{calls_turn, calls_low, turn_is_due, turned_at, turns_in, turn_was_due, postponed_at, low_is_on, HasTurned, HasCaughtUp}
 use Rattle.esc_laws.specs.Tied.{WordTold}
-use Rattle.esc_laws.specs.DriveTied.{DriveView, DriveTied, CommTied, LowTied, TimerKept, ChangeTied, Turns, IsUp, Decides, Resumes, Resumed, HasActed, HasArmed, OnOrHeld, OnOrLate, PwmTied, low_on, comm_since, is_turning, is_marking, TurnTied}
+use Rattle.esc_laws.specs.DriveTied.{DriveView, DriveTied, CommTied, LowTied, TimerKept, ChangeTied, Turns, IsUp, Decides, Resumes, Resumed, HasActed, OnOrHeld, PwmTied, low_on, TurnTied}
 use Rattle.esc_laws.specs.World.{World, so_far, after_enter}
-use Rattle.esc_laws.specs.Rooms.{Ground, Ties, Tie, Unheld, HoldsAlone, GatesKeep, StepTold, StepKeeps, drive_seen}
+use Rattle.esc_laws.specs.Rooms.{Ground, Ties, Tie, Unheld, StepTold, StepKeeps, drive_seen}
 use Rattle.esc_laws.proofs.RoomSteps.{ground_noted, quiet_gates, inside, popped}
-use Rattle.esc_laws.proofs.DriveFacts.{apart_legs, pair_apart, low_leg_off, comm_shut, rest_still, timer_kept, low_kept}
-use Rattle.esc_laws.proofs.CommFacts.{Words, same_words, high_words, low_words, Moves, moved_view, comm_moves, IsComm, place_tie, before_step, same_to, same_marked, comm_gates, waits_free}
+use Rattle.esc_laws.proofs.DriveFacts.{pair_apart, low_leg_off, comm_shut, rest_still, timer_kept, low_kept}
+use Rattle.esc_laws.proofs.CommFacts.{Words, same_words, high_words, low_words, moved_view, comm_moves, IsComm, place_tie, before_step, same_to, same_marked, comm_gates, waits_free}
 use Rattle.esc_laws.proofs.Law.{HandlerLaw}
 
 -- while COMM is open there is a demand, so TICK's tie holds
@@ -148,7 +146,8 @@ resumes true w outer e early i =
       });
       others = elim [
         | kind.Comm ↦ λ ne u. absurd (ne refl)
-        | kind.Tick ↦ λ ne u. beside_tick w outer comm.Decide comm.Low w.core.drive.turn.at w.core.drive w.bank.hi w.bank.lo w.bank.sector w.bank.comm w.bank.stuck i u
+        | kind.Tick ↦ λ ne u. beside_tick w outer comm.Decide comm.Low w.core.drive.turn.at w.core.drive w.bank.hi w.bank.lo w.bank.sector w.bank.comm
+            w.bank.stuck i u
         | j ↦ λ ne u. u
       ];
       stack_is = i.on;
@@ -306,7 +305,8 @@ stuck_next (Turned q) turned told stuck forced f change time c e g s m =
 stuck_next (Crossed q x) turned told stuck forced f change time c e g s m = absurd c
 
 -- PWM has been interrupted where it has read nothing that it will use
-resumes_pwm : (at : PwmAt) (own sampled demand sector sector' : ℕ) → 8 < pwm_need at → PwmTied at own sampled demand sector → PwmTied at own sampled demand sector'
+resumes_pwm : (at : PwmAt) (own sampled demand sector sector' : ℕ) → 8 < pwm_need at → PwmTied at own sampled demand sector
+    → PwmTied at own sampled demand sector'
 resumes_pwm pwm.Shut own sampled demand sector sector' l t = tt
 resumes_pwm (pwm.Run chop.Raise) own sampled demand sector sector' l t = t
 resumes_pwm (pwm.Run chop.Over) own sampled demand sector sector' l t = t
@@ -318,7 +318,8 @@ resumes_pwm (pwm.Run (chop.Write leg)) own sampled demand sector sector' l t = a
 resumes_pwm (pwm.Run chop.Lower) own sampled demand sector sector' l t = absurd (omega arith)
 
 -- at a Q the high switch of the new pair's low leg has been off for 8 ticks
-long_off : (w : World) (outer : List Kind) → IsComm w outer comm.Turn change.SetSector → at_leg w.core.drive.gates.hi_free (low_of w.core.drive.turn.to) ≤ w.bank.time + 40
+long_off : (w : World) (outer : List Kind) → IsComm w outer comm.Turn change.SetSector
+    → at_leg w.core.drive.gates.hi_free (low_of w.core.drive.turn.to) ≤ w.bank.time + 40
 long_off w outer i = by_sector w.bank.sector refl
   where
     by_sector : (s : ℕ) → w.bank.sector ≡ s → at_leg w.core.drive.gates.hi_free (low_of w.core.drive.turn.to) ≤ w.bank.time + 40
@@ -415,8 +416,7 @@ low_waits w outer place at until i some to e =
     let t = i.ties kind.Comm in
     let off : is_on w.bank.hi (low_of w.core.drive.turn.to) ≡ false = rw to (low_leg_off w.bank.sector w.bank.hi w.bank.lo t.sectors t.pair) in
     let later : w.bank.time < low_free w.core.drive =
-    waits_free w.bank.hi (low_free w.core.drive) (low_of w.core.drive.turn.to) w.bank.time until off e in
-    (
+    waits_free w.bank.hi (low_free w.core.drive) (low_of w.core.drive.turn.to) w.bank.time until off e in (
       later,
       off_is (low_on (drive_seen w)) (λ on. (
           let free : at_leg w.core.drive.gates.hi_free (low_of w.bank.sector) ≤ w.bank.time = t.held (low_of w.bank.sector) on in
@@ -466,7 +466,12 @@ low_places None w outer e i =
     let after : Bank = written w.bank reg.GlSet (mask_of x) in
     let tied = turn_tie w outer change.Low i in
     let to : w.core.drive.turn.to ≡ w.bank.sector = same_to w outer comm.Turn change.Low i refl tied.1 in
-    let d : Drive = record w.core.drive { gates = gates_after g w.bank after; turn = record { to = w.core.drive.turn.to; at = change.Position }; postponed = false } in
+    let d : Drive = record w.core.drive {
+      gates = gates_after g w.bank after;
+      turn = record { to = w.core.drive.turn.to; at = change.Position };
+      postponed =
+          false;
+    } in
     record {
       gates = comm_gates w outer comm.Turn change.Low _ i refl
           (low_on_keeps g (gates_after g w.bank after) w.bank after x refl refl refl e (pair_apart w.bank.sector w.bank.hi w.bank.lo t.sectors t.pair))
@@ -543,7 +548,12 @@ resumed_places None w outer e i =
     let after : Bank = written w.bank reg.GlSet (mask_of x) in
     let tied : Resumes (drive_seen w) = place_tie w outer comm.Low change.Low i in
     let to : w.core.drive.turn.to ≡ w.bank.sector = same_to w outer comm.Low change.Low i refl tied.some in
-    let d : Drive = record w.core.drive { gates = gates_after g w.bank after; turn = record { to = w.core.drive.turn.to; at = change.Position }; postponed = false } in
+    let d : Drive = record w.core.drive {
+      gates = gates_after g w.bank after;
+      turn = record { to = w.core.drive.turn.to; at = change.Position };
+      postponed =
+          false;
+    } in
     record {
       gates = comm_gates w outer comm.Low change.Low _ i refl
           (low_on_keeps g (gates_after g w.bank after) w.bank after x refl refl refl e (pair_apart w.bank.sector w.bank.hi w.bank.lo t.sectors t.pair))
@@ -783,31 +793,34 @@ arms true at w outer e i =
       gates = quiet_gates kind.Comm w _ (λ f. cc) refl refl refl;
       fits = λ told. tt;
       ground = i.ground;
-      tie = λ told. comm_moves (drive_seen w) 2 w.core.drive comm.Stick (Some (due_at w.core.drive)) w.bank.stuck (postponed_at w.back) w.bank.hi w.bank.lo t (record {
-        words = same_words (drive_seen w) w.core.drive refl t;
-        change_is = refl;
-        turned_is = refl;
-        forced_is = refl;
-        before = before_step w outer comm.Arm at i;
-        since_is = omega arith;
-        to_is = λ f s. same_to w outer comm.Arm at i refl s;
-        at_low = t.at_low;
-        stuck_is = t.stuck;
-        marked = λ l f. cc;
-        place_is = ((record { some = tied.some; done = done_kept tied.done }, refl), e);
-        low = λ f. cc;
-        waits = λ f. cc;
-      });
+      tie = λ told. comm_moves (drive_seen w) 2 w.core.drive comm.Stick (Some (due_at w.core.drive)) w.bank.stuck (postponed_at w.back) w.bank.hi w.bank.lo t
+          (record {
+            words = same_words (drive_seen w) w.core.drive refl t;
+            change_is = refl;
+            turned_is = refl;
+            forced_is = refl;
+            before = before_step w outer comm.Arm at i;
+            since_is = omega arith;
+            to_is = λ f s. same_to w outer comm.Arm at i refl s;
+            at_low = t.at_low;
+            stuck_is = t.stuck;
+            marked = λ l f. cc;
+            place_is = ((record { some = tied.some; done = done_kept tied.done }, refl), e);
+            low = λ f. cc;
+            waits = λ f. cc;
+          });
       others = elim [
         | kind.Comm ↦ λ ne u. absurd (ne refl)
-        | kind.Tick ↦ λ ne u. beside_tick w outer comm.Arm comm.Stick at w.core.drive w.bank.hi w.bank.lo w.bank.sector (Some (due_at w.core.drive)) w.bank.stuck i u
+        | kind.Tick ↦ λ ne u. beside_tick w outer comm.Arm comm.Stick at w.core.drive w.bank.hi w.bank.lo w.bank.sector (Some (due_at w.core.drive))
+            w.bank.stuck i u
         | j ↦ λ ne u. u
       ];
       stack_is = i.on;
     }
   where
     done_kept : ((turns_in w.back ≡ 1) × OnOrHeld (drive_seen w)) ⊎ Resumed (drive_seen w)
-        → ((turns_in w.back ≡ 1) × OnOrHeld (moved_view (drive_seen w) w.core.drive comm.Stick (Some (due_at w.core.drive)) w.bank.stuck (postponed_at w.back) w.bank.hi w.bank.lo))
+        → ((turns_in w.back ≡ 1) × OnOrHeld (moved_view (drive_seen w) w.core.drive comm.Stick (Some (due_at w.core.drive)) w.bank.stuck (postponed_at w.back)
+        w.bank.hi w.bank.lo))
         ⊎ Resumed (moved_view (drive_seen w) w.core.drive comm.Stick (Some (due_at w.core.drive)) w.bank.stuck (postponed_at w.back) w.bank.hi w.bank.lo)
     done_kept (inl d) = inl d
     done_kept (inr r) = inr (record { none = r.none; not_due = r.not_due; postponed = r.postponed; low = r.low; prompt = r.prompt })
@@ -818,31 +831,34 @@ arms false at w outer e i =
       gates = quiet_gates kind.Comm w _ (λ f. cc) refl refl refl;
       fits = λ told. tt;
       ground = i.ground;
-      tie = λ told. comm_moves (drive_seen w) 2 w.core.drive comm.Back (Some (due_at w.core.drive)) w.bank.stuck (postponed_at w.back) w.bank.hi w.bank.lo t (record {
-        words = same_words (drive_seen w) w.core.drive refl t;
-        change_is = refl;
-        turned_is = refl;
-        forced_is = refl;
-        before = before_step w outer comm.Arm at i;
-        since_is = omega arith;
-        to_is = λ f s. same_to w outer comm.Arm at i refl s;
-        at_low = t.at_low;
-        stuck_is = t.stuck;
-        marked = λ l f g. (let z : false ≡ true = sym e ∙ g in cc);
-        place_is = (record { some = tied.some; done = done_kept tied.done }, refl);
-        low = λ f. cc;
-        waits = λ f. cc;
-      });
+      tie = λ told. comm_moves (drive_seen w) 2 w.core.drive comm.Back (Some (due_at w.core.drive)) w.bank.stuck (postponed_at w.back) w.bank.hi w.bank.lo t
+          (record {
+            words = same_words (drive_seen w) w.core.drive refl t;
+            change_is = refl;
+            turned_is = refl;
+            forced_is = refl;
+            before = before_step w outer comm.Arm at i;
+            since_is = omega arith;
+            to_is = λ f s. same_to w outer comm.Arm at i refl s;
+            at_low = t.at_low;
+            stuck_is = t.stuck;
+            marked = λ l f g. (let z : false ≡ true = sym e ∙ g in cc);
+            place_is = (record { some = tied.some; done = done_kept tied.done }, refl);
+            low = λ f. cc;
+            waits = λ f. cc;
+          });
       others = elim [
         | kind.Comm ↦ λ ne u. absurd (ne refl)
-        | kind.Tick ↦ λ ne u. beside_tick w outer comm.Arm comm.Back at w.core.drive w.bank.hi w.bank.lo w.bank.sector (Some (due_at w.core.drive)) w.bank.stuck i u
+        | kind.Tick ↦ λ ne u. beside_tick w outer comm.Arm comm.Back at w.core.drive w.bank.hi w.bank.lo w.bank.sector (Some (due_at w.core.drive))
+            w.bank.stuck i u
         | j ↦ λ ne u. u
       ];
       stack_is = i.on;
     }
   where
     done_kept : ((turns_in w.back ≡ 1) × OnOrHeld (drive_seen w)) ⊎ Resumed (drive_seen w)
-        → ((turns_in w.back ≡ 1) × OnOrHeld (moved_view (drive_seen w) w.core.drive comm.Back (Some (due_at w.core.drive)) w.bank.stuck (postponed_at w.back) w.bank.hi w.bank.lo))
+        → ((turns_in w.back ≡ 1) × OnOrHeld (moved_view (drive_seen w) w.core.drive comm.Back (Some (due_at w.core.drive)) w.bank.stuck (postponed_at w.back)
+        w.bank.hi w.bank.lo))
         ⊎ Resumed (moved_view (drive_seen w) w.core.drive comm.Back (Some (due_at w.core.drive)) w.bank.stuck (postponed_at w.back) w.bank.hi w.bank.lo)
     done_kept (inl d) = inl d
     done_kept (inr r) = inr (record { none = r.none; not_due = r.not_due; postponed = r.postponed; low = r.low; prompt = r.prompt })
@@ -881,13 +897,15 @@ sticks at w outer i =
     }
   where
     done_kept : ((turns_in w.back ≡ 1) × OnOrHeld (drive_seen w)) ⊎ Resumed (drive_seen w)
-        → ((turns_in w.back ≡ 1) × OnOrHeld (moved_view (drive_seen w) w.core.drive comm.Back w.bank.comm (w.bank.stuck || true) (postponed_at w.back) w.bank.hi w.bank.lo))
+        → ((turns_in w.back ≡ 1) × OnOrHeld (moved_view (drive_seen w) w.core.drive comm.Back w.bank.comm (w.bank.stuck || true) (postponed_at w.back)
+        w.bank.hi w.bank.lo))
         ⊎ Resumed (moved_view (drive_seen w) w.core.drive comm.Back w.bank.comm (w.bank.stuck || true) (postponed_at w.back) w.bank.hi w.bank.lo)
     done_kept (inl d) = inl d
     done_kept (inr r) = inr (record { none = r.none; not_due = r.not_due; postponed = r.postponed; low = r.low; prompt = r.prompt })
 
 -- what the notes say of the low switch
-low_told : (w : World) (s : Stepped) → s.core.drive.gates ≡ w.core.drive.gates → (accessed w.bank s.access).lo ≡ w.bank.lo → StepTold w s → w.bank.sector ≡ sector_at w.back
+low_told : (w : World) (s : Stepped) → s.core.drive.gates ≡ w.core.drive.gates → (accessed w.bank s.access).lo ≡ w.bank.lo → StepTold w s
+    → w.bank.sector ≡ sector_at w.back
     → low_is_on w.back ≡ low_on (drive_seen w)
 low_told w s e lo told sector = rw (told.lo_is, lo, ← sector) refl
 
@@ -913,7 +931,8 @@ returns at w outer i =
       );
       ground = ground_noted w (note.Leave (as_tick w.bank.time) 6) refl refl tt refl i.ground;
       tie = λ told.
-          comm_moves (drive_seen w) 3 w.core.drive comm.Shut w.bank.comm w.bank.stuck (nat_lt 0 (turns_in w.back) && not (low_is_on w.back)) w.bank.hi w.bank.lo t
+          comm_moves (drive_seen w) 3 w.core.drive comm.Shut w.bank.comm w.bank.stuck (nat_lt 0 (turns_in w.back) && not (low_is_on w.back)) w.bank.hi
+          w.bank.lo t
           (record {
             words = same_words (drive_seen w) w.core.drive refl t;
             change_is = refl;
@@ -962,7 +981,8 @@ returns at w outer i =
     keeps_timer : (at : TickAt) → 8 < tick_need at
         → ((w.bank.comm ≡ Some (due_at w.core.drive)) × (((low_on (drive_seen w) ≡ true) × (w.core.drive.postponed ≡ false)) ⊎ (w.core.drive.postponed ≡ true)))
         ⊎ ((n : ℕ) × (w.bank.comm ≡ Some n) × (n ≤ w.bank.time) × (w.core.drive.change ≤ w.bank.time))
-        → LowTied at (moved_view (drive_seen w) w.core.drive comm.Shut w.bank.comm w.bank.stuck (nat_lt 0 (turns_in w.back) && not (low_is_on w.back)) w.bank.hi w.bank.lo)
+        → LowTied at (moved_view (drive_seen w) w.core.drive comm.Shut w.bank.comm w.bank.stuck (nat_lt 0 (turns_in w.back) && not (low_is_on w.back))
+        w.bank.hi w.bank.lo)
     keeps_timer tick.Shut l k = k
     keeps_timer tick.Raise l k = k
     keeps_timer tick.Read l k = k
@@ -1091,7 +1111,7 @@ entry_drives w t unheld due = elim (cases_lt 0 (demand_at w.back)) [
   | inl l ↦ l
   | inr z ↦ absurd (
       let still = rest_still w.core.tick_at w.bank.hi w.bank.lo w.bank.flag w.bank.comm w.core.drive.postponed w.bank.stuck (unheld kind.Tick)
-          ((t kind.Tick).4 (omega arith)).rest in
+      ((t kind.Tick).4 (omega arith)).rest in
       let r : is_reached None w.bank.time ≡ true = subst (λ (x : Option ℕ). is_reached x w.bank.time ≡ true) still.disarmed due in
       cc)
 ]

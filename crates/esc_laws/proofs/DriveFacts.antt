@@ -1,15 +1,11 @@
 -- Small facts of the drive's ties.
-use Rattle.std.proofs.Common.{◌≡◌, ◌≢◌, ◌≤◌, ◌<◌, ◌+◌, inl, inr, ℕ, zero, suc, min, Bool, true, false, not, ◌&&◌, nat_le, if◌then◌else◌, Option, Some, None, refl, sym, ◌∙◌, ap, subst, arith, ◌⊎◌}
-use Rattle.std.proofs.lemmas.Bool.{cases_lt}
-use Rattle.std.proofs.lemmas.Bool.Decides.{nat_tests}
+use Rattle.std.proofs.Common.{◌≡◌, ◌≤◌, ◌<◌, ◌+◌, inl, inr, ℕ, zero, suc, min, Bool, true, false, not, ◌&&◌, if◌then◌else◌, Option, Some, refl, sym, ◌∙◌, ap, subst, arith}
 use Rattle.esc_base.specs.declared.gate.Leg.{Leg}
 use Rattle.esc_base.specs.Legs.{is_on, IsApart}
-use Rattle.esc_base.specs.Times.{is_reached}
 use Rattle.commutation.specs.Sectors.{high_of, low_of}
 use Rattle.gate_driver.specs.declared.all_off.AllOff.TheVariants as off
 use Rattle.gate_driver.specs.declared.to_sector.ChangeAt.{ChangeAt}
-use Rattle.gate_driver.specs.declared.to_sector.ChangeAt.TheVariants as change
-use Rattle.gate_driver.specs.Gated.{Legs, at_leg, free_after, offs}
+use Rattle.gate_driver.specs.Gated.{Legs, at_leg, offs}
 use Rattle.gate_driver.proofs.Bits.{off_is}
 use Rattle.gate_driver.proofs.OffTimes.{at_offs, off_stays}
 use Rattle.esc_core.specs.declared.state.CommAt.{CommAt}
@@ -18,10 +14,10 @@ use Rattle.esc_core.specs.declared.state.PwmAt.{PwmAt}
 use Rattle.esc_core.specs.declared.state.PwmAt.TheVariants as pwm
 use Rattle.esc_core.specs.declared.state.TickAt.{TickAt}
 use Rattle.esc_core.specs.declared.state.TickAt.TheVariants as tick
-use Rattle.esc_core.specs.Drive.{due_at, low_free}
+use Rattle.esc_core.specs.Drive.{low_free}
 use Rattle.esc_core.specs.Firmware.{comm_left, pwm_left, tick_left, tick_need}
 use Rattle.esc_laws.specs.Driven.{InPair}
-use Rattle.esc_laws.specs.DriveTied.{DriveView, DriveTied, CommTied, TimerKept, LowTied, RestAt, Still, Decides, OnOrLate, low_on, writes_duty}
+use Rattle.esc_laws.specs.DriveTied.{DriveView, DriveTied, CommTied, TimerKept, LowTied, RestAt, Still, writes_duty}
 
 -- ---- places
 
@@ -184,7 +180,7 @@ with_high v hi shut pair t =
       first = t.first;
       turned = t.turned;
       forced = t.forced;
-  unforced = t.unforced;
+      unforced = t.unforced;
       rest_unmarked = t.rest_unmarked;
       stuck = t.stuck;
       marked = t.marked;

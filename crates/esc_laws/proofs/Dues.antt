@@ -82,7 +82,16 @@ cap_entered due (Listens w m) trace c b p since e i timer d =
     let readable : is_readable b ≡ true = due_window due b i.hears.no_timer d in
     let by = closed_by (mode_of m) (burst (line trace).edges w (mode_of m)) b.time (closed_heard (cap_view trace c b p) w m i.hears readable) in
     rw e (record {
-      hears = record { armed = i.hears.armed; mode = i.hears.mode; opened = i.hears.opened; edges = i.hears.edges; core_mode = i.hears.core_mode; running = i.hears.running; no_timer = refl };
+      hears = record {
+        armed = i.hears.armed;
+        mode = i.hears.mode;
+        opened = i.hears.opened;
+        edges = i.hears.edges;
+        core_mode = i.hears.core_mode;
+        running =
+            i.hears.running;
+        no_timer = refl;
+      };
       closed_at = by.at;
       closes = by.closes;
       waits = by.past;
@@ -198,7 +207,16 @@ time_follows v u le = record {
   windows = refl;
   verdicts = refl;
   hears =
-      λ w m h. record { armed = h.armed; mode = h.mode; opened = h.opened; edges = h.edges; core_mode = h.core_mode; running = h.running; no_timer = h.no_timer };
+      λ w m h. record {
+        armed = h.armed;
+        mode = h.mode;
+        opened = h.opened;
+        edges = h.edges;
+        core_mode = h.core_mode;
+        running = h.running;
+        no_timer =
+            h.no_timer;
+      };
   settled = λ w m i. refl;
   closes = λ w m c e l. e;
   rested = λ t le. omega arith;

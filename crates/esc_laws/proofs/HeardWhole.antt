@@ -1,5 +1,5 @@
 -- A whole signal that begins on a line at rest is heard from its first edge.
-use Rattle.std.proofs.Common.{◌≡◌, ◌≤◌, ◌<◌, ◌+◌, ℕ, Bool, true, false, not, ◌&&◌, ◌==◌, nat_le, nat_lt, if◌then◌else◌, List, [], ◌∷◌, ◌++◌, length, Some, None, refl, sym, ◌∙◌, ap, subst, arith, All, append-nil, append_assoc, length-append}
+use Rattle.std.proofs.Common.{◌≡◌, ◌≤◌, ◌<◌, ◌+◌, ℕ, Bool, true, false, not, ◌&&◌, ◌==◌, nat_le, nat_lt, if◌then◌else◌, List, [], ◌∷◌, ◌++◌, length, refl, sym, ◌∙◌, ap, subst, arith, All, append-nil, append_assoc, length-append}
 use Rattle.std.proofs.lemmas.Bool.Decides.{nat_tests}
 use Rattle.std.proofs.lemmas.List.Elements.{All-head, All-tail}
 use Rattle.esc_base.specs.declared.event.Event.{Event}
@@ -19,7 +19,7 @@ use Rattle.arming.proofs.InOrder.{each_at}
 use Rattle.input_detect.specs.Judge.{judged}
 use Rattle.settings_block.specs.Settings.{servo_of}
 use Rattle.esc_laws.specs.Place.{Signal, Listens, place}
-use Rattle.esc_laws.specs.Windowed.{verdict_note, Answers, AnswersAt, WindowRule, Windowed}
+use Rattle.esc_laws.specs.Windowed.{verdict_note, Answers, AnswersAt, WindowRule}
 use Rattle.esc_laws.specs.HeardWhole.{KeepsOn, StandsAlone, IsVerdict, WholeSignalIsHeard}
 use Rattle.esc_laws.proofs.Growth.{last_at-push}
 
@@ -92,7 +92,8 @@ burst_is edges w m = refl
 
 pub alone_heard : (edges : List Edge) (w : ℕ) (m : Mode) (first : Edge) (rest : List Edge) → StandsAlone edges w m first rest → burst edges w m ≡ first ∷ rest
 alone_heard edges w m first rest a =
-    let begins : until_deaf m w [] (first ∷ rest ++ a.later) ≡ until_deaf m w (first ∷ []) (rest ++ a.later) = rw (hears_first m w first a.begins a.rises) refl in
+    let begins : until_deaf m w [] (first ∷ rest ++ a.later) ≡ until_deaf m w (first ∷ []) (rest ++ a.later) =
+    rw (hears_first m w first a.begins a.rises) refl in
     burst_is edges w m
     ∙ ap (λ (es : List Edge). until_deaf m w [] es) a.edges_are
     ∙ passed m w a.earlier (first ∷ rest ++ a.later) a.at_rest

@@ -1,9 +1,8 @@
 -- The handlers' laws, one row each.
-use Rattle.std.proofs.Common.{◌≡◌, refl, sym, ◌∙◌, arith}
+use Rattle.std.proofs.Common.{arith}
 use Rattle.esc_base.specs.declared.kind.Kind.{Kind}
 use Rattle.esc_base.specs.declared.kind.Kind.TheVariants as kind
 use Rattle.esc_laws.proofs.Law.{HandlerLaw}
-use Rattle.esc_laws.proofs.Entries.{entered_others}
 use Rattle.esc_laws.proofs.CapRoom.{cap_law}
 use Rattle.esc_laws.proofs.TickRoom.{tick_law}
 use Rattle.esc_laws.proofs.MainRoom.{main_law}

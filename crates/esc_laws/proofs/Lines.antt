@@ -41,7 +41,16 @@ plain_follows trace e c b p same le = record {
   entered = refl;
   windows = refl;
   verdicts = refl;
-  hears = λ w m h. record { armed = h.armed; mode = h.mode; opened = h.opened; edges = rw same h.edges; core_mode = h.core_mode; running = h.running; no_timer = h.no_timer };
+  hears = λ w m h. record {
+    armed = h.armed;
+    mode = h.mode;
+    opened = h.opened;
+    edges = rw same h.edges;
+    core_mode = h.core_mode;
+    running =
+        h.running;
+    no_timer = h.no_timer;
+  };
   settled = λ w m i. refl;
   closes = λ w m at h l. close_grows trace e w at (mode_of m) h (omega arith);
   rested = λ t r. first_grows trace e t (omega arith);

@@ -43,7 +43,19 @@ steps main.Shut w answers outer g t on left = absurd (omega arith)
 steps main.Work w answers outer g t on left = if_true w.core.orders.save_asked kind.Main outer w _ _ t.0 (saves w (took_first answers) outer g t.0 t.1 on)
 steps main.Back w answers outer g t on left = record {
   gates = quiet_gates kind.Main w _ (λ e. cc) refl refl refl;
-  fits = λ told. (record { at = refl; owned = refl; window = λ e. cc; nest = (inside (so_far w).stack kind.Main outer on, t); driven = λ e. cc; turns = tt; waits = tt }, tt);
+  fits = λ told. (
+    record {
+      at = refl;
+      owned = refl;
+      window = λ e. cc;
+      nest = (inside (so_far w).stack kind.Main outer on, t);
+      driven = λ e. cc;
+      turns =
+          tt;
+      waits = tt;
+    },
+    tt,
+  );
   ground = ground_noted w (note.Leave (as_tick w.bank.time) 0) refl refl tt refl g;
   tie = λ told. tt;
   others = elim [ kind.Main ↦ λ ne t. absurd (ne refl) | j ↦ λ ne t. t ];

@@ -1,5 +1,5 @@
 -- PWM's room.
-use Rattle.std.proofs.Common.{◌≡◌, ◌≢◌, ◌≤◌, ◌<◌, ◌+◌, ◌%◌, ◌⊎◌, inl, inr, ℕ, Bool, true, false, not, ◌&&◌, ◌||◌, ◌==◌, nat_lt, bit_and, bit_or, if◌then◌else◌, List, [], ◌∷◌, Option, Some, None, refl, sym, ◌∙◌, ap, subst, arith}
+use Rattle.std.proofs.Common.{◌≡◌, ◌≢◌, ◌≤◌, ◌<◌, ◌%◌, ◌⊎◌, inl, inr, ℕ, Bool, true, false, not, ◌&&◌, ◌||◌, ◌==◌, nat_lt, bit_and, bit_or, if◌then◌else◌, List, [], ◌∷◌, Option, Some, None, refl, sym, ◌∙◌, ap, subst, arith}
 use Rattle.std.specs.Int.Bits.{and_zero_r}
 use Rattle.std.proofs.lemmas.Bool.{cases_lt, cases_Bool, and_parts, lt-ltb, ltb-true, le-ltb, or_left, or_right}
 use Rattle.std.proofs.lemmas.Bool.Decides.{nat_tests}
@@ -18,12 +18,11 @@ use Rattle.interrupt_machine.specs.Open.{innermost}
 use Rattle.interrupt_machine.specs.Did.{accessed}
 use Rattle.arming.specs.ControlAt.{demand_at}
 use Rattle.commutation.specs.Sectors.{high_of}
-use Rattle.gate_driver.specs.declared.chop.Chop.{Chop}
 use Rattle.gate_driver.specs.declared.chop.Chop.TheVariants as chop
 use Rattle.gate_driver.specs.declared.all_off.AllOff.TheVariants as off
 use Rattle.gate_driver.specs.Gated.{Gated, gates_after, high_wait}
 use Rattle.gate_driver.specs.Acted.{KeepsDeadTime}
-use Rattle.gate_driver.specs.Chop.{chopped_leg, on_step, write_step, chop_step, HasChopped}
+use Rattle.gate_driver.specs.Chop.{chopped_leg, on_step, write_step, HasChopped}
 use Rattle.gate_driver.proofs.Bits.{all_off, or_on, or_is}
 use Rattle.gate_driver.proofs.OffTimes.{gates_same}
 use Rattle.gate_driver.proofs.DeadTime.{same_keeps, high_off_keeps, high_on_keeps}
@@ -36,12 +35,12 @@ use Rattle.esc_core.specs.Pwm.{chopped, pwm_step}
 use Rattle.esc_core.specs.Stepped.{Stepped}
 use Rattle.esc_core.specs.Firmware.{pwm_left, tick_need}
 use Rattle.esc_laws.specs.Driven.{InPair}
-use Rattle.esc_laws.specs.Calls.{calls_pwm, pwm_asked_at, pwm_entered_at}
-use Rattle.esc_laws.specs.DriveTied.{PwmTied, FlagTied, DutyTied, Rests, DriveView, writes_duty}
-use Rattle.esc_laws.specs.World.{World, so_far, after_step}
-use Rattle.esc_laws.specs.Rooms.{Ground, Ties, Tie, PwmTie, Unheld, Chops, GateFits, DriveKeeps, GatesKeep, StepKeeps, drive_seen}
+use Rattle.esc_laws.specs.Calls.{pwm_asked_at, pwm_entered_at}
+use Rattle.esc_laws.specs.DriveTied.{PwmTied, FlagTied, DutyTied, writes_duty}
+use Rattle.esc_laws.specs.World.{World, so_far}
+use Rattle.esc_laws.specs.Rooms.{Ground, Ties, Tie, Unheld, Chops, GateFits, GatesKeep, StepKeeps, drive_seen}
 use Rattle.esc_laws.proofs.RoomSteps.{ground_noted, inside, popped}
-use Rattle.esc_laws.proofs.DriveFacts.{comm_shut, duty_written, rest_still, pair_apart, high_view, with_high}
+use Rattle.esc_laws.proofs.DriveFacts.{comm_shut, duty_written, rest_still, pair_apart, with_high}
 use Rattle.esc_laws.proofs.Law.{HandlerLaw}
 
 -- ---- what calls PWM, and what it is entered for
@@ -76,13 +75,12 @@ flag_drives w t unheld up = elim (cases_lt 0 (demand_at w.back)) [
   | inl l ↦ l
   | inr z ↦ absurd (
       let still = rest_still w.core.tick_at w.bank.hi w.bank.lo w.bank.flag w.bank.comm w.core.drive.postponed w.bank.stuck (unheld kind.Tick)
-          ((t kind.Tick).4 (omega arith)).rest in
+      ((t kind.Tick).4 (omega arith)).rest in
       let z : true ≡ false = sym up ∙ still.no_event in
       cc)
 ]
 
 -- ---- a step that leaves the gates
-
 
 -- while PWM is open TICK's tie holds, since there is a demand
 tick_beside : (place place' : PwmAt) (w : World) (hi : ℕ) → w.core.pwm_at ≡ place → (place ≡ pwm.Shut → ⊥) → Tie kind.Tick w
@@ -146,7 +144,8 @@ record Writes (leg : Option Leg) (w : World) (outer : List Kind) : Type 0 where
   drives : 0 < demand_at w.back
   shut : w.core.comm_at ≡ comm.Shut
 
-chops_so : (leg : Option Leg) (w : World) (outer : List Kind) (after : Bank) → Writes leg w outer → HasChopped leg w.core.drive.gates w.bank after → Chops w after
+chops_so : (leg : Option Leg) (w : World) (outer : List Kind) (after : Bank) → Writes leg w outer → HasChopped leg w.core.drive.gates w.bank after
+    → Chops w after
 chops_so leg w outer after i h =
     let by = chops_of leg (nat_lt (w.made.sampled % 2000) (demand_at w.back)) w.bank.sector w.core.drive.gates w.bank after i.leg_is h in
     record {
@@ -155,8 +154,10 @@ chops_so leg w outer after i h =
     }
 
 -- a write that changes the word of high switches
-write_word : (leg : Option Leg) (w : World) (outer : List Kind) (s : Stepped) (after : Bank) → Writes leg w outer → s.core.drive.gates ≡ gates_after w.core.drive.gates w.bank after
-    → after ≡ accessed w.bank s.access → s.over ≡ false → s.notes ≡ [] → after.lo ≡ w.bank.lo → InPair w.bank.sector after.hi w.bank.lo → KeepsDeadTime w.bank s.core.drive.gates after
+write_word : (leg : Option Leg) (w : World) (outer : List Kind) (s : Stepped) (after : Bank) → Writes leg w outer
+    → s.core.drive.gates ≡ gates_after w.core.drive.gates w.bank after
+    → after ≡ accessed w.bank s.access → s.over ≡ false → s.notes ≡ [] → after.lo ≡ w.bank.lo → InPair w.bank.sector after.hi w.bank.lo
+    → KeepsDeadTime w.bank s.core.drive.gates after
     → HasChopped leg w.core.drive.gates w.bank after → GatesKeep kind.Pwm w s
 write_word leg w outer s after i off_times same over silent lo pair dead h = record {
   off_times = subst (λ (b : Bank). s.core.drive.gates ≡ gates_after w.core.drive.gates w.bank b) same off_times;
@@ -272,7 +273,8 @@ open_drives w place t e ne = elim (cases_lt 0 (demand_at w.back)) [
   | inr z ↦ absurd (ne (sym e ∙ ((t kind.Tick).4 (omega arith)).pwm_shut))
 ]
 
-steps : (place : PwmAt) (w : World) (outer : List Kind) → Ground w → Ties w → w.core.pwm_at ≡ place → w.core.comm_at ≡ comm.Shut → w.bank.duty ≡ demand_at w.back
+steps : (place : PwmAt) (w : World) (outer : List Kind) → Ground w → Ties w → w.core.pwm_at ≡ place → w.core.comm_at ≡ comm.Shut
+    → w.bank.duty ≡ demand_at w.back
     → PwmTied place w.made.pwm_own w.made.sampled (demand_at w.back) w.bank.sector → (so_far w).stack ≡ kind.Pwm ∷ outer → 0 < pwm_left place
     → StepKeeps kind.Pwm outer w (pwm_step place w.core w.bank)
 steps pwm.Shut w outer g t e shut duty i on left = absurd (omega arith)

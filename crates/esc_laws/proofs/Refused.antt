@@ -77,7 +77,8 @@ control_refuses = record {
   stuck_in_the_next_drive =
       λ after h. (let e = (last_fits (ticks 2404 1 0 20 ∷ rows 61 (ticks 4804 2 1 0 ∷ [])) after (ticks 7204 3 1 0) h).tick.marks_are in absurd (omega arith));
   row_that_a_crossing_ended =
-      λ after h. (let e = (last_fits (ticks 2404 1 0 20 ∷ rows 40 (crosses 3000 ∷ rows 40 [])) after (ticks 4804 2 1 0) h).tick.marks_are in absurd (omega arith));
+      λ after h. (let e = (last_fits (ticks 2404 1 0 20 ∷ rows 40 (crosses 3000 ∷ rows 40 [])) after (ticks 4804 2 1 0) h).tick.marks_are in absurd
+      (omega arith));
 }
 
 -- ---- windows
@@ -161,7 +162,8 @@ windows_refuse = record {
 nest_fits : (nest : Nest) (loaded : Loaded) (notes after : List Note) (n : Note) → NestedAfter nest (opening loaded) (notes ++ n ∷ after)
     → NestRuleAt nest (placed (reverse (opening loaded ++ notes))) (reverse (opening loaded ++ notes)) n
 nest_fits nest loaded notes after n whole =
-    subst (λ (p : Place). NestRuleAt nest p (reverse (opening loaded ++ notes)) n) (sym (placed-is (opening loaded ++ notes))) (each_at (NestRule nest) (opening loaded) notes n after whole)
+    subst (λ (p : Place). NestRuleAt nest p (reverse (opening loaded ++ notes)) n) (sym (placed-is (opening loaded ++ notes)))
+    (each_at (NestRule nest) (opening loaded) notes n after whole)
 
 -- no kind enters above itself or a higher one
 not_above : (nest : Nest) (j : Kind) (k : ℕ) → 0 < kind_number j → k ≤ kind_number j → IsAboveAll nest (j ∷ []) k → ⊥

@@ -239,8 +239,10 @@ steps_refuse = record {
       (own t kind.Tick notes) in absurd (omega arith));
   open_after_48_steps = λ loaded log open_is all few. (let fewer = few kind.Tick (rw open_is refl) in absurd (omega arith));
   cap_waits_for_nine_steps = λ loaded cost each. (let most = each.1.1.1.1.1.1.1.1.1.0.patient kind.Cap in let nine = waited loaded in absurd (omega arith));
-  comm_waits_for_nine_steps = λ loaded cost each. (let most = each.1.1.1.1.1.1.1.1.1.1.0.patient kind.Comm in let nine = drive_called loaded in absurd (omega arith));
-  pwm_waits_for_nine_steps = λ loaded cost each. (let most = each.1.1.1.1.1.1.1.1.1.1.0.patient kind.Pwm in let nine = drive_called_pwm loaded in absurd (omega arith));
+  comm_waits_for_nine_steps = λ loaded cost each. (let most = each.1.1.1.1.1.1.1.1.1.1.0.patient kind.Comm in let nine =
+      drive_called loaded in absurd (omega arith));
+  pwm_waits_for_nine_steps = λ loaded cost each. (let most = each.1.1.1.1.1.1.1.1.1.1.0.patient kind.Pwm in let nine =
+      drive_called_pwm loaded in absurd (omega arith));
   pwm_enters_before_comm = λ loaded nest cost f. (let e = (f.first (started_open loaded)).1 kind.Comm refl in absurd (omega arith));
   start_waits_for_a_step = λ loaded nest f. (
       let from = started_after in

@@ -1,5 +1,5 @@
 -- No rest passes without a window: CAP is called, and opens it.
-use Rattle.std.proofs.Common.{◌≡◌, ◌≤◌, ◌+◌, ℕ, Bool, true, false, not, ◌&&◌, nat_le, max, if◌then◌else◌, List, [], ◌∷◌, ◌++◌, reverse, Some, inl, inr, ◌≢◌, ◌==◌, All, refl, sym, ◌∙◌, ap, subst, arith, append-nil, append_assoc}
+use Rattle.std.proofs.Common.{◌≡◌, ◌≤◌, ◌+◌, ℕ, Bool, true, false, max, if◌then◌else◌, List, [], ◌∷◌, ◌++◌, reverse, Some, inl, inr, ◌≢◌, ◌==◌, All, refl, ◌∙◌, ap, subst, arith, append-nil, append_assoc}
 use Rattle.std.proofs.lemmas.Bool.{le-leb, ne_eqb}
 use Rattle.std.proofs.lemmas.List.Elements.{All-head, All-tail}
 use Rattle.esc_base.specs.declared.kind.Kind.{Kind}
@@ -14,14 +14,13 @@ use Rattle.esc_base.specs.Trace.{line}
 use Rattle.settings_block.specs.declared.stored.Loaded.{Loaded}
 use Rattle.interrupt_machine.specs.declared.nest.Nest.{Nest}
 use Rattle.arming.proofs.InOrder.{each_rest}
-use Rattle.interrupt_machine.specs.Open.{is_open, kind_of}
+use Rattle.interrupt_machine.specs.Open.{kind_of}
 use Rattle.interrupt_machine.specs.Response.{counts, wait_next}
 use Rattle.esc_laws.specs.Place.{Signal, Rests, Place, place_entered, place_left, next, place}
 use Rattle.esc_laws.specs.Nested.{HasDone, NestRule}
 use Rattle.esc_laws.specs.Windowed.{AnswersAt, WindowRuleAt, WindowRule}
 use Rattle.esc_laws.specs.Rested.{first_rested}
-use Rattle.esc_laws.specs.Seen.{calls_cap}
-use Rattle.esc_laws.specs.Steps.{Turned, opening, journal, open_in, is_called, called, EachStep, StepFits}
+use Rattle.esc_laws.specs.Steps.{Turned, opening, is_called, called, EachStep, StepFits}
 use Rattle.esc_laws.specs.RestOpens.{waiting_steps, HasNoWindow, StaysWithout, RestCallsCap, OpensNone, CapOpensWindow}
 use Rattle.esc_laws.proofs.Pushes.{called-push, place-push}
 
@@ -92,7 +91,12 @@ entered_other f r p t k ne h = by_tests (k == 3) (k == 2) (k == 0) (kind_of k �
   where
     by_tests : (x a b : Bool) (stack : List Kind) → x ≡ false
         → NothingYet f r
-        (if x then record p { stack = stack; cap_entered = t; windows = 0; verdicts = 0; last = t } else if a then record p { stack = stack; ticks = 0; last = t } else if b then record p { stack = stack; saves = 0; last = t } else record p { stack = stack; last = t })
+        (if x then record p { stack = stack; cap_entered = t; windows = 0; verdicts = 0; last = t } else if a then record p {
+          stack = stack;
+          ticks = 0;
+          last =
+              t;
+        } else if b then record p { stack = stack; saves = 0; last = t } else record p { stack = stack; last = t })
     by_tests true a b stack e = absurd (let z = e in cc)
     by_tests false true b stack e = record { signal = h.signal; windows = h.windows; verdicts = h.verdicts }
     by_tests false false true stack e = record { signal = h.signal; windows = h.windows; verdicts = h.verdicts }

@@ -1,5 +1,5 @@
 -- The first rested tick, and the window timer that waits for it.
-use Rattle.std.proofs.Common.{◌≡◌, ◌≤◌, ◌<◌, ◌+◌, ℕ, Bool, true, false, ◌&&◌, nat_le, nat_lt, max, if◌then◌else◌, List, [], ◌∷◌, ◌++◌, Option, Some, None, refl, sym, ◌∙◌, ap, arith, All, slice_index_or, ◌⊎◌, inl, inr}
+use Rattle.std.proofs.Common.{◌≡◌, ◌≤◌, ◌<◌, ◌+◌, ℕ, Bool, true, false, ◌&&◌, nat_le, nat_lt, max, if◌then◌else◌, List, [], ◌∷◌, ◌++◌, Option, Some, refl, ◌∙◌, ap, arith, All, slice_index_or, ◌⊎◌, inl, inr}
 use Rattle.std.specs.List.{fold}
 use Rattle.std.proofs.lemmas.Bool.{leb-true, leb-false, cases_lt}
 use Rattle.std.proofs.lemmas.Bool.Decides.{nat_tests}

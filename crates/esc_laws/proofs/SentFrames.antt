@@ -1,16 +1,12 @@
 -- A frame that is sent behind the opening of a window is read.
-use Rattle.std.proofs.Common.{◌≡◌, ◌≤◌, ◌<◌, ◌+◌, ◌*◌, ◌/◌, ◌%◌, ℕ, Bool, true, false, ◌==◌, ◌&&◌, nat_le, if◌then◌else◌, List, [], ◌∷◌, ◌++◌, length, slice_index_or, refl, sym, ◌∙◌, ap, subst, arith, lit≤, All}
+use Rattle.std.proofs.Common.{◌≡◌, ◌≤◌, ◌<◌, ◌+◌, ◌*◌, ◌/◌, ℕ, Bool, true, false, if◌then◌else◌, List, [], ◌∷◌, ◌++◌, length, slice_index_or, refl, sym, ◌∙◌, ap, subst, arith}
 use Rattle.std.proofs.lemmas.Bool.{le-leb}
 use Rattle.std.proofs.lemmas.List.Elements.{length_all_zip}
 use Rattle.esc_base.specs.declared.signal.Edge.{Edge}
-use Rattle.esc_base.specs.declared.signal.Frame.{Frame}
 use Rattle.esc_base.specs.declared.signal.Mode.{Mode}
 use Rattle.esc_base.specs.declared.signal.Mode.TheVariants as mode
-use Rattle.esc_base.specs.declared.signal.Verdict.{Verdict}
-use Rattle.esc_base.specs.declared.signal.Verdict.TheVariants as verdict
-use Rattle.esc_base.specs.declared.note.Note.TheVariants as note
 use Rattle.esc_base.specs.Journal.{time_of}
-use Rattle.esc_base.specs.Numbers.{mode_of, mode_number, as_tick, bit_of}
+use Rattle.esc_base.specs.Numbers.{mode_of, mode_number}
 use Rattle.esc_base.specs.Trace.{line}
 use Rattle.edge_capture.specs.Burst.{wait}
 use Rattle.edge_capture.specs.Edges.{last_at}
@@ -143,7 +139,8 @@ judged_frame mode.D300Inv edges allowed servo f = refl
 judged_frame mode.D600Inv edges allowed servo f = refl
 
 pub sent_frame_is_read : SentFrameIsRead
-sent_frame_is_read loaded trace before after said w m s word frame first rest earlier later windowed listens is frames good moved edges_are at_rest begins ends =
+sent_frame_is_read loaded trace before after said w m s word frame first rest earlier later windowed listens is frames good moved edges_are at_rest
+    begins ends =
     let len : length (first ∷ rest) ≡ 32 = length-sent m _ s word (first ∷ rest) moved in
     let full : most m ≤ length (first ∷ rest) = rw (most_frame m frames, len) (omega arith) in
     let none : wait m (first ∷ rest) ≡ 0 = rw (le-leb (most m) (length (first ∷ rest)) full) refl in

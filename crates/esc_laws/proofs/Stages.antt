@@ -19,7 +19,7 @@ use Rattle.timer_regs.specs.Bank.{Bank}
 use Rattle.timer_regs.specs.Effects.{after_entry, after_line}
 use Rattle.interrupt_machine.specs.declared.nest.Nest.{Nest}
 use Rattle.interrupt_machine.specs.Did.{accessed}
-use Rattle.interrupt_machine.specs.Open.{due_now, kind_of}
+use Rattle.interrupt_machine.specs.Open.{due_now}
 use Rattle.interrupt_machine.specs.Turn.{gate_note}
 use Rattle.interrupt_machine.proofs.OpenKinds.{kind_of-number, same_kind}
 use Rattle.arming.proofs.InOrder.{reverse-push}
@@ -221,8 +221,7 @@ gate_said k w s keep told other =
     let said = said_after w.core.drive.gates s.core.drive.gates w.bank after w.back at keep.off_times told (keep.fits told other.moves).dead_time in
     let tied : IsTied s.core.drive.gates after.hi after.lo (note.Gate (as_tick after.time) after.hi after.lo ∷ w.back) =
     subst (λ (v : Bool). IsTied s.core.drive.gates after.hi after.lo (if v then w.back else note.Gate (as_tick after.time) after.hi after.lo ∷ w.back)) test
-    said.tied in
-    (
+    said.tied in (
       subst (λ (t : ℕ). IsSafe w.back (note.Gate (as_tick t) after.hi after.lo)) at (said.safe test),
       subst (λ (t : ℕ). IsTied s.core.drive.gates after.hi after.lo (note.Gate (as_tick t) after.hi after.lo ∷ w.back)) at tied,
     )
@@ -263,7 +262,8 @@ step_made k answers loaded nest trace c b made rest outer i past above alone lef
       )
       | inr other ↦ (
           let told : StepKeeps k outer (gated w after) s =
-          (law k).steps (gated w after) answers outer (ground_noted w g refl refl tt refl i.ground) (λ j. gate_tie j w after (ties j)) shut holds past on some in
+          (law k).steps (gated w after) answers outer (ground_noted w g refl refl tt refl i.ground) (λ j. gate_tie j w after (ties j)) shut holds
+          past on some in
           let by = gate_said k w s plain.gates was other in
           let gate = plain.gates.fits was other.moves in
           let said : Said loaded nest trace b.time (rest ++ g ∷ []) =
@@ -349,11 +349,24 @@ later_ground w u from small g = record {
 -- ---- an event at now
 
 outside_is : (b : Bank) (e : Event)
-    → after_event b e ≡ record b { level = (after_event b e).level; window = (after_event b e).window; timer = (after_event b e).timer; changed = (after_event b e).changed }
+    → after_event b e ≡ record b {
+      level = (after_event b e).level;
+      window = (after_event b e).window;
+      timer = (after_event b e).timer;
+      changed =
+          (after_event b e).changed;
+    }
 outside_is b (event.Edge at level) = by_test (differ b.level level)
   where
     by_test : (v : Bool)
-        → (if v then edge_bank b level else b) ≡ record b { level = (if v then edge_bank b level else b).level; window = (if v then edge_bank b level else b).window; timer = (if v then edge_bank b level else b).timer; changed = (if v then edge_bank b level else b).changed }
+        → (if v then edge_bank b level else b) ≡ record b {
+          level = (if v then edge_bank b level else b).level;
+          window =
+              (if v then edge_bank b level else b).window;
+          timer = (if v then edge_bank b level else b).timer;
+          changed =
+              (if v then edge_bank b level else b).changed;
+        }
     by_test true = refl
     by_test false = refl
 outside_is b e = refl
@@ -388,7 +401,13 @@ outside_ground w (event.Edge at level) is g =
     (record w {
       trace = w.trace ++ event.Edge
           (as_tick n) level ∷ [];
-      bank = record w.bank { level = (after_line w.bank level).level; window = (after_line w.bank level).window; timer = (after_line w.bank level).timer; changed = (after_line w.bank level).changed };
+      bank = record w.bank {
+        level = (after_line w.bank level).level;
+        window = (after_line w.bank level).window;
+        timer =
+            (after_line w.bank level).timer;
+        changed = (after_line w.bank level).changed;
+      };
     }))
     (sym is)
     (edge_ground (differ w.bank.level level) w level refl g)

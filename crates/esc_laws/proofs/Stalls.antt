@@ -79,7 +79,8 @@ pub after_before : (cost : ℕ) (trace : List Event) (e : Event) (log : List Tur
     → after cost (trace ++ e ∷ []) log ≡ after cost trace log
 after_before cost trace e log l = after_grows cost trace e log ∙ past_before e (after cost trace log) l
 
-pub uses_before : (cost : ℕ) (trace : List Event) (e : Event) (m t : ℕ) → uses cost trace m t < tick_of e → uses cost (trace ++ e ∷ []) m t ≡ uses cost trace m t
+pub uses_before : (cost : ℕ) (trace : List Event) (e : Event) (m t : ℕ) → uses cost trace m t < tick_of e
+    → uses cost (trace ++ e ∷ []) m t ≡ uses cost trace m t
 uses_before cost trace e zero t l = refl
 uses_before cost trace e (suc m) t l =
     let later = free_later trace (uses cost trace m t + cost) in

@@ -46,7 +46,8 @@ use Rattle.esc_laws.proofs.Turns.{reached_on, reached_new, by_on, by_new, stood,
 
 waits_due : (loaded : Loaded) (nest : Nest) (trace : List Event) (c : Brain) (b : Bank) (stack : List Kind) (log : List Turned) → Keeps c b stack
     → Ground (world loaded nest trace c b log) → ((j : Kind) → Tie j (world loaded nest trace c b log)) → WordTold c b (reverse (journal loaded log))
-    → ((j : Kind) → 8 < need_of c j) → (k : Kind) → sees trace (journal loaded log) b.time k ≡ true → is_open stack k ≡ false → due_now c.orders.save_asked b k ≡ true
+    → ((j : Kind) → 8 < need_of c j) → (k : Kind) → sees trace (journal loaded log) b.time k ≡ true → is_open stack k ≡ false
+    → due_now c.orders.save_asked b k ≡ true
 waits_due loaded nest trace c b stack log keeps g t told unheld k s f =
     (law k).called (world loaded nest trace c b log) g t told unheld (keeps.shut k f)
     (subst (λ (p : Place). sees_at trace p (reverse (journal loaded log)) b.time k ≡ true) (sym (placed-is (journal loaded log))) s)
@@ -78,7 +79,8 @@ entry_fits loaded nest cost trace c b stack log k l down chosen calls = record {
   first = λ o. (
     refl,
     λ j s. highest_most (due_now c.orders.save_asked b) k j
-        (waits_due loaded nest trace c b stack log l.keeps l.ground l.ties l.gates (unheld_down c b stack l.keeps down) j s (empty_open stack j (l.marks.stack_is ∙ o)))
+        (waits_due loaded nest trace c b stack log l.keeps l.ground l.ties l.gates (unheld_down c b stack l.keeps down) j s
+        (empty_open stack j (l.marks.stack_is ∙ o)))
         (entry_highest nest stack (due_now c.orders.save_asked b) k chosen),
   );
   entry = λ e. refl;

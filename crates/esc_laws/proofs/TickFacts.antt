@@ -1,24 +1,19 @@
 -- What the ties of PWM and COMM become at a step of TICK.
-use Rattle.std.proofs.Common.{◌≡◌, ◌≢◌, ◌≤◌, ◌<◌, ◌+◌, ◌⊎◌, inl, inr, ℕ, Bool, true, false, not, ◌&&◌, ◌||◌, ◌==◌, nat_lt, nat_le, if◌then◌else◌, Option, Some, None, refl, sym, ◌∙◌, ap, subst, arith}
-use Rattle.std.proofs.lemmas.Bool.{or_left}
+use Rattle.std.proofs.Common.{◌≡◌, ◌≤◌, ◌<◌, ◌⊎◌, inl, inr, ℕ, Bool, true, false, not, ◌&&◌, ◌==◌, nat_lt, if◌then◌else◌, Some, None, refl, sym, ◌∙◌, subst, arith}
 use Rattle.std.proofs.lemmas.Bool.Decides.{nat_tests}
 use Rattle.esc_base.specs.declared.gate.Leg.{Leg}
 use Rattle.esc_base.specs.Legs.{is_on}
-use Rattle.esc_base.specs.Periods.{edges}
-use Rattle.commutation.specs.Commutated.{Turn, Idle, Started, Turned, Crossed}
+use Rattle.commutation.specs.Commutated.{Idle, Started}
 use Rattle.gate_driver.specs.declared.all_off.AllOff.TheVariants as off
 use Rattle.gate_driver.specs.declared.to_sector.ChangeAt.{ChangeAt}
 use Rattle.gate_driver.specs.declared.to_sector.ChangeAt.TheVariants as change
-use Rattle.gate_driver.specs.Gated.{Legs, at_leg, offs}
+use Rattle.gate_driver.specs.Gated.{Legs, offs}
 use Rattle.gate_driver.proofs.OffTimes.{offs_same}
 use Rattle.esc_core.specs.declared.state.CommAt.{CommAt}
 use Rattle.esc_core.specs.declared.state.CommAt.TheVariants as comm
 use Rattle.esc_core.specs.declared.state.TickAt.{TickAt}
 use Rattle.esc_core.specs.declared.state.TickAt.TheVariants as tick
-use Rattle.esc_core.specs.declared.drive.Drive.{Drive}
-use Rattle.esc_core.specs.Drive.{is_stuck}
 use Rattle.esc_core.specs.Tick.{drive_after}
-use Rattle.esc_laws.specs.Driven.{InPair}
 use Rattle.esc_laws.specs.DriveTied.{DriveView, DriveTied, CommTied, TurnTied, HasActed, OnOrHeld, Resumed, LowTied, TimerKept, FlagTied, writes_duty}
 
 -- ---- PWM's flag

@@ -1,7 +1,7 @@
 -- TICK's room.
-use Rattle.std.proofs.Common.{◌≡◌, ◌≢◌, ◌≤◌, ◌<◌, ◌+◌, ◌-◌, ◌/◌, ◌⊎◌, inl, inr, ℕ, Bool, true, false, not, ◌&&◌, ◌||◌, ◌==◌, nat_lt, nat_le, bit_and, if◌then◌else◌, List, [], ◌∷◌, Option, Some, None, refl, sym, ◌∙◌, ap, subst, arith}
+use Rattle.std.proofs.Common.{◌≡◌, ◌≤◌, ◌<◌, ◌+◌, ◌-◌, ◌/◌, inl, inr, ℕ, Bool, true, false, not, ◌&&◌, ◌||◌, ◌==◌, nat_lt, bit_and, if◌then◌else◌, List, [], ◌∷◌, Option, Some, None, refl, sym, ◌∙◌, ap, subst, arith}
 use Rattle.std.specs.Int.Bits.{and_zero_r}
-use Rattle.std.proofs.lemmas.Bool.{cases_lt, lt-ltb, ltb-true, le-ltb, or_left, or_right}
+use Rattle.std.proofs.lemmas.Bool.{cases_lt, lt-ltb, ltb-true, le-ltb}
 use Rattle.std.proofs.lemmas.Bool.Decides.{nat_tests}
 use Rattle.esc_base.specs.declared.gate.Leg.{Leg}
 use Rattle.esc_base.specs.declared.kind.Kind.{Kind}
@@ -18,18 +18,16 @@ use Rattle.timer_regs.specs.declared.regs.Reg.TheVariants as reg
 use Rattle.interrupt_machine.specs.Did.{Reads, Writes, accessed}
 use Rattle.interrupt_machine.specs.Open.{innermost}
 use Rattle.arming.specs.ControlAt.{demand_at, number_at, marks_at}
-use Rattle.arming.specs.Decide.{decide, answer_of}
+use Rattle.arming.specs.Decide.{decide}
 use Rattle.arming.specs.Kept.{Kept, after_tick, view_of}
 use Rattle.arming.specs.Stands.{Stands, with_outcome}
 use Rattle.arming.proofs.TickTies.{tick_stands, start_is}
-use Rattle.commutation.specs.Commutated.{sector_at, stuck_at}
+use Rattle.commutation.specs.Commutated.{stuck_at}
 use Rattle.commutation.specs.Drive.{rests_at}
-use Rattle.gate_driver.specs.declared.all_off.AllOff.{AllOff}
 use Rattle.gate_driver.specs.declared.all_off.AllOff.TheVariants as off
-use Rattle.gate_driver.specs.Gated.{Gated, gates_after}
+use Rattle.gate_driver.specs.Gated.{gates_after}
 use Rattle.gate_driver.specs.Acted.{KeepsDeadTime}
-use Rattle.gate_driver.specs.AllOff.{all_off_step}
-use Rattle.gate_driver.proofs.Bits.{all_off, on_and}
+use Rattle.gate_driver.proofs.Bits.{on_and}
 use Rattle.gate_driver.proofs.DeadTime.{high_off_keeps, low_off_keeps}
 use Rattle.esc_core.specs.declared.state.PwmAt.{PwmAt}
 use Rattle.esc_core.specs.declared.state.PwmAt.TheVariants as pwm
@@ -37,15 +35,15 @@ use Rattle.esc_core.specs.declared.state.CommAt.TheVariants as comm
 use Rattle.esc_core.specs.declared.state.TickAt.{TickAt}
 use Rattle.esc_core.specs.declared.state.TickAt.TheVariants as tick
 use Rattle.esc_core.specs.Drive.{is_stuck}
-use Rattle.esc_core.specs.Tick.{number_in, marks_in, number_step, after_number, drive_after, outcome_note, ticked, off_step, tick_step}
+use Rattle.esc_core.specs.Tick.{number_in, marks_in, number_step, drive_after, outcome_note, ticked, tick_step}
 use Rattle.esc_core.specs.Stepped.{Stepped, goes_on}
-use Rattle.esc_core.specs.Firmware.{tick_left, tick_need}
-use Rattle.esc_laws.specs.Driven.{InPair, TurnsNoneOn}
+use Rattle.esc_core.specs.Firmware.{tick_left}
+use Rattle.esc_laws.specs.Driven.{InPair}
 use Rattle.esc_laws.specs.Calls.{pwm_asked_at, pwm_entered_at}
-use Rattle.esc_laws.specs.Tied.{TickTied, WordTold}
-use Rattle.esc_laws.specs.DriveTied.{DriveView, DriveTied, LowTied, TimerKept, FlagTied, PwmTied, DutyTied, RestAt, Still, Rests, writes_duty}
+use Rattle.esc_laws.specs.Tied.{TickTied}
+use Rattle.esc_laws.specs.DriveTied.{DriveTied, LowTied, FlagTied, PwmTied, DutyTied, RestAt, Still, Rests}
 use Rattle.esc_laws.specs.World.{World, so_far}
-use Rattle.esc_laws.specs.Rooms.{Ground, Ties, Tie, TickTie, DriveKeeps, GateFits, GatesKeep, StepKeeps, drive_seen}
+use Rattle.esc_laws.specs.Rooms.{Ground, Ties, GatesKeep, StepKeeps, drive_seen}
 use Rattle.esc_laws.proofs.Facts.{due_tick, tick_due}
 use Rattle.esc_laws.proofs.Saves.{orders_other}
 use Rattle.esc_laws.proofs.RoomSteps.{quiet_gates, ground_noted, inside, popped, if_true}
@@ -160,7 +158,8 @@ asks lost armed_now start w outer marks demand kept i begins none st number = by
     gates_same true = refl
     gates_same false = refl
 
-    rest_now : demand ≡ 0 → Rests (if demand == 0 then tick.Off off.High else tick.DutyOn start) w.core.pwm_at w.core.comm_at w.bank.hi w.bank.lo w.bank.flag w.bank.comm
+    rest_now : demand ≡ 0 → Rests (if demand == 0 then tick.Off off.High else tick.DutyOn start) w.core.pwm_at w.core.comm_at w.bank.hi w.bank.lo w.bank.flag
+        w.bank.comm
         (drive_after start w.bank.time w.core.drive).postponed w.bank.stuck
     rest_now z = record {
       rest = asked_rest (demand == 0) start demand w.bank.hi w.bank.lo w.bank.flag w.bank.comm (drive_after start w.bank.time w.core.drive).postponed
@@ -169,11 +168,13 @@ asks lost armed_now start w outer marks demand kept i begins none st number = by
       comm_shut = i.comm_is;
     }
 
-    flag_now : FlagTied (if demand == 0 then tick.Off off.High else tick.DutyOn start) w.bank.flag (not (demand == 0)) demand (pwm_entered_at w.back) w.bank.time
+    flag_now : FlagTied (if demand == 0 then tick.Off off.High else tick.DutyOn start) w.bank.flag (not (demand == 0)) demand
+        (pwm_entered_at w.back) w.bank.time
     flag_now = asked_flag (demand == 0) start w.bank.flag demand (pwm_entered_at w.back) w.bank.time refl (i.ties kind.Pwm).1.past
 
     drive_now : DriveTied (asked_view (drive_seen w) (demand == 0) (rests_at w.back) (nat_lt 0 demand) start demand)
-    drive_now = asked_drive (demand == 0) (rests_at w.back) (nat_lt 0 demand) start (drive_seen w) demand refl (rests_is w.back) refl begins (asked_in w outer i)
+    drive_now = asked_drive (demand == 0) (rests_at w.back) (nat_lt 0 demand) start (drive_seen w) demand refl (rests_is w.back) refl begins
+        (asked_in w outer i)
         (i.ties kind.Comm)
 
     ticks_now : (so_far w).ticks + 1 ≡ 1
@@ -300,7 +301,8 @@ reads_as n marks w outer i is marks_are below none = subst (λ (m : ℕ). StepKe
     ∙ ap (λ (d : ℕ). nat_lt 0 answer.demand && (d == 0)) i.ground.control.ties.demand_is
     ∙ ap (λ (b : Bool). nat_lt 0 answer.demand && b) (rests_is w.back) in
     if_true (nat_lt w.core.control.number m) kind.Tick outer w _ _ (lt-ltb w.core.control.number m less)
-    (asks answer.lost answer.armed_now answer.start w outer marks answer.demand (after_tick w.core.control m (decide (view_of w.core.control) m marks)) i begins none
+    (asks answer.lost answer.armed_now answer.start w outer marks answer.demand (after_tick w.core.control m (decide (view_of w.core.control) m marks)) i
+    begins none
     st (st.ties.number_is ∙ outcome_number answer.lost answer.armed_now w.bank.time m marks answer.demand w.back)))
 
 reads : (stuck : Bool) (w : World) (outer : List Kind) → w.bank.stuck ≡ stuck → IsTick w outer tick.Read
@@ -309,7 +311,8 @@ reads : (stuck : Bool) (w : World) (outer : List Kind) → w.bank.stuck ≡ stuc
     (marks_in (if stuck then w.bank.time / 2400 + 1073741824 else w.bank.time / 2400)) w.core w.bank)
 reads true w outer e i =
     let tied = ticks_tie w outer tick.Read i in
-    reads_as (number_in (w.bank.time / 2400 + 1073741824)) (marks_in (w.bank.time / 2400 + 1073741824)) w outer i (rw (le-ltb (w.bank.time / 2400 + 1073741824) 1073741824 (omega arith)) (back (w.bank.time / 2400)))
+    reads_as (number_in (w.bank.time / 2400 + 1073741824)) (marks_in (w.bank.time / 2400 + 1073741824)) w outer i
+    (rw (le-ltb (w.bank.time / 2400 + 1073741824) 1073741824 (omega arith)) (back (w.bank.time / 2400)))
     (rw (le-ltb (w.bank.time / 2400 + 1073741824) 1073741824 (omega arith), mark_is w outer i ∙ e) refl) tied.0 tied.1
   where
     back : (t : ℕ) → (t + 1073741824) - 1073741824 ≡ t
@@ -358,7 +361,8 @@ high_off w outer i =
     let pair : InPair w.bank.sector hi w.bank.lo = record { high = λ x on. t.pair.high x (on_and w.bank.hi 0 x on); low = t.pair.low } in
     record {
       gates = off_gates w outer (tick.Off off.High) _ i zero refl
-          (high_off_keeps (gates_after w.core.drive.gates w.bank after) w.bank after 0 refl refl (pair_apart w.bank.sector w.bank.hi w.bank.lo t.sectors t.pair))
+          (high_off_keeps (gates_after w.core.drive.gates w.bank after) w.bank after 0 refl refl
+          (pair_apart w.bank.sector w.bank.hi w.bank.lo t.sectors t.pair))
           (λ x on. on_and w.bank.hi 0 x on) (λ x on. on);
       fits = λ told. tt;
       ground = i.ground;
@@ -371,7 +375,11 @@ high_off w outer i =
       );
       others = elim [
         | kind.Tick ↦ λ ne u. absurd (ne refl)
-        | kind.Pwm ↦ λ ne u. (u.0, none_flag (tick.Off off.Low) w.bank.flag (pwm_asked_at w.back) (demand_at w.back) (pwm_entered_at w.back) w.bank.time refl zero u.1.past)
+        | kind.Pwm ↦ λ ne u. (
+          u.0,
+          none_flag (tick.Off off.Low) w.bank.flag (pwm_asked_at w.back) (demand_at w.back) (pwm_entered_at w.back) w.bank.time refl
+              zero u.1.past,
+        )
         | kind.Comm ↦ λ ne u. retimed (high_view (drive_seen w) hi) (tick.Off off.Low) (λ e l. tt) (with_high (drive_seen w) hi i.comm_is pair u)
         | j ↦ λ ne u. u
       ];
@@ -399,7 +407,11 @@ low_off w outer i =
       );
       others = elim [
         | kind.Tick ↦ λ ne u. absurd (ne refl)
-        | kind.Pwm ↦ λ ne u. (u.0, none_flag tick.DutyOff w.bank.flag (pwm_asked_at w.back) (demand_at w.back) (pwm_entered_at w.back) w.bank.time refl zero u.1.past)
+        | kind.Pwm ↦ λ ne u. (
+          u.0,
+          none_flag tick.DutyOff w.bank.flag (pwm_asked_at w.back) (demand_at w.back) (pwm_entered_at w.back) w.bank.time refl zero
+              u.1.past,
+        )
         | kind.Comm ↦ λ ne u. with_low (drive_seen w) lo tick.DutyOff i.comm_is zero (λ x on. on_and w.bank.lo 0 x on) u
         | j ↦ λ ne u. u
       ];
@@ -423,7 +435,11 @@ duty_off w outer i =
       );
       others = elim [
         | kind.Tick ↦ λ ne u. absurd (ne refl)
-        | kind.Pwm ↦ λ ne u. (u.0, none_flag tick.DriveOff false (pwm_asked_at w.back) (demand_at w.back) (pwm_entered_at w.back) w.bank.time refl zero u.1.past)
+        | kind.Pwm ↦ λ ne u. (
+          u.0,
+          none_flag tick.DriveOff false (pwm_asked_at w.back) (demand_at w.back) (pwm_entered_at w.back) w.bank.time refl zero
+              u.1.past,
+        )
         | kind.Comm ↦ λ ne u. retimed (drive_seen w) tick.DriveOff (λ e l. tt) u
         | j ↦ λ ne u. u
       ];
@@ -553,7 +569,8 @@ starts w outer i =
 
 -- ---- all its steps
 
-steps : (place : TickAt) (w : World) (outer : List Kind) → IsTick w outer place → 0 < tick_left place → StepKeeps kind.Tick outer w (tick_step place w.core w.bank)
+steps : (place : TickAt) (w : World) (outer : List Kind) → IsTick w outer place → 0 < tick_left place
+    → StepKeeps kind.Tick outer w (tick_step place w.core w.bank)
 steps tick.Shut w outer i left = absurd (omega arith)
 steps tick.Raise w outer i left = record {
   gates = quiet_gates kind.Tick w _ (λ e. cc) refl refl refl;

@@ -1,7 +1,6 @@
 -- Machinery, and no law: how a run is proved to be legal. Nothing that `Legal` means rests on this.
 -- What each step of a run does to the gates, by the notes before and after it.
 use Rattle.std.specs.Prelude.{◌≡◌, ◌≢◌, ◌<◌, ◌≤◌, ◌%◌, ℕ, true, false, List, [], ◌∷◌, ◌++◌, reverse, All}
-use Rattle.esc_base.specs.declared.kind.Kind.{Kind}
 use Rattle.esc_base.specs.declared.kind.Kind.TheVariants as kind
 use Rattle.esc_base.specs.declared.note.Note.{Note}
 use Rattle.esc_base.specs.Legs.{is_on}

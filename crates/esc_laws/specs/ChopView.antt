@@ -1,6 +1,6 @@
 -- Machinery, and no law: how a run is proved to be legal. Nothing that `Legal` means rests on this.
 -- What a log of steps says of the drive: a fold. Nothing here knows a register.
-use Rattle.std.specs.Prelude.{ℕ, ◌+◌, ◌-◌, ◌/◌, Bool, true, false, not, ◌&&◌, ◌||◌, ◌==◌, if◌then◌else◌, nat_lt, nat_le, List, [], ◌∷◌}
+use Rattle.std.specs.Prelude.{ℕ, ◌+◌, Bool, true, false, not, ◌&&◌, ◌||◌, ◌==◌, if◌then◌else◌, nat_lt, nat_le, List, [], ◌∷◌}
 use Rattle.std.specs.List.{fold}
 use Rattle.esc_base.specs.declared.kind.Kind.{Kind}
 use Rattle.esc_base.specs.declared.note.Note.{Note}

@@ -1,7 +1,7 @@
 -- Machinery, and no law: how a run is proved to be legal. Nothing that `Legal` means rests on this.
 -- What ties the drive to what the notes say, by where COMM, PWM and TICK stand. Each fact holds between any two steps, whatever
 -- is open.
-use Rattle.std.specs.Prelude.{◌≡◌, ◌≢◌, ◌<◌, ◌≤◌, ◌+◌, ◌%◌, ◌⊎◌, ℕ, min, Bool, true, false, ◌||◌, nat_lt, nat_le, List, Option, Some, None}
+use Rattle.std.specs.Prelude.{◌≡◌, ◌≢◌, ◌<◌, ◌≤◌, ◌+◌, ◌%◌, ◌⊎◌, ℕ, min, Bool, true, false, ◌||◌, nat_lt, Option, Some, None}
 use Rattle.esc_base.specs.declared.gate.Leg.{Leg}
 use Rattle.esc_base.specs.Legs.{is_on, IsOnly}
 use Rattle.esc_base.specs.Periods.{edges}
@@ -11,7 +11,7 @@ use Rattle.gate_driver.specs.declared.all_off.AllOff.TheVariants as off
 use Rattle.gate_driver.specs.declared.chop.Chop.TheVariants as chop
 use Rattle.gate_driver.specs.declared.to_sector.ChangeAt.{ChangeAt}
 use Rattle.gate_driver.specs.declared.to_sector.ChangeAt.TheVariants as change
-use Rattle.gate_driver.specs.Gated.{Gated, at_leg}
+use Rattle.gate_driver.specs.Gated.{at_leg}
 use Rattle.gate_driver.specs.Chop.{chopped_leg}
 use Rattle.esc_core.specs.declared.state.CommAt.{CommAt}
 use Rattle.esc_core.specs.declared.state.CommAt.TheVariants as comm

@@ -64,7 +64,8 @@ WholeSignalIsHeard =
 -- bit early or late: no change of the line stands between the opening and its first edge, and none comes before its last one.
 abbrev pub SentFrameIsRead : Type 0
 SentFrameIsRead =
-    (loaded : Loaded) (trace : List Event) (before after : List Note) (said : Note) (w : ℕ) (m : Mode) (s word : ℕ) (frame : Frame) (first : Edge) (rest earlier later : List Edge)
+    (loaded : Loaded) (trace : List Event) (before after : List Note) (said : Note) (w : ℕ) (m : Mode) (s word : ℕ) (frame : Frame) (first : Edge)
+    (rest earlier later : List Edge)
     → Windowed loaded trace (before ++ said ∷ after)
     → (place before).signal ≡ Listens w (mode_number m)
     → IsVerdict said

@@ -329,7 +329,8 @@ two_edges = event.Edge (as_tick 100) true ∷ event.Edge (as_tick 200) false ∷
 -- CAP waits from 4200 on, and TICK goes on for nine steps
 abbrev pub cap_waits : List Turned
 cap_waits =
-    entry 4190 kind.Tick ∷ own 4200 kind.Tick [] ∷ own 4202 kind.Tick [] ∷ own 4204 kind.Tick [] ∷ own 4206 kind.Tick [] ∷ own 4208 kind.Tick [] ∷ own 4210 kind.Tick []
+    entry 4190 kind.Tick ∷ own 4200 kind.Tick [] ∷ own 4202 kind.Tick [] ∷ own 4204 kind.Tick [] ∷ own 4206 kind.Tick [] ∷ own 4208 kind.Tick []
+    ∷ own 4210 kind.Tick []
     ∷ own 4212 kind.Tick [] ∷ own 4214 kind.Tick [] ∷ own 4216 kind.Tick [] ∷ []
 
 -- the window closes at 5000; TICK has worked two control ticks off, and CAP has noted at 5002 that nothing was detected
@@ -338,7 +339,8 @@ two_later_edges = event.Edge (as_tick 900) true ∷ event.Edge (as_tick 1000) fa
 
 abbrev pub cap_rests : List Turned
 cap_rests =
-    entry 2400 kind.Tick ∷ own 2402 kind.Tick (ticks 2402 1 0 0 ∷ leaves 2402 2 ∷ []) ∷ entry 4800 kind.Tick ∷ own 4802 kind.Tick (ticks 4802 2 0 0 ∷ leaves 4802 2 ∷ [])
+    entry 2400 kind.Tick ∷ own 2402 kind.Tick (ticks 2402 1 0 0 ∷ leaves 2402 2 ∷ []) ∷ entry 4800 kind.Tick
+    ∷ own 4802 kind.Tick (ticks 4802 2 0 0 ∷ leaves 4802 2 ∷ [])
     ∷ entry 5000 kind.Cap ∷ own 5002 kind.Cap (nothing 5002 ∷ leaves 5002 3 ∷ []) ∷ []
 
 -- TICK has started a drive, which calls COMM and PWM, and goes on for nine steps

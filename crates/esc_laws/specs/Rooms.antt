@@ -45,7 +45,8 @@ use Rattle.esc_laws.specs.World.{Made, World, so_far, noted, step_notes, after_s
 abbrev pub StandUntil : ℕ → List Edge → Type 0
 StandUntil t edges = All (λ e. e.t.0 ≤ t) edges × Rising 0 edges
 
-pub record Grounded (loaded : Loaded) (trace : List Event) (kept : Kept) (o : Orders) (now_level : Bool) (rests : ℕ) (time : ℕ) (back : List Note) : Type 0 where
+pub record Grounded (loaded : Loaded) (trace : List Event) (kept : Kept) (o : Orders) (now_level : Bool) (rests : ℕ) (time : ℕ)
+    (back : List Note) : Type 0 where
   pub control : Stands kept back
   pub orders : OrdersTied loaded o back
   pub level : now_level ≡ (line trace).level

@@ -8,11 +8,9 @@ use Rattle.esc_base.specs.declared.kind.Kind.TheVariants as kind
 use Rattle.esc_base.specs.Numbers.{kind_number}
 use Rattle.timer_regs.specs.Bank.{Bank}
 use Rattle.timer_regs.specs.Effects.{is_due}
-use Rattle.timer_regs.specs.Kinds.{has_kind}
-use Rattle.timer_regs.specs.declared.kinds.KindSet.{KindSet}
 use Rattle.interrupt_machine.specs.declared.nest.Nest.{Nest}
 use Rattle.interrupt_machine.specs.declared.nest.Nest.TheVariants.{One, Full}
-use Rattle.interrupt_machine.specs.Open.{innermost, is_open, due_now, due_in, by_priority, highest, may_enter, enters_above, next_entry, is_idle, IsStack, IsAbove, outer_ones, kind_of}
+use Rattle.interrupt_machine.specs.Open.{innermost, is_open, due_now, by_priority, highest, may_enter, enters_above, next_entry, is_idle, IsStack, IsAbove, outer_ones, kind_of}
 use Rattle.interrupt_machine.specs.Turn.{IsHeld}
 
 -- the highest kind of two sets that agree
@@ -31,15 +29,6 @@ find-passed_over due (k ∷ kinds) zero d l e = rw e refl
 find-passed_over due (k ∷ kinds) (suc i) d l e =
     let next : suc i + 1 ≡ suc (i + 1) = omega arith in
     rw next (find-passed_over due kinds i d (omega arith) e)
-
-pub due_same : (waits : Bool) (set : KindSet) (b : Bank) → ((k : Kind) → has_kind set k ≡ is_due b k) → (k : Kind) → due_in waits set k ≡ due_now waits b k
-due_same waits set b h kind.Main = refl
-due_same waits set b h k = h k
-
--- the highest due kind, by the set that the registers give
-pub due_is : (r : Option Kind) (w v : Bool) (set : KindSet) (b : Bank) → w ≡ v → r ≡ highest (due_in w set) → ((k : Kind) → has_kind set k ≡ is_due b k)
-    → r ≡ highest (due_now v b)
-due_is r w v set b e h d = subst (λ (x : Bool). r ≡ highest (due_now x b)) e (h ∙ highest_same (due_in w set) (due_now w b) (due_same w set b d))
 
 pub number_most : (k : Kind) → kind_number k ≤ 6
 number_most kind.Main = lit≤ tt

@@ -6,8 +6,6 @@ use Rattle.esc_base.specs.declared.kind.Kind.TheVariants as kind
 use Rattle.esc_base.specs.Numbers.{kind_number}
 use Rattle.timer_regs.specs.Bank.{Bank}
 use Rattle.timer_regs.specs.Effects.{is_due}
-use Rattle.timer_regs.specs.Kinds.{has_kind}
-use Rattle.timer_regs.specs.declared.kinds.KindSet.{KindSet}
 use Rattle.interrupt_machine.specs.declared.nest.Nest.{Nest}
 use Rattle.interrupt_machine.specs.declared.nest.Nest.TheVariants.{One, Full}
 
@@ -45,11 +43,6 @@ is_open stack k = list_any (λ j. kind_number j == kind_number k) stack
 abbrev pub due_now : Bool → Bank → Kind → Bool
 due_now waits b kind.Main = waits
 due_now waits b k = is_due b k
-
--- the same with the registers' due kinds as a set
-abbrev pub due_in : Bool → KindSet → Kind → Bool
-due_in waits set kind.Main = waits
-due_in waits set k = has_kind set k
 
 -- the highest kind of those that are due
 abbrev pub highest : (Kind → Bool) → Option Kind

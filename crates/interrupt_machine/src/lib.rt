@@ -5,10 +5,12 @@
 mod firmware;
 mod machine;
 mod nest;
+mod notes;
 mod stack;
 #[cfg(test)]
 mod tests;
 
 pub use firmware::{Did, Firmware, Own};
-pub use machine::{Machine, Notes};
+pub use machine::Machine;
 pub use nest::Nest;
+pub use notes::Notes;

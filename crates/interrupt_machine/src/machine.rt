@@ -3,21 +3,17 @@ ghost use Rattle.esc_base.specs.declared.kind.Kind.{Kind};
 ghost use Rattle.esc_base.specs.Range.{InRange};
 ghost use Rattle.esc_base.specs.Flash.{Told};
 ghost use Rattle.interrupt_machine.specs.Did.{notes_of};
-ghost use Rattle.interrupt_machine.specs.Open.{innermost, is_open, due_now, due_in, highest, next_entry, is_idle};
+ghost use Rattle.interrupt_machine.specs.Open.{innermost, is_open, due_now, highest, next_entry, is_idle};
 ghost use Rattle.interrupt_machine.specs.Response.{Moment, Passed, Responds};
 ghost use Rattle.timer_regs.specs.Effects.{advanced};
 ghost use Rattle.interrupt_machine.specs.Step.{MachineStepped};
 ghost use Rattle.interrupt_machine.specs.Turn.{IsHeld, leave_note, gate_note};
 
 use crate::stack::Stack;
-use crate::{Did, Firmware, Nest, Own};
-use arrayvec::ArrayVec;
+use crate::{Did, Firmware, Nest, Notes, Own};
 use esc_base::{FlashDev, GateWord, Kind, Note, Tick};
 use std::marker::Model;
-use timer_regs::{KindSet, Regs};
-
-/// The notes of one step: a gate change, three of the handler's own, a return.
-pub type Notes = ArrayVec<Note, 6>;
+use timer_regs::Regs;
 
 /// A firmware with its open handlers, which makes one step after the other.
 ///
@@ -56,27 +52,6 @@ const BY_PRIORITY: [Kind; 7] = [
     Kind::Main,
 ];
 
-/// The highest due kind, where MAIN is due if the firmware waits.
-fn highest_due(due: KindSet, waiting: bool) -> Option<Kind>
-    ensures { result ≡ highest (due_in waiting due) }
-{
-    for kind in BY_PRIORITY {
-        if is_due(kind, due, waiting) {
-            return Some(kind);
-        }
-    }
-    None
-}
-
-fn is_due(kind: Kind, due: KindSet, waiting: bool) -> bool
-    ensures { result ≡ due_in waiting due kind }
-{
-    match kind {
-        Kind::Main => waiting,
-        _ => due.has(kind),
-    }
-}
-
 impl<F: Firmware> Machine<F> {
     /// The firmware with no handler open.
     pub fn new(firmware: F, nest: Nest) -> Machine<F>
@@ -112,7 +87,21 @@ impl<F: Firmware> Machine<F> {
     fn due(&self, regs: &Regs) -> Option<Kind>
         ensures { result ≡ highest (due_now (F.waits self.now.firmware) regs.now) }
     {
-        highest_due(regs.due(), self.firmware.waiting())
+        for kind in BY_PRIORITY {
+            if self.is_due(kind, regs) {
+                return Some(kind);
+            }
+        }
+        None
+    }
+
+    fn is_due(&self, kind: Kind, regs: &Regs) -> bool
+        ensures { result ≡ due_now (F.waits self.now.firmware) regs.now kind }
+    {
+        match kind {
+            Kind::Main => self.firmware.waiting(),
+            _ => regs.is_due(kind),
+        }
     }
 
     /// Whether no handler is open and no kind is due.
@@ -134,7 +123,7 @@ impl<F: Firmware> Machine<F> {
         requires count { regs.old.accesses < 2 ^ 63 }
         ensures { MachineStepped F.came F.made F.waits F.left F.hold self.old regs.old (D.told dev.old) result.items self.new regs.new (D.told dev.new) }
     {
-        let mut notes = ArrayVec::new();
+        let mut notes = Notes::new();
         self.step_into(regs, dev, &mut notes);
         notes
     }

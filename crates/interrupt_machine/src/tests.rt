@@ -103,7 +103,7 @@ fn follow(
     requires { regs.old.masked ≡ true → IsHeld machine.old.firmware.hold machine.old.open_kinds }
     ensures mask { regs.new.masked ≡ true → IsHeld machine.new.firmware.hold machine.new.open_kinds }
 {
-    let mut notes = ArrayVec::new();
+    let mut notes = Notes::new();
     for row in rows {
         assert!(rt; !machine.idle(regs));
         assert!(rt; regs.accesses() < 100);

@@ -1,2 +1,3 @@
 pub mod Soonest
 pub mod Advance
+pub mod Line

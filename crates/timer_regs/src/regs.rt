@@ -299,6 +299,31 @@ impl Regs {
             .with(Kind::Comm, self.comm_due())
     }
 
+    /// Whether a kind is due. MAIN, which only the firmware knows of, isn't.
+    pub fn is_due(&self, kind: Kind) -> bool
+        ensures { result ≡ is_due self.now kind }
+    {
+        match kind {
+            Kind::Tick => self.tick_due(),
+            Kind::Cap => self.cap_due(),
+            Kind::Pwm => self.flag,
+            Kind::Comm => self.comm_due(),
+            _ => false,
+        }
+    }
+
+    /// The tick from which on CAP is due, if only time goes on; it may have passed. `None` where CAP never is.
+    pub fn cap_due_from(&self) -> Option<Tick>
+        ensures { (t : ℕ) → is_due (advanced self.now t) kinds.Cap ≡ reached (tick_of result) t }
+    {
+        let closes = if self.taken {
+            None
+        } else {
+            self.window.closes_at()
+        };
+        sooner(closes, self.timer)
+    }
+
     /// A kind is entered: what made it due is cleared. A closed window counts as taken and stays readable; the
     /// control tick is due until its number is read.
     pub fn entered(&mut self, kind: Kind)

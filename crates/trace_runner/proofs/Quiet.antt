@@ -6,9 +6,10 @@ use Rattle.esc_base.specs.declared.kind.Kind.{Kind}
 use Rattle.esc_base.specs.declared.kind.Kind.TheVariants as kind
 use Rattle.esc_base.specs.Periods.{edges}
 use Rattle.timer_regs.specs.Bank.{Bank}
-use Rattle.timer_regs.specs.Effects.{is_due, advanced}
+use Rattle.timer_regs.specs.Effects.{is_due, advanced, after_line}
 use Rattle.timer_regs.specs.NextDue.{IsNextDue, becomes_due}
 use Rattle.timer_regs.proofs.Advance.{advanced-now}
+use Rattle.timer_regs.proofs.Line.{line_time, line_due, line_becomes}
 use Rattle.interrupt_machine.specs.Open.{due_now, is_idle, highest}
 use Rattle.interrupt_machine.proofs.OpenKinds.{highest_same}
 use Rattle.interrupt_machine.proofs.Waiting.{highest_none}
@@ -86,3 +87,24 @@ pub quiet_jump : (stack : List Kind) (w : Bool) (b : Bank) (due : Option ℕ) (u
     → ((d : ℕ) → due ≡ Some d → until ≤ d) → b.time ≤ t → t < until → IsQuiet stack w (advanced b t) until
 quiet_jump stack w b due until t idle is le later below =
     quiet_later stack w b until t later below (record { idle = idle; none = λ k u from under. none_before due b k until u is le from under })
+
+-- ---- an edge changes when CAP is due, and no other kind
+
+line_now : (w : Bool) (b : Bank) (level : Bool) (k : Kind) → is_due b kind.Cap ≡ false → is_due (after_line b level) kind.Cap ≡ false
+    → due_now w b k ≡ due_now w (after_line b level) k
+line_now w b level kind.Main e f = refl
+line_now w b level k e f = sym (line_due b level k e f)
+
+-- a quiet core stays quiet at an edge, up to the tick at which CAP is due
+pub quiet_edge : (stack : List Kind) (w : Bool) (b : Bank) (level : Bool) (until cap to : ℕ) → IsQuiet stack w b until
+    → ((t : ℕ) → (after_line b level).time ≤ t → t < cap → is_due (advanced (after_line b level) t) kind.Cap ≡ false)
+    → to ≤ until → to ≤ cap → b.time < to → IsQuiet stack w (after_line b level) to
+quiet_edge stack w b level until cap to q none le more below =
+    let after : Bank = after_line b level in
+    let now : after.time ≡ b.time = line_time b level in
+    let e : is_due b kind.Cap ≡ false = highest_none (due_now w b) kind.Cap (none_highest stack (due_now w b) q.idle) in
+    let f : is_due after kind.Cap ≡ false = subst (λ (x : Bank). is_due x kind.Cap ≡ false) (sym (advanced-now after)) (none after.time (omega arith) (omega arith)) in
+    record {
+      idle = sym (idle_same stack (due_now w b) (due_now w after) (λ k. line_now w b level k e f)) ∙ q.idle;
+      none = λ k t from under. line_becomes b level k t f (none t (omega arith) (omega arith)) (q.none k t (omega arith) (omega arith));
+    }

@@ -123,7 +123,8 @@ pub step_breaks : (o : Outset) (nest : Nest) (cost next until : ℕ) (trace : Li
     → CoreTurn nest c stack b flash notes c' stack' b' flash' → Below next steps → notes ≡ (front ++ last ∷ []) ++ rest → All InRange notes
     → All InRange (journal o.loaded steps) → IsWhole flash.bytes → IsWhole flash'.bytes → FlashFits o.loaded o.flash flash (journal o.loaded steps)
     → LeftBelow o flash' nest cost until trace (journal o.loaded steps ++ (front ++ last ∷ []))
-step_breaks o nest cost next until trace c c' b b' flash flash' stack stack' steps notes front rest last at lt some most small l busy t below split range before whole whole' fits =
+step_breaks o nest cost next until trace c c' b b' flash flash' stack stack' steps notes front rest last at lt some most small l busy t below split
+    range before whole whole' fits =
     let e : Turned = turned b.time notes t in
     let tick : e.tick ≡ next = turned-tick b.time notes t ∙ at in
     let own : e.notes ≡ (front ++ last ∷ []) ++ rest = turned-notes b.time notes t ∙ split in

@@ -8,9 +8,9 @@ ghost use Rattle.trace_runner.specs.Lines.{TookLines, BrokeLines};
 
 use crate::WriteFault;
 use esc_base::{Note, Sink};
-use trace_text::note_text;
+use trace_text::{Line, write_note};
 
-fn put_all<K: Sink>(notes: &[Note], out: &mut K) -> Result<(), WriteFault>
+fn put_all<K: Sink>(notes: &[Note], line: &mut Line, out: &mut K) -> Result<(), WriteFault>
     requires { All InRange notes.now }
     ensures took { OnOk result (TookLines K.took out.old notes.now out.new) }
     ensures given { OnOk result (K.given out.new ≡ append_known (K.given out.old) (Text notes.now)) }
@@ -19,14 +19,19 @@ fn put_all<K: Sink>(notes: &[Note], out: &mut K) -> Result<(), WriteFault>
     ensures failed { OnErr result (Rose (K.faults out.old) (K.faults out.new)) }
 {
     for note in notes {
-        let line = note_text(note);
-        out.put(line.as_str().as_bytes())?;
+        write_note(line, note);
+        out.put(line.as_bytes())?;
     }
     Ok(())
 }
 
-/// Most steps have no note, and then nothing is made ready for a line.
-pub(crate) fn put_notes<K: Sink>(notes: &[Note], out: &mut K) -> Result<(), WriteFault>
+/// Writes the notes' lines, in a buffer that the caller keeps. Most steps have no note.
+#[inline(always)]
+pub(crate) fn put_notes<K: Sink>(
+    notes: &[Note],
+    line: &mut Line,
+    out: &mut K,
+) -> Result<(), WriteFault>
     requires { All InRange notes.now }
     ensures took { OnOk result (TookLines K.took out.old notes.now out.new) }
     ensures given { OnOk result (K.given out.new ≡ append_known (K.given out.old) (Text notes.now)) }
@@ -37,5 +42,5 @@ pub(crate) fn put_notes<K: Sink>(notes: &[Note], out: &mut K) -> Result<(), Writ
     if notes.is_empty() {
         return Ok(());
     }
-    put_all(notes, out)
+    put_all(notes, line, out)
 }

@@ -5,6 +5,8 @@ ghost use Rattle.esc_base.specs.Flash.{Told};
 ghost use Rattle.esc_base.specs.Outside.{Rose};
 ghost use Rattle.esc_base.specs.Trace.{tick_of as tick_of_event};
 ghost use Rattle.trace_text.specs.Ahead.{StallFits};
+ghost use Rattle.esc_base.specs.declared.kind.Kind.TheVariants as kinds;
+ghost use Rattle.timer_regs.specs.Effects.{advanced, is_due};
 ghost use Rattle.timer_regs.specs.NextDue.{tick_of as tick_of_due};
 ghost use Rattle.interrupt_machine.specs.Open.{due_now, is_idle};
 ghost use Rattle.esc_laws.specs.Steps.{Turned, journal};
@@ -15,6 +17,7 @@ ghost use Rattle.trace_runner.specs.Run.{Outset, Runs, StandsFor, StepBound, Lef
 use crate::lines::put_notes;
 use crate::{Runner, WriteFault};
 use esc_base::{Event, FlashDev, Sink, Tick};
+use timer_regs::Regs;
 
 fn tick_of(e: Event) -> Tick
     ensures { result.0 ≡ tick_of_event e }
@@ -35,6 +38,13 @@ fn quiet_until(due: Option<Tick>) -> Tick
         Some(due) => due,
         None => Tick(u64::MAX),
     }
+}
+
+/// The tick before which CAP isn't due while only time goes on.
+fn cap_quiet_until(regs: &Regs) -> Tick
+    ensures { (t : ℕ) → regs.now.time ≤ t → t < result.0 → is_due (advanced regs.now t) kinds.Cap ≡ false }
+{
+    quiet_until(regs.cap_due_from())
 }
 
 impl Runner {
@@ -108,7 +118,8 @@ impl Runner {
         self.run_to(t, out, dev)
     }
 
-    /// Makes all steps at ticks below the limit.
+    /// Makes all steps at ticks below the limit. Mostly there is none, and then no loop is entered.
+    #[inline(always)]
     fn run_to<K: Sink, D: FlashDev>(
         &mut self,
         limit: Tick,
@@ -123,7 +134,35 @@ impl Runner {
         ensures nest { nest_of self.new ≡ nest_of self.old }
         ensures cost { cost_of self.new ≡ cost_of self.old }
     {
+        self.approach(limit);
+        if self.limit.0 <= self.next.0 {
+            return Ok(());
+        }
+        self.run(out, dev)
+    }
+
+    /// Takes a limit, and lets idle time pass up to it where nothing becomes due before it.
+    fn approach(&mut self, limit: Tick)
+        requires small { limit.0 ≤ 1073741824 }
+        requires later { self.old.limit.0 ≤ limit.0 }
+        ensures runs { (o : Outset) (now : Told) (trace : List AnEvent) (steps : List Turned) → Runs self.old o now trace steps
+            → Runs self.new o now trace steps }
+        ensures limit { self.new.limit ≡ limit }
+        ensures nest { nest_of self.new ≡ nest_of self.old }
+        ensures cost { cost_of self.new ≡ cost_of self.old }
+    {
         self.limit = limit;
+        if self.next.0 < self.limit.0 && self.limit.0 <= self.quiet.0 {
+            self.wait();
+        }
+    }
+
+    /// Makes all steps at ticks below the limit, one after the other.
+    fn run<K: Sink, D: FlashDev>(&mut self, out: &mut K, dev: &mut D) -> Result<(), WriteFault>
+        ensures reached { OnOk result (self.new.limit.0 ≤ self.new.next.0) }
+        ensures run { RunsOn K.given K.took K.broke K.faults self.old self.new (D.told dev.old) (D.told dev.new) result out.old out.new }
+        ensures kept { Kept self.old self.new }
+    {
         while self.next.0 < self.limit.0 {
             self.go_on(out, dev)?;
         }
@@ -209,10 +248,11 @@ impl Runner {
         self.quiet = Tick(0);
         self.machine.step_into(&mut self.regs, dev, &mut self.notes);
         self.next = Tick(self.next.0 + self.cost as u64);
-        put_notes(self.notes.as_slice(), out)
+        put_notes(self.notes.as_slice(), &mut self.line, out)
     }
 
-    /// Applies an event at the limit. A stall puts off the next step.
+    /// Applies an event at the limit. An edge changes nothing that makes another kind than CAP due. A stall puts off the next
+    /// step.
     fn apply(&mut self, e: Event)
         requires at { self.old.limit.0 ≡ tick_of_event e }
         requires reached { self.old.limit.0 ≤ self.old.next.0 }
@@ -226,7 +266,7 @@ impl Runner {
         match e {
             Event::Edge { level, .. } => {
                 self.regs.edge(level);
-                self.quiet = self.limit;
+                self.quiet = Tick(self.quiet.0.min(cap_quiet_until(&self.regs).0));
             }
             Event::Comp { level, .. } => self.regs.comp(level),
             Event::Serial { byte, .. } => {

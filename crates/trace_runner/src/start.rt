@@ -12,12 +12,12 @@ ghost use Rattle.trace_runner.specs.Run.{StandsFor, nest_of, cost_of, newest};
 
 use crate::lines::put_notes;
 use crate::{RunConfig, Runner, WriteFault};
-use arrayvec::ArrayVec;
 use esc_base::{Note, Sink, Tick};
 use esc_core::Core;
-use interrupt_machine::Machine;
+use interrupt_machine::{Machine, Notes};
 use settings_block::{BlockFault, Loaded};
 use timer_regs::{Reg, Regs};
+use trace_text::Line;
 
 /// The number of a load's result in the first line.
 fn load_number(fault: Option<BlockFault>) -> u8
@@ -55,7 +55,8 @@ impl Runner {
             limit: Tick(0),
             quiet: Tick(0),
             fault: loaded.fault,
-            notes: ArrayVec::new(),
+            notes: Notes::new(),
+            line: Line::new(),
         }
     }
 
@@ -73,6 +74,6 @@ impl Runner {
             r: load_number(self.fault),
         };
         let window = Note::Window { t: Tick(0), m: 0 };
-        put_notes(&[settings, window], out)
+        put_notes(&[settings, window], &mut Line::new(), out)
     }
 }

@@ -9,6 +9,7 @@ use interrupt_machine::{Machine, Nest, Notes};
 use settings_block::BlockFault;
 use thiserror::Error;
 use timer_regs::Regs;
+use trace_text::Line;
 
 /// The sink has failed. The runner isn't used again.
 #[derive(Clone, Copy, Debug, PartialEq, Eq, Drop, Error)]
@@ -46,6 +47,8 @@ pub struct Runner {
     pub(crate) fault: Option<BlockFault>,
     /// The notes of one step, kept here since a run makes millions of steps.
     pub(crate) notes: Notes,
+    /// The line of one note, kept here as well.
+    pub(crate) line: Line,
     ghost held: { regs.masked ≡ true → IsHeld machine.firmware.hold machine.open_kinds },
     ghost count: { regs.accesses ≤ next.0 + 1 },
     ghost passed: { regs.time ≤ next.0 },

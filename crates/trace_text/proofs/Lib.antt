@@ -1,5 +1,5 @@
 pub mod Digits
-pub mod Spacing
+pub mod Bits
 pub mod Fields
 pub mod Saying
 pub mod Cut
@@ -9,3 +9,4 @@ pub mod AtOnce
 pub mod InTime
 pub mod NoteBack
 pub mod OneText
+pub mod Written

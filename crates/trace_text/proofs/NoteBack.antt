@@ -22,7 +22,7 @@ use Rattle.esc_base.specs.Range.{InRange}
 use Rattle.trace_text.specs.Line.{fields, has_plain_start, number_between, byte_of}
 use Rattle.trace_text.specs.Text.{spaced, hex, bits, letter, note_fields, note_bytes}
 use Rattle.trace_text.specs.NoteRead.{bits_of, is_none_word, note_of, word_at}
-use Rattle.trace_text.proofs.Spacing.{no_bits, bits_suc}
+use Rattle.trace_text.proofs.Bits.{no_bits, bits_suc}
 
 -- ---- a number in decimal
 

@@ -29,6 +29,10 @@ abbrev pub level_number : Bool → ℕ
 level_number false = 0
 level_number true = 1
 
+-- what is seen of a line that is written
+pub record Written : Type 0 where
+  pub bytes : List ℕ
+
 -- ---- notes
 
 -- the letter that a note's line begins with

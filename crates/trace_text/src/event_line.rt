@@ -1,46 +1,40 @@
-ghost use Rattle.std.specs.Prelude.{◌≡◌, ◌≤◌, ◌<◌, ◌∷◌, ◌++◌, [], decimal};
-ghost use Rattle.arrayvec.specs.ArrayString.{array_string_len};
+ghost use Rattle.std.specs.Prelude.{◌≡◌, ◌≤◌, ◌<◌, ◌∷◌, ◌++◌, [], length, decimal};
 ghost use Rattle.esc_base.specs.Range.{IsWord};
 ghost use Rattle.trace_text.specs.Text.{event_bytes, line_of, spaced, hex, level_number, IsHeldByTrace};
 
 use crate::Line;
-use crate::write::{push_byte, push_hex, push_number, push_numbers};
-use arrayvec::ArrayString;
 use esc_base::{Event, Tick};
 
 /// A time and a kind.
 fn head(t: Tick, kind: u8) -> Line
-    requires ascii { kind < 128 }
-    requires word { IsWord t.0 }
+    requires { IsWord t.0 }
     ensures bytes { result.bytes ≡ decimal t.0 ++ spaced ((kind ∷ []) ∷ []) }
-    ensures len { array_string_len result ≤ 12 }
+    ensures len { length result.bytes ≤ 12 }
 {
-    let mut line = ArrayString::new();
-    push_number(&mut line, t.0 as u32);
-    push_byte(&mut line, b' ');
-    push_byte(&mut line, kind);
+    let mut line = Line::new();
+    line.push_number(t.0 as u32);
+    line.push_byte(b' ');
+    line.push_byte(kind);
     line
 }
 
 fn with_number(t: Tick, kind: u8, n: u32) -> Line
-    requires ascii { kind < 128 }
-    requires word { IsWord t.0 }
+    requires { IsWord t.0 }
     ensures { result.bytes ≡ line_of (decimal t.0) ((kind ∷ []) ∷ decimal n ∷ []) }
 {
     let mut line = head(t, kind);
-    push_numbers(&mut line, &[n]);
-    push_byte(&mut line, b'\n');
+    line.push_field(n);
+    line.push_byte(b'\n');
     line
 }
 
 fn with_byte(t: Tick, kind: u8, byte: u8) -> Line
-    requires ascii { kind < 128 }
-    requires word { IsWord t.0 }
+    requires { IsWord t.0 }
     ensures { result.bytes ≡ line_of (decimal t.0) ((kind ∷ []) ∷ hex byte ∷ []) }
 {
     let mut line = head(t, kind);
-    push_hex(&mut line, &[byte]);
-    push_byte(&mut line, b'\n');
+    line.push_hex(byte);
+    line.push_byte(b'\n');
     line
 }
 

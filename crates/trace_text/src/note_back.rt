@@ -46,7 +46,7 @@ pub fn note_read(bytes: &[u8]) -> Option<Note>
     ensures every { (n : ANote) → InRange n → note_bytes n ≡ bytes.now → result ≡ Some n }
 {
     let note = candidate(bytes)?;
-    if note_text(&note).as_str().as_bytes() == bytes {
+    if note_text(&note).as_bytes() == bytes {
         Some(note)
     } else {
         None

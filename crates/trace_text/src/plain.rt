@@ -14,15 +14,19 @@ use esc_base::{Event, Tick};
 /// The most digits of a time.
 const MOST_DIGITS: usize = 10;
 
-/// The number that the first digits say, and how many they are. No more are looked at once it is past the last tick.
+/// The most bytes of a plain line, with its line feed.
+const LONGEST_PLAIN: usize = MOST_DIGITS + 5;
+
+/// The number that the first digits say, up to ten of them, and how many they are.
 fn leading_number(bytes: &[u8]) -> (u64, usize)
-    ensures fits { result.1 ≤ length bytes.now }
+    requires enough { 10 ≤ length bytes.now }
+    ensures most { result.1 ≤ 10 }
     ensures digits { list_all is_ascii_digit (take result.1 bytes.now) ≡ true }
     ensures value { result.0 ≡ number (take result.1 bytes.now) }
 {
     let mut n: u64 = 0;
     let mut len = 0;
-    while len < bytes.len() && n <= LAST_TICK {
+    while len < MOST_DIGITS {
         let digit = bytes[len];
         if !digit.is_ascii_digit() {
             return (n, len);
@@ -35,19 +39,22 @@ fn leading_number(bytes: &[u8]) -> (u64, usize)
 
 impl Place {
     /// The event of a plain line at the front, and the line's length: a time, `E` or `C`, a level and a line feed. Every
-    /// other line is left to `parse`.
+    /// other line is left to `parse`, and so is one that comes with less behind it than the longest plain line may take.
     pub fn plain_event(&self, bytes: &[u8]) -> Option<(Event, usize)>
         requires few { self.now.line < 16777216 }
         ensures line { IfSome result (λ r. IsLine r.1 bytes.now) }
         ensures said { IfSome result (λ r. said self.now (take r.1 bytes.now) ≡ Ok (IsEvent r.0)) }
         ensures follows { IfSome result (λ r. Follows self.now r.0) }
     {
-        let (time, len) = leading_number(bytes);
-        let (digits, behind) = bytes.split_at(len);
-        if len > MOST_DIGITS || !starts_plainly(digits) || time < self.time.0 || time > LAST_TICK {
+        if bytes.len() < LONGEST_PLAIN {
             return None;
         }
-        if behind.len() < 5 || behind[0] != b' ' || behind[2] != b' ' || behind[4] != b'\n' {
+        let (time, len) = leading_number(bytes);
+        let (digits, behind) = bytes.split_at(len);
+        if !starts_plainly(digits) || time < self.time.0 || time > LAST_TICK {
+            return None;
+        }
+        if behind[0] != b' ' || behind[2] != b' ' || behind[4] != b'\n' {
             return None;
         }
         let t = Tick(time);

@@ -118,17 +118,20 @@ fn texts_have_these_outcomes_in_pieces_of_any_size(rt: HostRuntime) -> Result<()
 fn notes_and_events_have_these_lines(rt: HostRuntime) {
     let t = Tick(9);
     assert_eq!(rt;
-        note_text(&Note::Up { t: Tick(0), r: 1 }).as_str(),
-        "U 0 1\n"
+        note_text(&Note::Up { t: Tick(0), r: 1 }).as_bytes(),
+        "U 0 1\n".as_bytes()
     );
     assert_eq!(rt;
-        note_text(&Note::Good { t, v: 1046, q: 0 }).as_str(),
-        "F 9 G 1046 0\n"
+        note_text(&Note::Good { t, v: 1046, q: 0 }).as_bytes(),
+        "F 9 G 1046 0\n".as_bytes()
     );
-    assert_eq!(rt; note_text(&Note::Nothing { t }).as_str(), "F 9 N\n");
     assert_eq!(rt;
-        note_text(&Note::Period { t, p: None }).as_str(),
-        "V 9 none\n"
+        note_text(&Note::Nothing { t }).as_bytes(),
+        "F 9 N\n".as_bytes()
+    );
+    assert_eq!(rt;
+        note_text(&Note::Period { t, p: None }).as_bytes(),
+        "V 9 none\n".as_bytes()
     );
     let reply = Note::Reply {
         t,
@@ -136,12 +139,12 @@ fn notes_and_events_have_these_lines(rt: HostRuntime) {
         b: 0b001010010100101010001,
     };
     assert_eq!(rt;
-        note_text(&reply).as_str(),
-        "R 9 23960 001010010100101010001\n"
+        note_text(&reply).as_bytes(),
+        "R 9 23960 001010010100101010001\n".as_bytes()
     );
     assert_eq!(rt;
-        note_text(&Note::Packet { t, cc: 0x30, kk: 3 }).as_str(),
-        "B 9 30 03\n"
+        note_text(&Note::Packet { t, cc: 0x30, kk: 3 }).as_bytes(),
+        "B 9 30 03\n".as_bytes()
     );
     let greatest = Note::Watched {
         t: Tick(4294967295),
@@ -150,21 +153,42 @@ fn notes_and_events_have_these_lines(rt: HostRuntime) {
         s: 1,
     };
     assert_eq!(rt;
-        note_text(&greatest).as_str(),
-        "Y 4294967295 4294967295 4294967295 1\n"
+        note_text(&greatest).as_bytes(),
+        "Y 4294967295 4294967295 4294967295 1\n".as_bytes()
     );
     assert_eq!(rt;
-        event_text(&Event::Edge { t, level: true }).as_str(),
-        "9 E 1\n"
+        event_text(&Event::Edge { t, level: true }).as_bytes(),
+        "9 E 1\n".as_bytes()
     );
     assert_eq!(rt;
-        event_text(&Event::Serial { t, byte: 0xAF }).as_str(),
-        "9 S af\n"
+        event_text(&Event::Serial { t, byte: 0xAF }).as_bytes(),
+        "9 S af\n".as_bytes()
     );
     assert_eq!(rt;
-        event_text(&Event::Stall { t, n: 16777216 }).as_str(),
-        "9 J 16777216\n"
+        event_text(&Event::Stall { t, n: 16777216 }).as_bytes(),
+        "9 J 16777216\n".as_bytes()
     );
+}
+
+/// One line is kept for all, the longest first, so that nothing of it is left in a shorter one.
+#[test]
+fn numbers_of_every_length_are_written_into_a_kept_line(rt: HostRuntime) {
+    let mut line = Line::new();
+    for (tick, text) in [
+        (4294967295, "A 4294967295\n"),
+        (1000000000, "A 1000000000\n"),
+        (999999999, "A 999999999\n"),
+        (10000, "A 10000\n"),
+        (9999, "A 9999\n"),
+        (100, "A 100\n"),
+        (99, "A 99\n"),
+        (10, "A 10\n"),
+        (9, "A 9\n"),
+        (0, "A 0\n"),
+    ] {
+        write_note(&mut line, &Note::Armed { t: Tick(tick) });
+        assert_eq!(rt; line.as_bytes(), text.as_bytes());
+    }
 }
 
 #[test]

@@ -35,6 +35,12 @@ abbrev pub IsBlanked : Phase → ℕ → Type 0
 IsBlanked (phase.Blank end) t = end.0 ≤ t
 IsBlanked p t = ⊥
 
+-- the tick for which the search waits: the end of blanking, or of a filter; none where it waits for a change, or for nothing
+abbrev pub until : Phase → Option Tick
+until (phase.Blank end) = Some end
+until (phase.Filter end) = Some end
+until p = None
+
 -- the comparator has the expected level
 abbrev pub is_expected : Kept → Bool → Bool
 is_expected c level = not (differ level c.expects)

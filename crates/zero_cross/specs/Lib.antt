@@ -1,3 +1,4 @@
 pub mod Sector
 pub mod Kept
 pub mod Late
+pub mod Comparator

@@ -1,7 +1,7 @@
 //! The search for a sector's zero crossing, and how each look at the comparator changes it.
 ghost use Rattle.std.specs.Prelude.{◌≡◌, ◌≤◌, ◌<◌, ◌+◌, ◌^◌, ℕ, Bool, IfSome};
 ghost use Rattle.zero_cross.specs.Sector.{blanking_of};
-ghost use Rattle.zero_cross.specs.Kept.{accepted, after_begin, after_changed, after_filtered, after_off, after_ready, fresh, is_forced, next_of, MayFilter, IsBlanked};
+ghost use Rattle.zero_cross.specs.Kept.{accepted, after_begin, after_changed, after_filtered, after_off, after_ready, fresh, is_forced, next_of, until, MayFilter, IsBlanked};
 ghost use Rattle.zero_cross.specs.Late.{FiltersFrom, IsRead, StandsUpTo};
 
 use crate::{Next, Phase};
@@ -31,11 +31,14 @@ pub struct Crossing {
 }
 
 impl Model for Crossing {
-    ghost use Rattle.zero_cross.specs.Kept.{Kept};
+    ghost use Rattle.std.specs.Prelude.{◌<◌, ◌^◌, IfSome};
+    ghost use Rattle.zero_cross.specs.Kept.{Kept, until};
 
     ghost Value = { Kept };
 
     ghost view = { λ c. record { phase = c.phase; expects = c.expects; begun = c.begun.0 } };
+
+    ghost invariant = { λ c. IfSome (until c.phase) (λ end. end.0 < 2 ^ 32) };
 }
 
 impl Crossing {
@@ -142,6 +145,18 @@ impl Crossing {
         match self.phase {
             Phase::Off | Phase::Done => false,
             _ => t.0.saturating_sub(self.begun.0) >= LONGEST_SECTOR,
+        }
+    }
+
+    /// The tick for which the search waits: the end of blanking, or of a filter. None while it waits for a change of the
+    /// comparator, or for nothing.
+    pub fn until(&self) -> Option<Tick>
+        ensures until { result ≡ until self.now.phase }
+        ensures small { IfSome result (λ end. end.0 < 2 ^ 32) }
+    {
+        match self.phase {
+            Phase::Blank(end) | Phase::Filter(end) => Some(end),
+            _ => None,
         }
     }
 

@@ -13,7 +13,7 @@ loop-note-preserved g c =
     let i : ℕ = c.loop-note.note-index in
     let inv = c.loop-note.invariant in
     let lt : i < length xs = omega arith in
-    let n = c.as_bytes.ensures.value ∙ c.as_str.ensures.value ∙ c.note_text-line.ensures in
+    let n = c.as_bytes.ensures ∙ c.write_note.ensures in
     record {
       took = lines_more g.K.Sink.took xs i blank _ _ _ _ lt inv.took n c.in_ok-put.ensures.took;
       given = given_more xs i blank _ _ _ _ lt inv.given n c.in_ok-put.ensures.appended;
@@ -26,6 +26,6 @@ returns-in_err-put-clause-broke g c =
     let i : ℕ = c.loop-note.note-index in
     let inv = c.loop-note.invariant in
     let lt : i < length xs = omega arith in
-    let n = c.as_bytes.ensures.value ∙ c.as_str.ensures.value ∙ c.note_text-line.ensures in
+    let n = c.as_bytes.ensures ∙ c.write_note.ensures in
     on_err c.from_residual.result
     (broke_at g.K.Sink.given g.K.Sink.took g.K.Sink.broke xs i blank _ _ _ _ lt inv.took inv.given n c.in_err-put.ensures.broke c.in_err-put.ensures.front)

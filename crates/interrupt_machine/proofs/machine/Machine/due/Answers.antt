@@ -1,10 +1,11 @@
-use Rattle.std.proofs.Common.{◌∙◌, ap}
-use Rattle.interrupt_machine.specs.Running.{Running}
-use Rattle.interrupt_machine.proofs.OpenKinds.{due_is}
+use Rattle.std.proofs.Common.{sym, ◌∙◌}
+use Rattle.esc_base.specs.declared.kind.Kind.TheVariants.{Main}
+use Rattle.interrupt_machine.specs.Open.{by_priority, due_now}
+use Rattle.interrupt_machine.proofs.OpenKinds.{find-passed_over}
 use Rattle.interrupt_machine.proofs.machine.Machine.due.Goals as goal
 
-pub returns : goal.returns
-returns g c =
-    due_is c.highest_due.result c.waiting.result (g.F.Firmware.waits c.args.self.now.firmware) c.due.result c.args.regs.now
-    (c.waiting.ensures ∙ ap (λ (m : Running g.row.F.Denot). g.F.Firmware.waits m.firmware) c.self.view_is)
-    c.highest_due.ensures c.due.ensures
+pub loop-kind-preserved : goal.loop-kind-preserved
+loop-kind-preserved g c =
+    c.loop-kind.invariant
+    ∙ find-passed_over (due_now (g.F.Firmware.waits c.args.self.now.firmware) c.args.regs.now) by_priority c.loop-kind.kind-index Main
+    c.loop-kind-test.true (sym c.is_due.ensures ∙ c.if-is_due.false)

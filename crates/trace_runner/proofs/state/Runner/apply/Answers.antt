@@ -1,13 +1,26 @@
-use Rattle.std.proofs.Common.{◌≡◌, ◌≤◌, ◌<◌, max, refl, ◌∙◌, ap, subst, arith, ◌+◌}
+use Rattle.std.proofs.Common.{◌≡◌, ◌≤◌, ◌<◌, max, min, refl, ◌∙◌, ap, subst, arith, ◌+◌}
 use Rattle.esc_base.specs.declared.event.Event.{Event}
 use Rattle.esc_base.specs.declared.event.Event.TheVariants as event
 use Rattle.esc_base.specs.Trace.{tick_of}
 use Rattle.timer_regs.specs.Bank.{Bank}
-use Rattle.timer_regs.specs.Effects.{after_line}
+use Rattle.timer_regs.specs.Effects.{after_line, advanced}
 use Rattle.trace_runner.specs.declared.state.Runner.{Runner}
 use Rattle.trace_runner.proofs.Steps.{event_later, stall_max, spaced_later}
-use Rattle.trace_runner.proofs.Quiet.{quiet_later}
+use Rattle.trace_runner.proofs.Quiet.{quiet_later, quiet_edge}
 use Rattle.trace_runner.proofs.state.Runner.apply.Goals as goal
+
+pub invariant_of-self-clause-waits : goal.invariant_of-self-clause-waits
+invariant_of-self-clause-waits c = λ below.
+    let r : Runner = c.args.self.now in
+    let reached : r.limit.0 ≤ r.next.0 = c.requires.reached in
+    let m : c.min.result ≡ min r.quiet.0 c.cap_quiet_until.result.0 = c.min.ensures in
+    let soon : r.limit.0 < r.quiet.0 = omega arith in
+    let before : r.next.0 < r.quiet.0 = omega arith in
+    let bank = c.edge.ensures ∙ ap (λ (b : Bank). after_line b c.in-Edge.level) c.advance.ensures.regs in
+    let quiet = quiet_later r.machine.open_kinds r.machine.firmware.orders.save_asked r.regs r.quiet.0 r.limit.0 r.before soon (r.waits before) in
+    rw bank
+    (quiet_edge r.machine.open_kinds r.machine.firmware.orders.save_asked (advanced r.regs r.limit.0) c.in-Edge.level r.quiet.0 c.cap_quiet_until.result.0
+    c.min.result quiet (rw bank at c.cap_quiet_until.ensures) (omega arith) (omega arith) (omega arith))
 
 pub invariant_of-self-in-Comp-clause-waits : goal.invariant_of-self-in-Comp-clause-waits
 invariant_of-self-in-Comp-clause-waits c = λ below.

@@ -1,52 +1,22 @@
-use Rattle.std.proofs.Common.{◌∙◌, [], refl, arith, rules}
-use Rattle.trace_runner.specs.declared.state.Runner.{Runner}
+use Rattle.std.proofs.Common.{arith}
+use Rattle.esc_base.specs.Flash.{Told}
 use Rattle.trace_runner.specs.Run.{Runs}
-use Rattle.trace_runner.proofs.Goes.{goes_none, goes_further, breaks_later, breaks_as}
-use Rattle.trace_runner.proofs.Steps.{bound_until}
-use Rattle.trace_runner.proofs.Written.{on_err}
+use Rattle.trace_runner.proofs.Goes.{goes_none, runs_from}
 use Rattle.trace_runner.proofs.state.Runner.run_to.Goals as goal
 
-pub loop-self-init : goal.loop-self-init
-loop-self-init g c =
-    let r : Runner = c.args.self.now in
+pub returns-then-self-clause-run : goal.returns-then-self-clause-run
+returns-then-self-clause-run g c =
+    let flash : Told = g.D.FlashDev.told c.args.dev.now in
     record {
-      goes = λ o. goes_none g.K.Sink.given g.K.Sink.took (Runs r o _) _ _ (λ trace steps st. record {
-        logged = st.logged;
-        bound = bound_until r.cost r.limit.0 c.args.limit.0 steps c.requires.later st.bound;
-        spaced = st.spaced;
-        in_range = st.in_range;
-        flash = st.flash;
-      });
-      limit = refl;
-      nest = refl;
-      cost = refl;
+      goes = λ o. goes_none g.K.Sink.given g.K.Sink.took (Runs c.args.self.now o flash) (Runs c.approach.new.self o flash) _
+          (λ trace steps st. c.approach.ensures.runs o flash trace steps st);
+      breaks = tt;
+      failed = tt;
       no_fewer = omega arith;
     }
 
-pub loop-self-preserved : goal.loop-self-preserved
-loop-self-preserved g c = record {
-  goes = λ o. goes_further g.K.Sink.given g.K.Sink.took _ _ _ [] [] _ _ _ (c.loop-self.invariant.goes o) (c.in_ok-go_on.ensures.run.goes o);
-  limit = c.go_on.ensures.kept.limit ∙ c.loop-self.invariant.limit;
-  nest = c.go_on.ensures.kept.nest ∙ c.loop-self.invariant.nest;
-  cost = c.go_on.ensures.kept.cost ∙ c.loop-self.invariant.cost;
-  no_fewer = let e = c.go_on.ensures.run.no_fewer in omega arith;
-}
-
-pub returns-in_err-go_on-clause-run : goal.returns-in_err-go_on-clause-run
-returns-in_err-go_on-clause-run g c = record {
-  goes = search rules;
-  breaks = on_err c.from_residual.result (λ o.
-      breaks_as g.K.Sink.given g.K.Sink.took g.K.Sink.broke o.loaded
-      (Runs c.args.self.now o _) o _ _ _ _ _ _ _ _ c.loop-self.invariant.nest c.loop-self.invariant.cost
-      (breaks_later g.K.Sink.given g.K.Sink.took g.K.Sink.broke o.loaded _ _ _ _ _ _ (c.loop-self.invariant.goes o) (c.in_err-go_on.ensures.run.breaks o)));
-  failed = search rules;
-  no_fewer = let e = c.go_on.ensures.run.no_fewer in omega arith;
-}
-
 pub returns-clause-run : goal.returns-clause-run
-returns-clause-run g c = record {
-  goes = c.loop-self.invariant.goes;
-  breaks = tt;
-  failed = tt;
-  no_fewer = c.loop-self.invariant.no_fewer;
-}
+returns-clause-run g c =
+    let flash : Told = g.D.FlashDev.told c.args.dev.now in
+    runs_from g.K.Sink.given g.K.Sink.took g.K.Sink.broke g.K.Sink.faults c.args.self.now _ c.run.new.self flash _ _ _ _
+    (λ o trace steps st. c.approach.ensures.runs o flash trace steps st) c.approach.ensures.nest c.approach.ensures.cost c.run.ensures.run

@@ -27,7 +27,8 @@ returns-clause-stands c = λ first. record {
 pub returns-clause-legal : goal.returns-clause-legal
 returns-clause-legal c =
     rw c.new-2.ensures.nest
-    (legal_logged c.args.loaded _ _ [] 0 _ _ [] [] 0 c.requires.some c.requires.most (omega arith) (All-nil (λ (e : Turned). e.tick < 0)) (first_in_range c.args.loaded.fault)
+    (legal_logged c.args.loaded _ _ [] 0 _ _ [] [] 0 c.requires.some c.requires.most (omega arith) (All-nil (λ (e : Turned). e.tick < 0))
+    (first_in_range c.args.loaded.fault)
     (start_logged c.args.loaded _ _))
 
 pub returns-clause-flash : goal.returns-clause-flash

@@ -11,7 +11,7 @@ returns-in-69-clause-line c =
     let behind = c.split_at.result.1.now in
     let tail = five behind 69 (omega arith) c.if-behind-ne32.false c.in-69.is c.if-behind-ne32-2.false c.if-behind-ne10.false in
     is_line c.args.bytes.now c.leading_number-time.result.1 69 (get_or behind 3 0) tail.0 c.in_ok-level.level
-    c.leading_number-time.ensures.fits (omega arith) (sym c.split_at.ensures.back ∙ tail.1)
+    (omega arith) (omega arith) (sym c.split_at.ensures.back ∙ tail.1)
     c.leading_number-time.ensures.digits (sym c.level.ensures ∙ c.in_ok-level.was) refl
 
 pub returns-in-69-clause-said : goal.returns-in-69-clause-said
@@ -20,7 +20,7 @@ returns-in-69-clause-said c =
     let tail = five behind 69 (omega arith) c.if-behind-ne32.false c.in-69.is c.if-behind-ne32-2.false c.if-behind-ne10.false in
     let says = sym c.level.ensures ∙ c.in_ok-level.was in
     is_said c.args.bytes.now c.leading_number-time.result.1 69 (get_or behind 3 0) tail.0 c.in_ok-level.level
-    c.leading_number-time.ensures.fits (omega arith) (sym c.split_at.ensures.back ∙ tail.1)
+    (omega arith) (omega arith) (sym c.split_at.ensures.back ∙ tail.1)
     c.leading_number-time.ensures.digits says c.args.self.now kind.Edge (record { 0 = c.leading_number-time.result.0 })
     (event.Edge (record { 0 = c.leading_number-time.result.0 }) c.in_ok-level.level)
     c.requires.few (sym (ap has_plain_start c.split_at.ensures.front) ∙ sym c.if-not-starts_plainly.ensures)
@@ -32,7 +32,7 @@ returns-in-67-clause-line c =
     let behind = c.split_at.result.1.now in
     let tail = five behind 67 (omega arith) c.if-behind-ne32.false c.in-67.is c.if-behind-ne32-2.false c.if-behind-ne10.false in
     is_line c.args.bytes.now c.leading_number-time.result.1 67 (get_or behind 3 0) tail.0 c.in_ok-level.level
-    c.leading_number-time.ensures.fits (omega arith) (sym c.split_at.ensures.back ∙ tail.1)
+    (omega arith) (omega arith) (sym c.split_at.ensures.back ∙ tail.1)
     c.leading_number-time.ensures.digits (sym c.level.ensures ∙ c.in_ok-level.was) refl
 
 pub returns-in-67-clause-said : goal.returns-in-67-clause-said
@@ -41,7 +41,7 @@ returns-in-67-clause-said c =
     let tail = five behind 67 (omega arith) c.if-behind-ne32.false c.in-67.is c.if-behind-ne32-2.false c.if-behind-ne10.false in
     let says = sym c.level.ensures ∙ c.in_ok-level.was in
     is_said c.args.bytes.now c.leading_number-time.result.1 67 (get_or behind 3 0) tail.0 c.in_ok-level.level
-    c.leading_number-time.ensures.fits (omega arith) (sym c.split_at.ensures.back ∙ tail.1)
+    (omega arith) (omega arith) (sym c.split_at.ensures.back ∙ tail.1)
     c.leading_number-time.ensures.digits says c.args.self.now kind.Comp (record { 0 = c.leading_number-time.result.0 })
     (event.Comp (record { 0 = c.leading_number-time.result.0 }) c.in_ok-level.level)
     c.requires.few (sym (ap has_plain_start c.split_at.ensures.front) ∙ sym c.if-not-starts_plainly.ensures)

@@ -1,4 +1,4 @@
-use Rattle.trace_text.proofs.write.+push_bits.Given as goal
+use Rattle.trace_text.proofs.write.Line.+push_bits.Given as goal
 
 abbrev pub decreases-push_bits : goal.decreases-push_bits
 decreases-push_bits l = l.count
