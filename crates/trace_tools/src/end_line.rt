@@ -2,7 +2,6 @@ ghost use Rattle.std.specs.Prelude.{◌≡◌, ◌≤◌};
 ghost use Rattle.trace_tools.specs.Written.{end_bytes};
 
 use esc_base::Tick;
-use itoa::Buffer;
 use trace_text::Line;
 
 /// The END line of a trace.
@@ -10,9 +9,8 @@ pub fn end_text(t: Tick) -> Line
     requires { t.0 ≤ 1073741824 }
     ensures { result.bytes ≡ end_bytes t.0 }
 {
-    let mut digits = Buffer::new();
     let mut line = Line::new();
-    line.push_str(digits.format(t.0 as u32));
-    line.push_str(" END\n");
+    line.push_number(t.0 as u32);
+    line.push_bytes(b" END\n");
     line
 }

@@ -105,7 +105,7 @@ impl Writer {
         if let Some(why) = self.misfit(event) {
             return Err(why);
         }
-        match out.put(event_text(event).as_str().as_bytes()) {
+        match out.put(event_text(event).as_bytes()) {
             Ok(()) => {
                 self.place = self.place.after(event);
                 Ok(())
@@ -125,7 +125,7 @@ impl Writer {
         if t.0 > LAST_TICK {
             return Err(Unwritten::TooLate);
         }
-        match out.put(end_text(t).as_str().as_bytes()) {
+        match out.put(end_text(t).as_bytes()) {
             Ok(()) => Ok(()),
             Err(_) => Err(Unwritten::Sink),
         }
