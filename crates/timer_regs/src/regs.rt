@@ -342,9 +342,10 @@ impl Regs {
         match kind {
             Kind::Tick => self.tick_due(),
             Kind::Cap => self.cap_due(),
+            Kind::Cmp => self.cmp_due(),
             Kind::Pwm => self.flag,
             Kind::Comm => self.comm_due(),
-            _ => false,
+            Kind::Main | Kind::Uart => false,
         }
     }
 

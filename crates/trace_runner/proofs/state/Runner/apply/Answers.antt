@@ -3,7 +3,7 @@ use Rattle.esc_base.specs.declared.event.Event.{Event}
 use Rattle.esc_base.specs.declared.event.Event.TheVariants as event
 use Rattle.esc_base.specs.Trace.{tick_of}
 use Rattle.timer_regs.specs.Bank.{Bank}
-use Rattle.timer_regs.specs.Effects.{after_line, advanced}
+use Rattle.timer_regs.specs.Effects.{after_line, after_comp, advanced}
 use Rattle.trace_runner.specs.declared.state.Runner.{Runner}
 use Rattle.trace_runner.proofs.Steps.{event_later, stall_max, spaced_later}
 use Rattle.trace_runner.proofs.Quiet.{quiet_later, quiet_edge}
@@ -21,14 +21,6 @@ invariant_of-self-clause-waits c = λ below.
     rw bank
     (quiet_edge r.machine.open_kinds r.machine.firmware.orders.save_asked (advanced r.regs r.limit.0) c.in-Edge.level r.quiet.0 c.cap_quiet_until.result.0
     c.min.result quiet (rw bank at c.cap_quiet_until.ensures) (omega arith) (omega arith) (omega arith))
-
-pub invariant_of-self-in-Comp-clause-waits : goal.invariant_of-self-in-Comp-clause-waits
-invariant_of-self-in-Comp-clause-waits c = λ below.
-    let r : Runner = c.args.self.now in
-    let reached : r.limit.0 ≤ r.next.0 = c.requires.reached in
-    let soon : r.limit.0 < r.quiet.0 = omega arith in
-    rw (c.comp.ensures, c.advance.ensures.regs)
-    (quiet_later r.machine.open_kinds r.machine.firmware.orders.save_asked r.regs r.quiet.0 r.limit.0 r.before soon (r.waits below))
 
 pub invariant_of-self-in-Serial-clause-waits : goal.invariant_of-self-in-Serial-clause-waits
 invariant_of-self-in-Serial-clause-waits c = λ below.
@@ -62,7 +54,7 @@ returns-in-Edge-clause-runs c = λ o now trace steps st.
 
 pub returns-in-Comp-clause-runs : goal.returns-in-Comp-clause-runs
 returns-in-Comp-clause-runs c = λ o now trace steps st.
-    let bank = c.comp.ensures ∙ c.advance.ensures.regs in
+    let bank = c.comp.ensures ∙ ap (λ (b : Bank). after_comp b c.in-Comp.level) c.advance.ensures.regs in
     record {
       logged = event_later c.args.self.now c.args.e
           (event.Comp c.in-Comp.t c.in-Comp.level) c.comp.new.self c.args.self.now.next.0 c.requires.at c.requires.reached c.in-Comp.is bank refl o now trace
