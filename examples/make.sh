@@ -44,6 +44,10 @@ sample() {
         }
     }
     function good(start, value) { frame(start, value, 0, 80) }
+    # A first frame that tells the mode, then 30 frames of value 0, one every 4000 ticks; they end before tick 130000.
+    function zeros(   i) { for (i = 0; i <= 30; i++) good(1000 + i * 4000, 0) }
+    function stall(t, n) { print t " J " n }
+    function comparator(t, level) { print t " C " level }
     function end(t) { print t " END" }
     BEGIN { '"$(cat)"' }' >"$here/$1.trace"
 }
@@ -69,6 +73,50 @@ EOF
 sample noise <<'EOF'
     for (i = 0; i < 70; i++) edge(1000 + i * 211 + i * i % 37 * 3, 1 - i % 2)
     end(30000)
+EOF
+
+# Armed as above. Throttle starts the drive, and the comparator changes in the middle of each sector: the crossings come
+# closer, so do the sectors, and none is forced.
+sample spin_up <<'EOF'
+    zeros(); stall(130000, 11900000); good(12040000, 1000)
+    t = 12055000; gap = 19200
+    for (i = 1; i <= 8; i++) { comparator(t, i % 2); t += int(gap); gap = gap * 19 / 20 }
+    end(12175000)
+EOF
+
+# Armed and started as above. While blanking lasts the comparator chatters, and nobody looks. Behind it stand a spike of 10
+# ticks, and then changes 9 to 19 ticks apart: no filter is accepted before the level has stood for 24 ticks.
+sample comparator_noise <<'EOF'
+    zeros(); stall(130000, 11900000); good(12040000, 1000)
+    for (i = 0; i < 20; i++) comparator(12044000 + i * 250 + i * i % 37, 1 - i % 2)
+    comparator(12051000, 1); comparator(12051010, 0)
+    t = 12053000
+    for (i = 0; i < 41; i++) { comparator(t, 1 - i % 2); t += 9 + i * 5 % 15 }
+    end(12064000)
+EOF
+
+# Armed and started as above. The comparator is at the level that isn't expected, so each later sector is forced, 5 ms after
+# the one before. Stalls keep the journal short.
+sample first_sectors <<'EOF'
+    zeros(); stall(130000, 11900000); good(12040000, 1000)
+    stall(12050000, 230000); comparator(12284000, 1); stall(12290000, 230000); end(12526000)
+EOF
+
+# The same without an end: the 60th forced sector in a row sets the stuck mark, and the next control tick loses control.
+# All switches are off when it returns. The comparator changes just behind each sector's start, to the level that isn't
+# expected.
+sample stuck <<'EOF'
+    zeros(); stall(130000, 11900000); good(12040000, 1000)
+    for (i = 0; i <= 60; i++) { stall(12044000 + i * 240100, 240050); comparator(12284090 + i * 240100, 1 - i % 2) }
+    end(26698000)
+EOF
+
+# The stalls end so that PWM is entered just before the next sector is due: 2 ticks before the first one, so that COMM
+# enters before PWM has raised the mask, and 8 ticks before the second one, so that it waits for the mask to fall. The
+# comparator is at the level that isn't expected.
+sample comm_enters_pwm <<'EOF'
+    zeros(); stall(130000, 11900000); good(12040000, 1000)
+    stall(12050000, 233218); comparator(12284000, 1); stall(12290000, 233220); end(12526000)
 EOF
 
 # A trace whose second frame has an impossible level: the journal ends before it.

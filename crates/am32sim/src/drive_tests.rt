@@ -9,7 +9,7 @@ const THROTTLE: u16 = 0x82C6;
 
 /// A trace in which control arms at tick 12000004, and a frame with throttle ends at tick 12003760: the control tick at
 /// 12004800 starts the drive.
-fn throttled(alloc: Global) -> Result<String, Fail> {
+pub(crate) fn throttled(alloc: Global) -> Result<String, Fail> {
     let mut trace = String::new(alloc);
     push_frames(&mut trace, 100, ZERO, 31)?;
     trace.push_str("80000 J 11920000\n")?;
@@ -17,7 +17,7 @@ fn throttled(alloc: Global) -> Result<String, Fail> {
     Ok(trace)
 }
 
-fn journal_of(alloc: Global, trace: &str) -> Result<String, Fail> {
+pub(crate) fn journal_of(alloc: Global, trace: &str) -> Result<String, Fail> {
     let mut flash = MemFlash::new(alloc)?;
     let (status, journal) = ran(alloc, &[trace], 4096, &[], &[], &mut flash)?;
     if status != Status::Done {

@@ -2,6 +2,8 @@
 #![tactic(auto)]
 
 #[cfg(test)]
+mod crossing_tests;
+#[cfg(test)]
 mod drive_tests;
 mod options;
 mod pipe;

@@ -1,3 +1,4 @@
 pub mod Soonest
 pub mod Advance
 pub mod Line
+pub mod Comp

@@ -6,10 +6,11 @@ use Rattle.esc_base.specs.declared.kind.Kind.{Kind}
 use Rattle.esc_base.specs.declared.kind.Kind.TheVariants as kind
 use Rattle.esc_base.specs.Periods.{edges}
 use Rattle.timer_regs.specs.Bank.{Bank}
-use Rattle.timer_regs.specs.Effects.{is_due, advanced, after_line}
+use Rattle.timer_regs.specs.Effects.{is_due, advanced, after_line, after_comp}
 use Rattle.timer_regs.specs.NextDue.{IsNextDue, becomes_due}
 use Rattle.timer_regs.proofs.Advance.{advanced-now}
 use Rattle.timer_regs.proofs.Line.{line_time, line_due, line_becomes}
+use Rattle.timer_regs.proofs.Comp.{comp_time, comp_due, comp_becomes}
 use Rattle.interrupt_machine.specs.Open.{due_now, is_idle, highest}
 use Rattle.interrupt_machine.proofs.OpenKinds.{highest_same}
 use Rattle.interrupt_machine.proofs.Waiting.{highest_none}
@@ -107,4 +108,23 @@ quiet_edge stack w b level until cap to q none le more below =
     record {
       idle = sym (idle_same stack (due_now w b) (due_now w after) (λ k. line_now w b level k e f)) ∙ q.idle;
       none = λ k t from under. line_becomes b level k t f (none t (omega arith) (omega arith)) (q.none k t (omega arith) (omega arith));
+    }
+
+-- ---- a change of the comparator that doesn't make CMP due at once changes when no kind is due
+
+comp_now : (w : Bool) (b : Bank) (level : Bool) (k : Kind) → is_due b kind.Cmp ≡ false → is_due (after_comp b level) kind.Cmp ≡ false
+    → due_now w b k ≡ due_now w (after_comp b level) k
+comp_now w b level kind.Main e f = refl
+comp_now w b level k e f = sym (comp_due b level k e f)
+
+-- a quiet core stays quiet at such a change
+pub quiet_comp : (stack : List Kind) (w : Bool) (b : Bank) (level : Bool) (until to : ℕ) → IsQuiet stack w b until → is_due (after_comp b level) kind.Cmp ≡ false
+    → to ≤ until → IsQuiet stack w (after_comp b level) to
+quiet_comp stack w b level until to q f le =
+    let after : Bank = after_comp b level in
+    let now : after.time ≡ b.time = comp_time b level in
+    let e : is_due b kind.Cmp ≡ false = highest_none (due_now w b) kind.Cmp (none_highest stack (due_now w b) q.idle) in
+    record {
+      idle = sym (idle_same stack (due_now w b) (due_now w after) (λ k. comp_now w b level k e f)) ∙ q.idle;
+      none = λ k t from under. comp_becomes b level k t f (q.none k t (omega arith) (omega arith));
     }

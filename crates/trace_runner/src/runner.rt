@@ -47,6 +47,18 @@ fn cap_quiet_until(regs: &Regs) -> Tick
     quiet_until(regs.cap_due_from())
 }
 
+/// The tick before which a change of the comparator makes nothing due, 0 where CMP is due now: a change that doesn't ask for CMP
+/// at once never does.
+fn cmp_quiet_until(regs: &Regs) -> Tick
+    ensures { 0 < result.0 → is_due regs.now kinds.Cmp ≡ false }
+{
+    if regs.is_due(Kind::Cmp) {
+        Tick(0)
+    } else {
+        Tick(u64::MAX)
+    }
+}
+
 impl Runner {
     /// Makes all steps before the event's tick, and then applies the event. Its tick, at most 1073741824, isn't before
     /// that of the last event.
@@ -260,8 +272,8 @@ impl Runner {
         put_notes(self.notes.as_slice(), &mut self.line, out)
     }
 
-    /// Applies an event at the limit. An edge changes nothing that makes another kind than CAP due. A stall puts off the next
-    /// step.
+    /// Applies an event at the limit. An edge changes when CAP is due and no other kind, a change of the comparator whether CMP
+    /// is due now and no other kind. A stall puts off the next step.
     fn apply(&mut self, e: Event)
         requires at { self.old.limit.0 ≡ tick_of_event e }
         requires reached { self.old.limit.0 ≤ self.old.next.0 }
@@ -279,7 +291,7 @@ impl Runner {
             }
             Event::Comp { level, .. } => {
                 self.regs.comp(level);
-                self.quiet = self.limit;
+                self.quiet = Tick(self.quiet.0.min(cmp_quiet_until(&self.regs).0));
             }
             Event::Serial { byte, .. } => {
                 let _ = self.regs.serial(byte);

@@ -6,7 +6,7 @@ use Rattle.timer_regs.specs.Bank.{Bank}
 use Rattle.timer_regs.specs.Effects.{after_line, after_comp, advanced}
 use Rattle.trace_runner.specs.declared.state.Runner.{Runner}
 use Rattle.trace_runner.proofs.Steps.{event_later, stall_max, spaced_later}
-use Rattle.trace_runner.proofs.Quiet.{quiet_later, quiet_edge}
+use Rattle.trace_runner.proofs.Quiet.{quiet_later, quiet_edge, quiet_comp}
 use Rattle.trace_runner.proofs.state.Runner.apply.Goals as goal
 
 pub invariant_of-self-clause-waits : goal.invariant_of-self-clause-waits
@@ -21,6 +21,20 @@ invariant_of-self-clause-waits c = λ below.
     rw bank
     (quiet_edge r.machine.open_kinds r.machine.firmware.orders.save_asked (advanced r.regs r.limit.0) c.in-Edge.level r.quiet.0 c.cap_quiet_until.result.0
     c.min.result quiet (rw bank at c.cap_quiet_until.ensures) (omega arith) (omega arith) (omega arith))
+
+pub invariant_of-self-in-Comp-clause-waits : goal.invariant_of-self-in-Comp-clause-waits
+invariant_of-self-in-Comp-clause-waits c = λ below.
+    let r : Runner = c.args.self.now in
+    let reached : r.limit.0 ≤ r.next.0 = c.requires.reached in
+    let m : c.min-in-Comp.result ≡ min r.quiet.0 c.cmp_quiet_until.result.0 = c.min-in-Comp.ensures in
+    let soon : r.limit.0 < r.quiet.0 = omega arith in
+    let before : r.next.0 < r.quiet.0 = omega arith in
+    let some : 0 < c.cmp_quiet_until.result.0 = omega arith in
+    let bank = c.comp.ensures ∙ ap (λ (b : Bank). after_comp b c.in-Comp.level) c.advance.ensures.regs in
+    let quiet = quiet_later r.machine.open_kinds r.machine.firmware.orders.save_asked r.regs r.quiet.0 r.limit.0 r.before soon (r.waits before) in
+    rw bank
+    (quiet_comp r.machine.open_kinds r.machine.firmware.orders.save_asked (advanced r.regs r.limit.0) c.in-Comp.level r.quiet.0 c.min-in-Comp.result quiet
+    (rw bank at c.cmp_quiet_until.ensures some) (omega arith))
 
 pub invariant_of-self-in-Serial-clause-waits : goal.invariant_of-self-in-Serial-clause-waits
 invariant_of-self-in-Serial-clause-waits c = λ below.
