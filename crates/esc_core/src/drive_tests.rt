@@ -4,11 +4,10 @@ ghost use Rattle.interrupt_machine.specs.Turn.{IsHeld};
 use crate::Core;
 use crate::tests::follow;
 use arming::{Control, Marks};
-use arrayvec::ArrayVec;
 use bitflags::Flags;
 use esc_base::{GateWord, MemFlash, Note, Sector, Tick};
 use gate_driver::{AllOff, ToSector};
-use interrupt_machine::{Machine, Nest};
+use interrupt_machine::{Machine, Nest, Notes};
 use settings_block::{Settings, default_block, read_block};
 use std::process::Abort;
 use std::test::Fail;
@@ -209,7 +208,7 @@ fn settle(
 )
     requires { regs.old.masked ≡ true → IsHeld machine.old.firmware.hold machine.old.open_kinds }
 {
-    let mut notes = ArrayVec::new();
+    let mut notes = Notes::new();
     for _ in 0..60 {
         if machine.idle(regs) {
             return;

@@ -1,16 +1,14 @@
 -- The open kinds: the one that enters is above them, and each of them has steps left.
-use Rattle.std.proofs.Common.{◌≡◌, ◌≢◌, ◌<◌, ◌≤◌, ℕ, Bool, true, false, not, ◌&&◌, ◌||◌, ◌==◌, nat_lt, if◌then◌else◌, List, [], ◌∷◌, ◌++◌, Option, Some, None, is_none, refl, sym, ◌∙◌, ap, subst, arith, reverse, lit≤, ◌⊎◌, inl, inr, zero, suc, ◌+◌, length, get_or, drop}
+use Rattle.std.proofs.Common.{◌≡◌, ◌≢◌, ◌<◌, ◌≤◌, ℕ, Bool, true, false, not, ◌&&◌, ◌||◌, ◌==◌, nat_lt, if◌then◌else◌, List, [], ◌∷◌, ◌++◌, Option, Some, None, is_none, is_some, refl, sym, ◌∙◌, ap, subst, arith, reverse, lit≤, ◌⊎◌, inl, inr, zero, suc, ◌+◌, length, get_or, drop}
 use Rattle.std.specs.List.{find}
 use Rattle.std.proofs.lemmas.Bool.Decides.{nat_tests}
 use Rattle.std.proofs.lemmas.List.{reverse-append}
 use Rattle.esc_base.specs.declared.kind.Kind.{Kind}
 use Rattle.esc_base.specs.declared.kind.Kind.TheVariants as kind
 use Rattle.esc_base.specs.Numbers.{kind_number}
-use Rattle.timer_regs.specs.Bank.{Bank}
-use Rattle.timer_regs.specs.Effects.{is_due}
 use Rattle.interrupt_machine.specs.declared.nest.Nest.{Nest}
 use Rattle.interrupt_machine.specs.declared.nest.Nest.TheVariants.{One, Full}
-use Rattle.interrupt_machine.specs.Open.{innermost, is_open, due_now, by_priority, highest, may_enter, enters_above, next_entry, is_idle, IsStack, IsAbove, outer_ones, kind_of}
+use Rattle.interrupt_machine.specs.Open.{innermost, is_open, by_priority, highest, may_enter, enters_above, next_entry, is_idle, IsStack, IsAbove, outer_ones, kind_of}
 use Rattle.interrupt_machine.specs.Turn.{IsHeld}
 
 -- the highest kind of two sets that agree
@@ -166,3 +164,41 @@ pub some_open : (nest : Nest) (masked : Bool) (hold : ℕ) (stack : List Kind) (
 some_open nest true hold stack due busy held none e = (held refl).0 e
 some_open nest false hold [] due busy held none e = chosen nest (highest due) busy (sym none)
 some_open nest false hold (k ∷ outer) due busy held none e = let z : (k ∷ outer) ≡ [] = e in cc
+
+-- where no handler is open and none enters, the machine is idle, and else it isn't
+idle_is : (nest : Nest) (masked : Bool) (hold : ℕ) (stack : List Kind) (due : Kind → Bool) → (masked ≡ true → IsHeld hold stack)
+    → None ≡ (if masked then None else next_entry nest stack due) → length stack ≡ 0 → is_idle stack due ≡ true
+idle_is nest masked hold stack due held none empty = of_value (is_idle stack due) refl
+  where
+    of_value : (v : Bool) → is_idle stack due ≡ v → is_idle stack due ≡ true
+    of_value true e = e
+    of_value false e = absurd (some_open nest masked hold stack due e held none (no_items stack empty))
+      where
+        no_items : (xs : List Kind) → length xs ≡ 0 → xs ≡ []
+        no_items [] e = refl
+        no_items (x ∷ xs) e = absurd (omega arith)
+
+busy_entry : (nest : Nest) (masked : Bool) (stack : List Kind) (due : Kind → Bool) (k : Kind)
+    → Some k ≡ (if masked then None else next_entry nest stack due) → is_idle stack due ≡ false
+busy_entry nest true stack due k e = cc
+busy_entry nest false [] due k e = entered (highest due) e
+  where
+    entered : (o : Option Kind) → Some k ≡ enters_above nest None o → is_none o ≡ false
+    entered None e = cc
+    entered (Some j) e = refl
+busy_entry nest false (j ∷ outer) due k e = refl
+
+not_zero : (depth n : ℕ) → depth ≡ suc n → (depth == 0) ≡ false
+not_zero depth n e = grind (arith, nat_tests)
+
+pub idle_closed : (nest : Nest) (masked : Bool) (hold : ℕ) (stack : List Kind) (due : Kind → Bool) (entry : Option Kind) (depth : ℕ) → is_some entry ≡ false
+    → depth ≡ length stack → (masked ≡ true → IsHeld hold stack) → entry ≡ (if masked then None else next_entry nest stack due)
+    → (depth == 0) ≡ is_idle stack due
+idle_closed nest masked hold [] due None depth none is held e = ap (λ (n : ℕ). n == 0) is ∙ sym (idle_is nest masked hold [] due held e refl)
+idle_closed nest masked hold (k ∷ outer) due None depth none is held e = not_zero depth (length outer) is
+idle_closed nest masked hold stack due (Some k) depth none is held e = cc
+
+pub idle_entered : (nest : Nest) (masked : Bool) (stack : List Kind) (due : Kind → Bool) (entry : Option Kind) → is_some entry ≡ true
+    → entry ≡ (if masked then None else next_entry nest stack due) → false ≡ is_idle stack due
+idle_entered nest masked stack due None some e = cc
+idle_entered nest masked stack due (Some k) some e = sym (busy_entry nest masked stack due k e)

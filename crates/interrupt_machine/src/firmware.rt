@@ -22,6 +22,17 @@ pub enum Did {
     Return(Own),
 }
 
+impl Did {
+    /// The notes that the step gave of its own.
+    pub fn own(&self) -> &Own
+        ensures { result.now.items ≡ notes_of self.now }
+    {
+        match self {
+            Did::More(own) | Did::Return(own) => own,
+        }
+    }
+}
+
 /// The handlers of the interrupt kinds. A kind is open at most once, so the firmware keeps the state of each open
 /// activation by its kind.
 pub trait Firmware: Drop {

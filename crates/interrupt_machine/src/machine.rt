@@ -5,6 +5,7 @@ ghost use Rattle.esc_base.specs.Flash.{Told};
 ghost use Rattle.interrupt_machine.specs.Did.{notes_of};
 ghost use Rattle.interrupt_machine.specs.Open.{innermost, is_open, due_now, highest, next_entry, is_idle};
 ghost use Rattle.interrupt_machine.specs.Response.{Moment, Passed, Responds};
+ghost use Rattle.timer_regs.specs.Bank.{Bank};
 ghost use Rattle.timer_regs.specs.Effects.{advanced};
 ghost use Rattle.interrupt_machine.specs.Step.{MachineStepped};
 ghost use Rattle.interrupt_machine.specs.Turn.{IsHeld, leave_note, gate_note};
@@ -111,6 +112,15 @@ impl<F: Firmware> Machine<F> {
         self.stack.depth() == 0 && self.due(regs).is_none()
     }
 
+    /// Whether no handler is open and no kind is due, where the caller has asked already which kind enters.
+    pub fn idle_with(&self, entry: Option<Kind>) -> bool
+        ensures { (b : Bank) → (b.masked ≡ true → IsHeld (F.hold self.now.firmware) self.now.open_kinds)
+            → entry ≡ (if b.masked then None else next_entry self.now.nest self.now.open_kinds (due_now (F.waits self.now.firmware) b))
+            → result ≡ is_idle self.now.open_kinds (due_now (F.waits self.now.firmware) b) }
+    {
+        entry.is_none() && self.stack.depth() == 0
+    }
+
     /// One step of the machine, at now, and its notes, at most six. The machine must not be idle. Where the mask is up, a
     /// handler is open and the firmware's `hold` isn't 0, and this is so again after the step.
     ///
@@ -135,8 +145,27 @@ impl<F: Firmware> Machine<F> {
         requires count { regs.old.accesses < 2 ^ 63 }
         ensures { MachineStepped F.came F.made F.waits F.left F.hold self.old regs.old (D.told dev.old) notes.new.items self.new regs.new (D.told dev.new) }
     {
+        let entry = self.entry(regs);
+        self.step_with(entry, regs, dev, notes);
+    }
+
+    /// As `step_into`, where the caller has asked already which kind enters.
+    pub fn step_with<D: FlashDev>(
+        &mut self,
+        entry: Option<Kind>,
+        regs: &mut Regs,
+        dev: &mut D,
+        notes: &mut Notes,
+    )
+        requires busy { is_idle self.old.open_kinds (due_now (F.waits self.old.firmware) regs.old) ≡ false }
+        requires mask { regs.old.masked ≡ true → IsHeld (F.hold self.old.firmware) self.old.open_kinds }
+        requires count { regs.old.accesses < 2 ^ 63 }
+        requires entry { entry ≡ (if regs.old.masked then None
+            else next_entry self.old.nest self.old.open_kinds (due_now (F.waits self.old.firmware) regs.old)) }
+        ensures { MachineStepped F.came F.made F.waits F.left F.hold self.old regs.old (D.told dev.old) notes.new.items self.new regs.new (D.told dev.new) }
+    {
         notes.clear();
-        match self.entry(regs) {
+        match entry {
             Some(kind) => self.enter(kind, regs, notes),
             None => self.own_step(regs, dev, notes),
         }
@@ -155,8 +184,8 @@ impl<F: Firmware> Machine<F> {
         regs.advance(to);
     }
 
-    /// The kind that enters now, if one does.
-    fn entry(&self, regs: &Regs) -> Option<Kind>
+    /// The kind that enters in a step at now, if one does.
+    pub fn entry(&self, regs: &Regs) -> Option<Kind>
         ensures entry { result ≡ (if regs.now.masked then None
             else next_entry self.now.nest self.now.open_kinds (due_now (F.waits self.now.firmware) regs.now)) }
     {
@@ -234,15 +263,12 @@ fn note_own(notes: &mut Notes, kind: Kind, did: &Did, regs: &Regs)
     ensures items { notes.new.items ≡ (notes.old.items ++ notes_of did.now) ++ leave_note regs.now kind did.now }
     ensures in_range { All InRange notes.new.items }
 {
-    match did {
-        Did::More(own) => append(notes, own),
-        Did::Return(own) => {
-            append(notes, own);
-            notes.push(Note::Leave {
-                t: regs.now(),
-                k: kind.number(),
-            });
-        }
+    append(notes, did.own());
+    if let Did::Return(_) = did {
+        notes.push(Note::Leave {
+            t: regs.now(),
+            k: kind.number(),
+        });
     }
 }
 

@@ -345,7 +345,7 @@ impl Regs {
             Kind::Cmp => self.cmp_due(),
             Kind::Pwm => self.flag,
             Kind::Comm => self.comm_due(),
-            _ => false,
+            Kind::Main | Kind::Uart => false,
         }
     }
 

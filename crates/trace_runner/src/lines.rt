@@ -10,6 +10,7 @@ use crate::WriteFault;
 use esc_base::{Note, Sink};
 use trace_text::{Line, write_note};
 
+#[inline(always)]
 fn put_all<K: Sink>(notes: &[Note], line: &mut Line, out: &mut K) -> Result<(), WriteFault>
     requires { All InRange notes.now }
     ensures took { OnOk result (TookLines K.took out.old notes.now out.new) }

@@ -1,5 +1,5 @@
 //! All steps before an event's tick, the lines of their notes, and then the event.
-ghost use Rattle.std.specs.Prelude.{◌≡◌, ◌<◌, ◌≤◌, ◌+◌, ◌++◌, ◌∷◌, [], ℕ, List, Some, OnOk, OnErr, true, false};
+ghost use Rattle.std.specs.Prelude.{◌≡◌, ◌<◌, ◌≤◌, ◌+◌, ◌++◌, ◌∷◌, [], ℕ, List, Some, None, if◌then◌else◌, OnOk, OnErr, true, false};
 ghost use Rattle.esc_base.specs.declared.event.Event.{Event as AnEvent};
 ghost use Rattle.esc_base.specs.Flash.{Told};
 ghost use Rattle.esc_base.specs.Outside.{Rose};
@@ -8,7 +8,7 @@ ghost use Rattle.trace_text.specs.Ahead.{StallFits};
 ghost use Rattle.esc_base.specs.declared.kind.Kind.TheVariants as kinds;
 ghost use Rattle.timer_regs.specs.Effects.{advanced, is_due};
 ghost use Rattle.timer_regs.specs.NextDue.{tick_of as tick_of_due};
-ghost use Rattle.interrupt_machine.specs.Open.{due_now, is_idle};
+ghost use Rattle.interrupt_machine.specs.Open.{due_now, is_idle, next_entry};
 ghost use Rattle.esc_laws.specs.Steps.{Turned, journal};
 ghost use Rattle.esc_laws.specs.Legal.{Legal};
 ghost use Rattle.esc_laws.specs.Saves.{FlashFits};
@@ -193,11 +193,12 @@ impl Runner {
             return Ok(());
         }
         self.pass();
-        if self.machine.idle(&self.regs) {
+        let entry = self.machine.entry(&self.regs);
+        if self.machine.idle_with(entry) {
             self.jump();
             Ok(())
         } else {
-            self.step(out, dev)
+            self.step(entry, out, dev)
         }
     }
 
@@ -248,8 +249,15 @@ impl Runner {
         self.next = to;
     }
 
-    /// Makes one step of the machine, at now, and writes the lines of its notes.
-    fn step<K: Sink, D: FlashDev>(&mut self, out: &mut K, dev: &mut D) -> Result<(), WriteFault>
+    /// Makes one step of the machine, at now, in which that kind enters, if one does, and writes the lines of its notes.
+    fn step<K: Sink, D: FlashDev>(
+        &mut self,
+        entry: Option<Kind>,
+        out: &mut K,
+        dev: &mut D,
+    ) -> Result<(), WriteFault>
+        requires entry { entry ≡ (if self.old.regs.masked then None
+            else next_entry self.old.machine.nest self.old.machine.open_kinds (due_now self.old.machine.firmware.orders.save_asked self.old.regs)) }
         requires now { self.old.regs.time ≡ self.old.next.0 }
         requires busy { is_idle self.old.machine.open_kinds (due_now self.old.machine.firmware.orders.save_asked self.old.regs) ≡ false }
         requires below { self.old.next.0 < self.old.limit.0 }
@@ -258,7 +266,8 @@ impl Runner {
         ensures kept { Kept self.old self.new }
     {
         self.quiet = Tick(0);
-        self.machine.step_into(&mut self.regs, dev, &mut self.notes);
+        self.machine
+            .step_with(entry, &mut self.regs, dev, &mut self.notes);
         self.next = Tick(self.next.0 + self.cost as u64);
         put_notes(self.notes.as_slice(), &mut self.line, out)
     }

@@ -29,7 +29,7 @@ use Rattle.trace_text.proofs.Bits.{no_bits, bits_suc}
 is_digit : (c : ℕ) → digit_value c < 10 → is_ascii_digit c ≡ true
 is_digit c lt = let range = digit_from_value c lt in grind (arith, nat_tests)
 
-all_digits : (ds : List ℕ) → AllDigits 10 ds → list_all is_ascii_digit ds ≡ true
+pub all_digits : (ds : List ℕ) → AllDigits 10 ds → list_all is_ascii_digit ds ≡ true
 all_digits [] h = refl
 all_digits (c ∷ ds) h = rw (is_digit c h.0, all_digits ds h.1) refl
 
@@ -41,18 +41,18 @@ plain [] lt = absurd (omega arith)
 plain (d ∷ []) lt = refl
 plain (d ∷ e ∷ ds) lt = not_zero d lt
 
-starts_plainly : (n : ℕ) → n < 2 ^ 64 → (0 < n) ⊎ (n ≤ 0) → has_plain_start (decimal n) ≡ true
+pub starts_plainly : (n : ℕ) → n < 2 ^ 64 → (0 < n) ⊎ (n ≤ 0) → has_plain_start (decimal n) ≡ true
 starts_plainly n small (inl some) = plain (decimal n) (first_decimal n some small)
 starts_plainly n small (inr none) = ap (λ (m : ℕ). has_plain_start (decimal m)) (omega arith) ∙ ap has_plain_start (decimal_digit 0 (omega arith))
 
-number_back : (low high n : ℕ) → low ≤ n → n ≤ high → n < 2 ^ 64 → number_between low high (decimal n) ≡ Some n
+pub number_back : (low high n : ℕ) → low ≤ n → n ≤ high → n < 2 ^ 64 → number_between low high (decimal n) ≡ Some n
 number_back low high n le ge small =
     let is = decimal_is_IsNumeral n small in
     rw (starts_plainly n small (cases_lt 0 n), all_digits (decimal n) is.0.1, is.1, le-leb low n le, le-leb n high ge) refl
 
 -- ---- two hexadecimal digits
 
-byte_back : (b : ℕ) → b < 256 → byte_of (hex b) ≡ Some b
+pub byte_back : (b : ℕ) → b < 256 → byte_of (hex b) ≡ Some b
 byte_back b small =
     let high : digit_value (digit_glyph false (b / 16)) ≡ b / 16 = digit_value-digit_char (b / 16) (omega arith) in
     let low : digit_value (digit_glyph false (b % 16)) ≡ b % 16 = digit_value-digit_char (b % 16) (omega arith) in
@@ -127,17 +127,17 @@ not_none (a ∷ b ∷ c ∷ d ∷ e ∷ rest) h = refl
 -- ---- words without a space or a line feed
 
 -- no byte of a word is as low as a space or a line feed
-abbrev IsHigh : List ℕ → Type 0
+abbrev pub IsHigh : List ℕ → Type 0
 IsHigh word = All (λ b. 48 ≤ b) word
 
-abbrev AllHigh : List (List ℕ) → Type 0
+abbrev pub AllHigh : List (List ℕ) → Type 0
 AllHigh [] = Unit {0}
 AllHigh (word ∷ words) = IsHigh word × AllHigh words
 
 no_space : (word : List ℕ) → IsHigh word → All (λ b. (b == 32) ≡ false) word
 no_space word h = All-weaker (λ b. 48 ≤ b) (λ b. (b == 32) ≡ false) (λ b le. grind (arith, nat_tests)) word h
 
-fields_spaced : (first : List ℕ) (words : List (List ℕ)) → IsHigh first → AllHigh words → fields (first ++ spaced words) ≡ first ∷ words
+pub fields_spaced : (first : List ℕ) (words : List (List ℕ)) → IsHigh first → AllHigh words → fields (first ++ spaced words) ≡ first ∷ words
 fields_spaced first [] h hs = ap fields (append-nil first) ∙ slice_split_none (λ b. b == 32) first (no_space first h)
 fields_spaced first (word ∷ words) h hs =
     slice_split_at (λ b. b == 32) first 32 (word ++ spaced words) (no_space first h) refl
@@ -146,7 +146,7 @@ fields_spaced first (word ∷ words) h hs =
 abbrev pub NoFeed : List ℕ → Type 0
 NoFeed bytes = All (λ b. (b == 10) ≡ false) bytes
 
-no_feed_spaced : (words : List (List ℕ)) → AllHigh words → NoFeed (spaced words)
+pub no_feed_spaced : (words : List (List ℕ)) → AllHigh words → NoFeed (spaced words)
 no_feed_spaced [] h = All-nil (λ b. (b == 10) ≡ false)
 no_feed_spaced (word ∷ words) h =
     let here = All-weaker (λ b. 48 ≤ b) (λ b. (b == 10) ≡ false) (λ b le. grind (arith, nat_tests)) word h.0 in
@@ -156,19 +156,19 @@ high_digits : (ds : List ℕ) → AllDigits 10 ds → IsHigh ds
 high_digits [] h = All-nil (λ b. 48 ≤ b)
 high_digits (c ∷ ds) h = All-cons (λ b. 48 ≤ b) c ds (let range = digit_from_value c h.0 in omega arith) (high_digits ds h.1)
 
-high_decimal : (n : ℕ) → n < 2 ^ 64 → IsHigh (decimal n)
+pub high_decimal : (n : ℕ) → n < 2 ^ 64 → IsHigh (decimal n)
 high_decimal n small = high_digits (decimal n) (decimal_is_IsNumeral n small).0.1
 
 high_glyph : (d : ℕ) → 48 ≤ digit_glyph false d
 high_glyph d = grind (arith, nat_tests)
 
-high_letter : (l : ℕ) → 48 ≤ l → IsHigh (l ∷ [])
+pub high_letter : (l : ℕ) → 48 ≤ l → IsHigh (l ∷ [])
 high_letter l h = All-cons (λ x. 48 ≤ x) l [] h (All-nil (λ x. 48 ≤ x))
 
-high_two : (a b : ℕ) → 48 ≤ a → 48 ≤ b → IsHigh (a ∷ b ∷ [])
+pub high_two : (a b : ℕ) → 48 ≤ a → 48 ≤ b → IsHigh (a ∷ b ∷ [])
 high_two a b h k = All-cons (λ x. 48 ≤ x) a (b ∷ []) h (high_letter b k)
 
-high_hex : (b : ℕ) → IsHigh (hex b)
+pub high_hex : (b : ℕ) → IsHigh (hex b)
 high_hex b = high_two (digit_glyph false (b / 16)) (digit_glyph false (b % 16)) (high_glyph (b / 16)) (high_glyph (b % 16))
 
 high_bits : (k b : ℕ) → IsHigh (bits k b)

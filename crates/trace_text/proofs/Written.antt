@@ -1,5 +1,5 @@
 -- A space and a number, written into a line's bytes.
-use Rattle.std.proofs.Common.{◌≡◌, ℕ, ◌+◌, ◌<◌, ◌≤◌, List, [], ◌∷◌, ◌++◌, length, take, drop, slice_set, sym, ◌∙◌, ap, arith, append_assoc, take-take}
+use Rattle.std.proofs.Common.{◌≡◌, ℕ, ◌+◌, ◌<◌, List, [], ◌∷◌, ◌++◌, length, take, drop, slice_set, sym, ◌∙◌, ap, arith, append_assoc, take-take}
 use Rattle.std.proofs.Math.Seq.{take-add, take-append_seam}
 use Rattle.std.proofs.lemmas.List.{take_more_set, drop-set-lt, length-set}
 use Rattle.std.proofs.lemmas.Grind.{take-set_at}
@@ -21,7 +21,7 @@ pub digits_field : (buffer written digits : List ℕ) (at end : ℕ) → end ≡
     → take end (slice_set written at 32) ≡ take at buffer ++ 32 ∷ digits
 digits_field buffer written digits at end is fits before behind =
     let front : take at written ≡ take at buffer =
-        sym (take-take at (at + 1) written (omega arith)) ∙ ap (take at) before ∙ take-take at (at + 1) buffer (omega arith) in
+    sym (take-take at (at + 1) written (omega arith)) ∙ ap (take at) before ∙ take-take at (at + 1) buffer (omega arith) in
     ap (λ (n : ℕ). take n (slice_set written at 32)) is
     ∙ take-add (at + 1) (length digits) (slice_set written at 32)
     ∙ ap (λ (xs : List ℕ). xs ++ take (length digits) (drop (at + 1) (slice_set written at 32))) (take_more_set written at 32 fits)

@@ -6,6 +6,6 @@ use Rattle.interrupt_machine.proofs.machine.note_own.Goals as goal
 
 pub returns-in-Return-clause-in_range : goal.returns-in-Return-clause-in_range
 returns-in-Return-clause-in_range c =
-    rw (c.push.ensures.items, c.append-in-Return.ensures.items)
-    (All-push InRange _ _ (All-append InRange _ _ c.requires.old_in_range (rw c.in-Return.is at c.requires.own_in_range))
+    rw (c.push.ensures.items, c.append.ensures.items, c.own.ensures)
+    (All-push InRange _ _ (All-append InRange _ _ c.requires.old_in_range c.requires.own_in_range)
     (omega arith, rw c.number.ensures (number_most c.args.kind)))

@@ -1,4 +1,4 @@
-use Rattle.std.proofs.Common.{◌≡◌, ◌+◌, ◌<◌, length, take, drop, decimal, ap, ◌∙◌, sym, arith}
+use Rattle.std.proofs.Common.{◌≡◌, ◌+◌, decimal, arith}
 use Rattle.trace_text.proofs.Written.{digit_field, digits_field}
 use Rattle.trace_text.proofs.write.write_field.Goals as goal
 

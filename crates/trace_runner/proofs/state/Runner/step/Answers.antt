@@ -13,12 +13,12 @@ use Rattle.trace_runner.proofs.state.Runner.step.Goals as goal
 pub returns-clause-run : goal.returns-clause-run
 returns-clause-run g c =
     let r : Runner = c.args.self.now in
-    let own : List Note = c.step_into.new.notes.items in
+    let own : List Note = c.step_with.new.notes.items in
     let flash : Told = (g.D.FlashDev.told c.args.dev.now) in
-    let flash' : Told = (g.D.FlashDev.told c.step_into.new.dev) in
-    let t : CoreTurn r.machine.nest r.machine.firmware r.machine.open_kinds r.regs flash own c.step_into.new.self.firmware
-    c.step_into.new.self.open_kinds c.step_into.new.regs flash' =
-    c.step_into.ensures.turn in
+    let flash' : Told = (g.D.FlashDev.told c.step_with.new.dev) in
+    let t : CoreTurn r.machine.nest r.machine.firmware r.machine.open_kinds r.regs flash own c.step_with.new.self.firmware
+    c.step_with.new.self.open_kinds c.step_with.new.regs flash' =
+    c.step_with.ensures.turn in
     let e : Turned = turned r.regs.time own t in
     let at : e.tick ≡ r.next.0 = turned-tick r.regs.time own t ∙ c.requires.now in
     let n = one_log e own (turned-notes r.regs.time own t) in
@@ -33,16 +33,16 @@ returns-clause-run g c =
         log = e ∷ [];
         stands = λ trace steps st. rw (append-nil trace) (record {
           logged =
-              step_logged o.loaded r.machine.nest c.step_into.new.self.nest r.cost r.next.0 trace r.machine.firmware c.step_into.new.self.firmware r.regs
-              c.step_into.new.regs flash flash' r.machine.open_kinds c.step_into.new.self.open_kinds steps own
-              c.step_into.ensures.nest c.requires.now r.cost_some small st.logged c.requires.busy t;
+              step_logged o.loaded r.machine.nest c.step_with.new.self.nest r.cost r.next.0 trace r.machine.firmware c.step_with.new.self.firmware r.regs
+              c.step_with.new.regs flash flash' r.machine.open_kinds c.step_with.new.self.open_kinds steps own
+              c.step_with.ensures.nest c.requires.now r.cost_some small st.logged c.requires.busy t;
           bound = tick_bound r.cost r.next.0 r.limit.0 steps e at below few st.spaced st.bound;
           spaced = spaced_push r.cost r.next.0 steps e at st.spaced;
-          in_range = step_in_range o.loaded steps e own (turned-notes r.regs.time own t) c.step_into.ensures.in_range st.in_range;
+          in_range = step_in_range o.loaded steps e own (turned-notes r.regs.time own t) c.step_with.ensures.in_range st.in_range;
           flash =
-              step_flash o r.machine.nest r.cost r.next.0 trace r.machine.firmware c.step_into.new.self.firmware r.regs c.step_into.new.regs flash flash'
-              r.machine.open_kinds c.step_into.new.self.open_kinds steps own
-              c.requires.now st.logged (g.met.D.FlashDev.whole c.args.dev.now) (g.met.D.FlashDev.whole c.step_into.new.dev) t st.flash;
+              step_flash o r.machine.nest r.cost r.next.0 trace r.machine.firmware c.step_with.new.self.firmware r.regs c.step_with.new.regs flash flash'
+              r.machine.open_kinds c.step_with.new.self.open_kinds steps own
+              c.requires.now st.logged (g.met.D.FlashDev.whole c.args.dev.now) (g.met.D.FlashDev.whole c.step_with.new.dev) t st.flash;
         });
         given_is = rw (n, ← c.as_slice.ensures.value) given;
         lines = rw (n, ← c.as_slice.ensures.value) took;
@@ -50,11 +50,11 @@ returns-clause-run g c =
       breaks = on_err_map c.put_notes.result c.put_notes.ensures.broke (λ broken o.
           breaks_in g.K.Sink.given g.K.Sink.took g.K.Sink.broke o.loaded (Runs r o flash)
           (LeftBelow o flash' r.machine.nest r.cost r.limit.0) c.as_slice.result.now _ _ (λ trace steps front rest last st split.
-          step_breaks o r.machine.nest r.cost r.next.0 r.limit.0 trace r.machine.firmware c.step_into.new.self.firmware r.regs c.step_into.new.regs flash
-          flash' r.machine.open_kinds c.step_into.new.self.open_kinds steps own front rest last
+          step_breaks o r.machine.nest r.cost r.next.0 r.limit.0 trace r.machine.firmware c.step_with.new.self.firmware r.regs c.step_with.new.regs flash
+          flash' r.machine.open_kinds c.step_with.new.self.open_kinds steps own front rest last
           c.requires.now below r.cost_some r.cost_most small st.logged c.requires.busy t (below_next r.cost r.next.0 steps r.cost_some st.spaced)
           (sym c.as_slice.ensures.value ∙ split)
-          c.step_into.ensures.in_range st.in_range (g.met.D.FlashDev.whole c.args.dev.now) (g.met.D.FlashDev.whole c.step_into.new.dev) st.flash) broken);
+          c.step_with.ensures.in_range st.in_range (g.met.D.FlashDev.whole c.args.dev.now) (g.met.D.FlashDev.whole c.step_with.new.dev) st.flash) broken);
       failed = c.put_notes.ensures.failed;
       no_fewer = c.put_notes.ensures.no_fewer;
     }

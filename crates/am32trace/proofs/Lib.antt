@@ -1,0 +1,5 @@
+pub mod Edges
+pub mod Begun
+pub mod Flying
+pub mod Endings
+pub mod Requests

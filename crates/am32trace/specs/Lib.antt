@@ -1,0 +1,5 @@
+pub mod Frames
+pub mod Line
+pub mod Flown
+pub mod Status
+pub mod Request

@@ -1,0 +1,51 @@
+//! Noise on the signal line.
+
+use esc_base::{Edge, Tick};
+
+/// Edges at irregular distances.
+#[derive(Clone, Copy, Debug, PartialEq, Eq, Drop)]
+pub struct Noise {
+    /// The next edge.
+    pub next: Edge,
+    /// No edge stands behind this tick.
+    pub until: Tick,
+    /// The level at which the line rests afterwards.
+    pub rest: bool,
+    seed: u32,
+}
+
+impl Noise {
+    /// Noise from `t` on for so many ticks.
+    pub fn new(t: Tick, ticks: u64, rest: bool) -> Noise {
+        Noise {
+            next: Edge { t, level: !rest },
+            until: Tick(t.0.saturating_add(ticks)),
+            rest,
+            seed: (t.0 & 0xFFFF) as u32,
+        }
+    }
+
+    /// The noise behind its next edge, until the line rests again: the distance to the edge after that is 24 to 279 ticks.
+    pub fn after(self) -> Option<Noise> {
+        if self.next.level == self.rest && self.next.t.0 >= self.until.0 {
+            return None;
+        }
+        let seed = self.seed.wrapping_mul(1664525).wrapping_add(1013904223);
+        let apart = u64::from(24 + (seed >> 24));
+        let t = self
+            .next
+            .t
+            .0
+            .saturating_add(apart)
+            .min(self.until.0)
+            .max(self.next.t.0);
+        Some(Noise {
+            next: Edge {
+                t: Tick(t),
+                level: !self.next.level,
+            },
+            seed,
+            ..self
+        })
+    }
+}

@@ -1,0 +1,186 @@
+-- One piece more, and one wire more.
+use Rattle.std.proofs.Common.{◌≡◌, ◌≢◌, ◌≤◌, ◌<◌, ℕ, ◌+◌, Bool, true, false, ◌==◌, if◌then◌else◌, List, [], ◌∷◌, ◌++◌, Option, Some, None, Result, Ok, Err, OnErr, length, take, drop, get_or, add-one, drop-cons, refl, sym, ◌∙◌, ap, append_assoc, append-nil, arith}
+use Rattle.std.proofs.lemmas.List.Concat.{flat_map-append}
+use Rattle.std.proofs.lemmas.List.{take-append-drop}
+use Rattle.std.proofs.Math.ListN.{drop_of_length-le}
+use Rattle.std.proofs.lemmas.Bool.Decides.{nat_tests}
+use Rattle.std.specs.Io.KnownBytes.{append_known}
+use Rattle.esc_base.specs.Outside.{AppendsFront}
+use Rattle.am32wave.specs.declared.pieces.Piece.{Piece}
+use Rattle.am32wave.specs.declared.pieces.Piece.TheVariants as piece
+use Rattle.am32wave.specs.declared.picture.Picture.{Picture}
+use Rattle.am32wave.specs.declared.wire.Wire.{Wire}
+use Rattle.am32wave.specs.Wires.{width, value}
+use Rattle.am32wave.specs.Pieces.{declaration, change, piece_text, text}
+use Rattle.am32wave.specs.Wave.{declarations, values, changes}
+
+pub text_push : (ps : List Piece) (p : Piece) → text (ps ++ p ∷ []) ≡ text ps ++ piece_text p
+text_push ps p = flat_map-append piece_text ps (p ∷ []) ∙ ap (λ (x : List ℕ). text ps ++ x) (append-nil (piece_text p))
+
+-- ---- one wire more
+
+-- what is written next moves over to what was written
+moved : (items new : List Piece) (p : Piece) (bytes rest whole : List ℕ) → new ≡ items ++ p ∷ [] → piece_text p ≡ bytes → text items ++ (bytes ++ rest) ≡ whole
+    → text new ++ rest ≡ whole
+moved items new p bytes rest whole e f g = rw (e, text_push items p, f, append_assoc (text items) bytes rest) g
+
+drop_at : {A : Type 0} (xs : List A) (i : ℕ) (d : A) → i < length xs → drop i xs ≡ get_or xs i d ∷ drop (i + 1) xs
+drop_at xs i d lt = rw add-one (drop-cons xs i d lt)
+
+declarations_cons : (id : ℕ) (w : Wire) (ws : List Wire) → declarations id (w ∷ ws) ≡ declaration id w ++ declarations (id + 1) ws
+unfolding declarations
+declarations_cons id w ws = refl
+
+declarations_at : (id : ℕ) (ws : List Wire) (i : ℕ) (d : Wire) → i < length ws
+    → declarations (id + i) (drop i ws) ≡ declaration (id + i) (get_or ws i d) ++ declarations (id + (i + 1)) (drop (i + 1) ws)
+declarations_at id ws i d lt =
+    let next : id + i + 1 ≡ id + (i + 1) = omega arith in
+    ap (declarations (id + i)) (drop_at ws i d lt) ∙ declarations_cons (id + i) (get_or ws i d) (drop (i + 1) ws)
+    ∙ ap (λ (k : ℕ). declaration (id + i) (get_or ws i d) ++ declarations k (drop (i + 1) ws)) next
+
+pub declared : (items new : List Piece) (id : ℕ) (ws : List Wire) (i : ℕ) (d : Wire) (whole : List ℕ) → i < length ws
+    → new ≡ items ++ piece.Declaration (id + i) (get_or ws i d) ∷ [] → text items ++ declarations (id + i) (drop i ws) ≡ whole
+    → text new ++ declarations (id + (i + 1)) (drop (i + 1) ws) ≡ whole
+declared items new id ws i d whole lt e g =
+    moved items new (piece.Declaration (id + i) (get_or ws i d)) (declaration (id + i) (get_or ws i d))
+    (declarations (id + (i + 1)) (drop (i + 1) ws)) whole e refl
+    (rw (← declarations_at id ws i d lt) g)
+
+values_cons : (id : ℕ) (p : Picture) (w : Wire) (ws : List Wire) → values id p (w ∷ ws) ≡ change id (width w) (value w p) ++ values (id + 1) p ws
+unfolding values
+values_cons id p w ws = refl
+
+values_at : (id : ℕ) (p : Picture) (ws : List Wire) (i : ℕ) (d : Wire) → i < length ws
+    → values (id + i) p (drop i ws) ≡ change (id + i) (width (get_or ws i d)) (value (get_or ws i d) p) ++ values (id + (i + 1)) p (drop (i + 1) ws)
+values_at id p ws i d lt =
+    let next : id + i + 1 ≡ id + (i + 1) = omega arith in
+    ap (values (id + i) p) (drop_at ws i d lt) ∙ values_cons (id + i) p (get_or ws i d) (drop (i + 1) ws)
+    ∙ ap (λ (k : ℕ). change (id + i) (width (get_or ws i d)) (value (get_or ws i d) p) ++ values k p (drop (i + 1) ws)) next
+
+pub valued : (items new : List Piece) (id : ℕ) (p : Picture) (ws : List Wire) (i : ℕ) (d : Wire) (w v : ℕ) (whole : List ℕ) → i < length ws
+    → w ≡ width (get_or ws i d) → v ≡ value (get_or ws i d) p → new ≡ items ++ piece.Change (id + i) w v ∷ []
+    → text items ++ values (id + i) p (drop i ws) ≡ whole → text new ++ values (id + (i + 1)) p (drop (i + 1) ws) ≡ whole
+valued items new id p ws i d w v whole lt is_width is_value e g =
+    moved items new (piece.Change (id + i) w v) (change (id + i) w v) (values (id + (i + 1)) p (drop (i + 1) ws)) whole e refl
+    (rw (is_width, is_value, ← values_at id p ws i d lt) g)
+
+changes_cons : (id : ℕ) (p q : Picture) (w : Wire) (ws : List Wire) → changes id p q (w ∷ ws)
+    ≡ (if value w q == value w p then [] else change id (width w) (value w q)) ++ changes (id + 1) p q ws
+unfolding changes
+changes_cons id p q w ws = refl
+
+changes_at : (id : ℕ) (p q : Picture) (ws : List Wire) (i : ℕ) (d : Wire) (is_same : Bool) → i < length ws
+    → (value (get_or ws i d) q == value (get_or ws i d) p) ≡ is_same
+    → changes (id + i) p q (drop i ws)
+    ≡ (if is_same then [] else change (id + i) (width (get_or ws i d)) (value (get_or ws i d) q)) ++ changes (id + (i + 1)) p q (drop (i + 1) ws)
+changes_at id p q ws i d is_same lt e =
+    let next : id + i + 1 ≡ id + (i + 1) = omega arith in
+    ap (changes (id + i) p q) (drop_at ws i d lt) ∙ changes_cons (id + i) p q (get_or ws i d) (drop (i + 1) ws)
+    ∙ ap (λ (b : Bool). (if b then [] else change (id + i) (width (get_or ws i d)) (value (get_or ws i d) q)) ++ changes (id + i + 1) p q (drop (i + 1) ws)) e
+    ∙ ap (λ (k : ℕ). (if is_same then [] else change (id + i) (width (get_or ws i d)) (value (get_or ws i d) q)) ++ changes k p q (drop (i + 1) ws)) next
+
+pub changed : (items new : List Piece) (id : ℕ) (p q : Picture) (ws : List Wire) (i : ℕ) (d : Wire) (w v u : ℕ) (whole : List ℕ) → i < length ws
+    → w ≡ width (get_or ws i d) → v ≡ value (get_or ws i d) q → u ≡ value (get_or ws i d) p → (v == u) ≡ false
+    → new ≡ items ++ piece.Change (id + i) w v ∷ []
+    → text items ++ changes (id + i) p q (drop i ws) ≡ whole → text new ++ changes (id + (i + 1)) p q (drop (i + 1) ws) ≡ whole
+changed items new id p q ws i d w v u whole lt is_width is_value was is e g =
+    moved items new (piece.Change (id + i) w v) (change (id + i) w v) (changes (id + (i + 1)) p q (drop (i + 1) ws)) whole e refl
+    (rw (is_width, is_value, ← changes_at id p q ws i d false lt (rw (← is_value, ← was) is)) g)
+
+pub unchanged : (items new : List Piece) (id : ℕ) (p q : Picture) (ws : List Wire) (i : ℕ) (d : Wire) (v u : ℕ) (whole : List ℕ) → i < length ws
+    → v ≡ value (get_or ws i d) q → u ≡ value (get_or ws i d) p → (v == u) ≡ true → new ≡ items
+    → text items ++ changes (id + i) p q (drop i ws) ≡ whole → text new ++ changes (id + (i + 1)) p q (drop (i + 1) ws) ≡ whole
+unchanged items new id p q ws i d v u whole lt is_value was is e g = rw (e, ← changes_at id p q ws i d true lt (rw (← is_value, ← was) is)) g
+
+pub differs : (v u : ℕ) → v ≢ u → (v == u) ≡ false
+differs v u ne = grind (arith, nat_tests)
+
+pub same : (v u : ℕ) → v ≡ u → (v == u) ≡ true
+same v u e = grind (arith, nat_tests)
+
+-- nothing is left to say of no wire
+pub none_left : (items : List Piece) (rest whole : List ℕ) → text items ++ rest ≡ whole → rest ≡ [] → text items ≡ whole
+none_left items rest whole e n = sym (append-nil (text items)) ∙ ap (λ (b : List ℕ). text items ++ b) (sym n) ∙ e
+
+pub no_declarations : (id : ℕ) (ws : List Wire) (i : ℕ) → length ws ≤ i → declarations (id + i) (drop i ws) ≡ []
+unfolding declarations
+no_declarations id ws i le = rw (drop_of_length-le ws le) refl
+
+pub no_values : (id : ℕ) (p : Picture) (ws : List Wire) (i : ℕ) → length ws ≤ i → values (id + i) p (drop i ws) ≡ []
+unfolding values
+no_values id p ws i le = rw (drop_of_length-le ws le) refl
+
+pub no_changes : (id : ℕ) (p q : Picture) (ws : List Wire) (i : ℕ) → length ws ≤ i → changes (id + i) p q (drop i ws) ≡ []
+unfolding changes
+no_changes id p q ws i le = rw (drop_of_length-le ws le) refl
+
+-- ---- written pieces
+
+pub append_known-twice : (o : Option (List ℕ)) (xs ys : List ℕ) → append_known o (xs ++ ys) ≡ append_known (append_known o xs) ys
+append_known-twice (Some bs) xs ys = ap (λ (x : List ℕ). Some x) (sym (append_assoc bs xs ys))
+append_known-twice None xs ys = refl
+
+-- a front of what comes behind, and more behind that
+pub front_behind : (x y z : Option (List ℕ)) (done bytes rest whole : List ℕ) → y ≡ append_known x done → AppendsFront y bytes z
+    → done ++ (bytes ++ rest) ≡ whole
+    → AppendsFront x whole z
+front_behind x y z done bytes rest whole e f w = record {
+  front = done ++ f.front;
+  rest = f.rest ++ rest;
+  is_front =
+      append_assoc done f.front (f.rest ++ rest)
+      ∙ ap (λ (b : List ℕ). done ++ b) (sym (append_assoc f.front f.rest rest) ∙ ap (λ (b : List ℕ). b ++ rest) f.is_front)
+      ∙ w;
+  appended = f.appended ∙ ap (λ (o : Option (List ℕ)). append_known o f.front) e ∙ sym (append_known-twice x done f.front);
+}
+
+-- the text of a list around its place i
+text_at : (ps : List Piece) (i : ℕ) (d : Piece) → i < length ps → text (take i ps) ++ (piece_text (get_or ps i d) ++ text (drop (i + 1) ps)) ≡ text ps
+text_at ps i d lt =
+    sym (flat_map-append piece_text (take i ps) (get_or ps i d ∷ drop (i + 1) ps))
+    ∙ ap text (ap (λ (xs : List Piece). take i ps ++ xs) (sym (drop_at ps i d lt)) ∙ take-append-drop i ps)
+
+pub broken_at : (x y z : Option (List ℕ)) (ps : List Piece) (i : ℕ) (d : Piece) → i < length ps → y ≡ append_known x (text (take i ps))
+    → AppendsFront y (piece_text (get_or ps i d)) z → AppendsFront x (text ps) z
+broken_at x y z ps i d lt e f =
+    front_behind x y z (text (take i ps)) (piece_text (get_or ps i d)) (text (drop (i + 1) ps)) (text ps) e f (text_at ps i d lt)
+
+pub on_err : {T E P : Type 0} (r : Result T E) → P → OnErr r P
+on_err (Ok x) p = tt
+on_err (Err x) p = p
+
+-- ---- pages of several pieces
+
+text_first : (items new : List Piece) (p : Piece) → items ≡ [] → new ≡ items ++ p ∷ [] → text new ≡ piece_text p
+text_first items new p none e = ap text (e ∙ ap (λ (ps : List Piece). ps ++ p ∷ []) none) ∙ append-nil (piece_text p)
+
+text_then : (items new : List Piece) (p : Piece) (before : List ℕ) → text items ≡ before → new ≡ items ++ p ∷ [] → text new ≡ before ++ piece_text p
+text_then items new p before was e = ap text e ∙ text_push items p ∙ ap (λ (b : List ℕ). b ++ piece_text p) was
+
+text_all : (items new more : List Piece) (before : List ℕ) → text items ≡ before → new ≡ items ++ more → text new ≡ before ++ text more
+text_all items new more before was e = ap text e ∙ flat_map-append piece_text items more ∙ ap (λ (b : List ℕ). b ++ text more) was
+
+pub head_of : (i0 i1 i2 i3 i4 i5 : List Piece) (p q r : Piece) (d v : List ℕ) → i0 ≡ [] → i1 ≡ i0 ++ p ∷ [] → text i2 ≡ text i1 ++ d → i3 ≡ i2 ++ q ∷ []
+    → text i4 ≡ text i3 ++ v → i5 ≡ i4 ++ r ∷ [] → text i5 ≡ piece_text p ++ d ++ piece_text q ++ v ++ piece_text r
+head_of i0 i1 i2 i3 i4 i5 p q r d v e0 e1 e2 e3 e4 e5 =
+    let f2 = e2 ∙ ap (λ (b : List ℕ). b ++ d) (text_first i0 i1 p e0 e1) in
+    let f3 = text_then i2 i3 q (piece_text p ++ d) f2 e3 in
+    let f4 = e4 ∙ ap (λ (b : List ℕ). b ++ v) f3 in
+    text_then i4 i5 r (((piece_text p ++ d) ++ piece_text q) ++ v) f4 e5
+
+pub line_of : (i0 i1 i2 i3 more i4 i5 : List Piece) (p q r s : Piece) → i0 ≡ [] → i1 ≡ i0 ++ p ∷ [] → i2 ≡ i1 ++ q ∷ [] → i3 ≡ i2 ++ r ∷ []
+    → i4 ≡ i3 ++ more → i5 ≡ i4 ++ s ∷ [] → text i5 ≡ piece_text p ++ piece_text q ++ piece_text r ++ text more ++ piece_text s
+line_of i0 i1 i2 i3 more i4 i5 p q r s e0 e1 e2 e3 e4 e5 =
+    let f2 = text_then i1 i2 q (piece_text p) (text_first i0 i1 p e0 e1) e2 in
+    let f3 = text_then i2 i3 r (piece_text p ++ piece_text q) f2 e3 in
+    let f4 = text_all i3 i4 more ((piece_text p ++ piece_text q) ++ piece_text r) f3 e4 in
+    text_then i4 i5 s (((piece_text p ++ piece_text q) ++ piece_text r) ++ text more) f4 e5
+
+pub pages_of : (i0 i1 i2 i3 i4 i5 p q r s t : List Piece) (a b c d e : List ℕ) → i0 ≡ [] → i1 ≡ i0 ++ p → i2 ≡ i1 ++ q → i3 ≡ i2 ++ r → i4 ≡ i3 ++ s
+    → i5 ≡ i4 ++ t → text p ≡ a → text q ≡ b → text r ≡ c → text s ≡ d → text t ≡ e → text i5 ≡ a ++ b ++ c ++ d ++ e
+pages_of i0 i1 i2 i3 i4 i5 p q r s t a b c d e e0 e1 e2 e3 e4 e5 f g h k l =
+    let f1 = text_all i0 i1 p [] (ap text e0) e1 ∙ f in
+    let f2 = text_all i1 i2 q a f1 e2 ∙ ap (λ (x : List ℕ). a ++ x) g in
+    let f3 = text_all i2 i3 r (a ++ b) f2 e3 ∙ ap (λ (x : List ℕ). (a ++ b) ++ x) h in
+    let f4 = text_all i3 i4 s ((a ++ b) ++ c) f3 e4 ∙ ap (λ (x : List ℕ). ((a ++ b) ++ c) ++ x) k in
+    text_all i4 i5 t (((a ++ b) ++ c) ++ d) f4 e5 ∙ ap (λ (x : List ℕ). (((a ++ b) ++ c) ++ d) ++ x) l

@@ -1,0 +1,12 @@
+pub mod Picture
+pub mod Wires
+pub mod Pieces
+pub mod Sentence
+pub mod Tally
+pub mod Wave
+pub mod Explained
+pub mod Reading
+pub mod After
+pub mod Status
+pub mod Shown
+pub mod Laws

@@ -1,0 +1,162 @@
+-- The wires of a wave: their names, their widths in bits, and what they show.
+use Rattle.std.specs.Prelude.{ℕ, ◌/◌, ◌%◌, List, [], ◌∷◌, codes}
+use Rattle.esc_base.specs.declared.gate.Leg.TheVariants as leg
+use Rattle.esc_base.specs.declared.kind.Kind.{Kind}
+use Rattle.esc_base.specs.declared.kind.Kind.TheVariants as kind
+use Rattle.esc_base.specs.Legs.{is_on}
+use Rattle.esc_base.specs.Numbers.{bit_of}
+use Rattle.am32wave.specs.declared.picture.Heard.{Heard}
+use Rattle.am32wave.specs.declared.picture.Heard.TheVariants as heard
+use Rattle.am32wave.specs.declared.picture.Picture.{Picture}
+use Rattle.am32wave.specs.declared.wire.Wire.{Wire}
+use Rattle.am32wave.specs.declared.wire.Wire.TheVariants as wire
+use Rattle.am32wave.specs.Picture.{is_open}
+
+-- in the order in which they are declared and in which their changes stand
+abbrev pub wires : List Wire
+wires =
+    wire.High leg.A
+    ∷ wire.High leg.B
+    ∷ wire.High leg.C
+    ∷ wire.Low leg.A
+    ∷ wire.Low leg.B
+    ∷ wire.Low leg.C
+    ∷ wire.Sector
+    ∷ wire.Crossings
+    ∷ wire.Period
+    ∷ wire.Armed
+    ∷ wire.Demand
+    ∷ wire.Stuck
+    ∷ wire.Fuse
+    ∷ wire.Session
+    ∷ wire.Cause
+    ∷ wire.Losses
+    ∷ wire.Window
+    ∷ wire.Mode
+    ∷ wire.Good
+    ∷ wire.Detected
+    ∷ wire.Nothing
+    ∷ wire.Bad
+    ∷ wire.Value
+    ∷ wire.Telemetry
+    ∷ wire.Command
+    ∷ wire.Commands
+    ∷ wire.Saves
+    ∷ wire.Reply
+    ∷ wire.Replies
+    ∷ wire.Open kind.Main
+    ∷ wire.Open kind.Uart
+    ∷ wire.Open kind.Tick
+    ∷ wire.Open kind.Cap
+    ∷ wire.Open kind.Cmp
+    ∷ wire.Open kind.Pwm
+    ∷ wire.Open kind.Comm
+    ∷ []
+
+abbrev pub handler_name : Kind → List ℕ
+handler_name kind.Main = codes "handler_main"
+handler_name kind.Uart = codes "handler_uart"
+handler_name kind.Tick = codes "handler_tick"
+handler_name kind.Cap = codes "handler_cap"
+handler_name kind.Cmp = codes "handler_cmp"
+handler_name kind.Pwm = codes "handler_pwm"
+handler_name kind.Comm = codes "handler_comm"
+
+abbrev pub name : Wire → List ℕ
+name (wire.High leg.A) = codes "high_a"
+name (wire.High leg.B) = codes "high_b"
+name (wire.High leg.C) = codes "high_c"
+name (wire.Low leg.A) = codes "low_a"
+name (wire.Low leg.B) = codes "low_b"
+name (wire.Low leg.C) = codes "low_c"
+name wire.Sector = codes "sector"
+name wire.Crossings = codes "crossings"
+name wire.Period = codes "period_us"
+name wire.Armed = codes "armed"
+name wire.Demand = codes "demand"
+name wire.Stuck = codes "stuck"
+name wire.Fuse = codes "fuse"
+name wire.Session = codes "session"
+name wire.Cause = codes "lost_cause"
+name wire.Losses = codes "losses"
+name wire.Window = codes "window"
+name wire.Mode = codes "mode"
+name wire.Good = codes "good"
+name wire.Detected = codes "detected"
+name wire.Nothing = codes "nothing"
+name wire.Bad = codes "bad"
+name wire.Value = codes "frame_value"
+name wire.Telemetry = codes "telemetry"
+name wire.Command = codes "command"
+name wire.Commands = codes "commands"
+name wire.Saves = codes "saves"
+name wire.Reply = codes "reply"
+name wire.Replies = codes "replies"
+name (wire.Open k) = handler_name k
+
+-- 1 to 32
+abbrev pub width : Wire → ℕ
+width wire.Sector = 3
+width wire.Mode = 3
+width wire.Bad = 3
+width wire.Cause = 2
+width wire.Command = 6
+width wire.Demand = 11
+width wire.Value = 11
+width wire.Reply = 21
+width wire.Crossings = 32
+width wire.Period = 32
+width wire.Losses = 32
+width wire.Commands = 32
+width wire.Saves = 32
+width wire.Replies = 32
+width w = 1
+
+abbrev pub is_window_open : Heard → ℕ
+is_window_open heard.Open = 1
+is_window_open h = 0
+
+abbrev pub is_good : Heard → ℕ
+is_good heard.Good = 1
+is_good h = 0
+
+abbrev pub is_detected : Heard → ℕ
+is_detected heard.Detected = 1
+is_detected h = 0
+
+abbrev pub is_nothing : Heard → ℕ
+is_nothing heard.Nothing = 1
+is_nothing h = 0
+
+-- why the window was bad, by its number; 0 for one that wasn't
+abbrev pub reason : Heard → ℕ
+reason (heard.Bad w) = w
+reason h = 0
+
+abbrev pub value : Wire → Picture → ℕ
+value (wire.High x) p = bit_of (is_on p.drive.high x)
+value (wire.Low x) p = bit_of (is_on p.drive.low x)
+value wire.Sector p = p.drive.sector
+value wire.Crossings p = p.drive.crossings
+value wire.Period p = p.drive.period
+value wire.Armed p = bit_of p.control.armed
+value wire.Demand p = p.control.demand
+value wire.Stuck p = p.control.marks % 2
+value wire.Fuse p = p.control.marks / 2 % 2
+value wire.Session p = p.control.marks / 4 % 2
+value wire.Cause p = p.control.cause
+value wire.Losses p = p.control.losses
+value wire.Window p = is_window_open p.signal.heard
+value wire.Mode p = p.signal.mode
+value wire.Good p = is_good p.signal.heard
+value wire.Detected p = is_detected p.signal.heard
+value wire.Nothing p = is_nothing p.signal.heard
+value wire.Bad p = reason p.signal.heard
+value wire.Value p = p.signal.value
+value wire.Telemetry p = p.signal.telemetry
+value wire.Command p = p.control.command
+value wire.Commands p = p.control.commands
+value wire.Saves p = p.control.saves
+value wire.Reply p = p.signal.reply
+value wire.Replies p = p.signal.replies
+value (wire.Open k) p = bit_of (is_open p.handlers k)

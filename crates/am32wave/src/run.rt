@@ -1,0 +1,138 @@
+ghost use Rattle.std.specs.Prelude.{◌≡◌, ◌≢◌, ◌↔◌, ◌∷◌, ◌++◌, [], ℕ, List, All, Some, None, IfOk, OnErr};
+ghost use Rattle.esc_base.specs.declared.note.Note.{Note as ANote};
+ghost use Rattle.esc_base.specs.Outside.{Rose};
+ghost use Rattle.esc_base.specs.Range.{InRange};
+ghost use Rattle.am32wave.specs.declared.run.Form.{Form as AForm};
+ghost use Rattle.am32wave.specs.Pieces.{text, Fits};
+ghost use Rattle.am32wave.specs.Shown.{form_of, IsAfter, head_text, part_text, end_text, Shown, IsWriteFault, OnReadFault, OnWriteFault, IsDoneOrFault, IsJournal};
+
+use crate::dump::Dump;
+use crate::explain::Explanation;
+use crate::journal::Item;
+use crate::pieces::{Page, put_pieces};
+use crate::reader::Journal;
+use crate::status::Status;
+use esc_base::{Failed, Note, Sink, Source};
+
+/// How a journal is shown.
+#[derive(Clone, Copy, Debug, PartialEq, Eq, Drop)]
+pub enum Form {
+    /// As a value change dump.
+    Wave,
+    /// In words.
+    Words,
+}
+
+/// What was shown so far.
+#[derive(Clone, Copy, Drop)]
+enum Report {
+    Wave(Dump),
+    Words(Explanation),
+}
+
+impl Report {
+    fn new(form: Form) -> Report
+        ensures form { form_of result ≡ form }
+        ensures first { IsAfter result [] }
+    {
+        match form {
+            Form::Wave => Report::Wave(Dump::new()),
+            Form::Words => Report::Words(Explanation::new()),
+        }
+    }
+
+    /// What stands before the first note's part.
+    fn head(&self) -> Page
+        requires { IsAfter self.now [] }
+        ensures fits { All Fits result.items }
+        ensures text { text result.items ≡ head_text (form_of self.now) }
+    {
+        let mut page = Page::new();
+        match self {
+            Report::Wave(dump) => dump.head(&mut page),
+            Report::Words(_) => {}
+        }
+        page
+    }
+
+    /// A note's part.
+    fn add(&mut self, note: &Note) -> Page
+        requires { InRange note.now }
+        ensures fits { All Fits result.items }
+        ensures form { form_of self.new ≡ form_of self.old }
+        ensures text { (notes : List ANote) → IsAfter self.old notes → text result.items ≡ part_text (form_of self.old) notes note.now }
+        ensures goes_on { (notes : List ANote) → IsAfter self.old notes → IsAfter self.new (notes ++ note.now ∷ []) }
+    {
+        let mut page = Page::new();
+        match self {
+            Report::Wave(dump) => dump.add(note, &mut page),
+            Report::Words(explanation) => explanation.add(note, &mut page),
+        }
+        page
+    }
+
+    /// What stands behind the last note's part.
+    fn end(&self) -> Page
+        ensures fits { All Fits result.items }
+        ensures text { (notes : List ANote) → IsAfter self.now notes → text result.items ≡ end_text (form_of self.now) notes }
+    {
+        let mut page = Page::new();
+        match self {
+            Report::Wave(_) => {}
+            Report::Words(explanation) => explanation.end(&mut page),
+        }
+        page
+    }
+}
+
+/// Reads a journal and writes it in this form. An `Err` is the sink's.
+fn show<S: Source, K: Sink>(form: Form, src: &mut S, out: &mut K) -> Result<Status, Failed>
+    ensures ok { IfOk result (λ s. Shown form s (S.left src.old) (S.left src.new) (K.given out.old) (K.given out.new)) }
+    ensures read_fault { IfOk result (λ s. OnReadFault s (Rose (S.faults src.old) (S.faults src.new))) }
+    ensures no_write_fault { IfOk result (λ s. OnWriteFault s ⊥) }
+    ensures usage { IfOk result (λ s. s ≢ Status.Usage) }
+    ensures err { OnErr result (IsWriteFault form (S.left src.old) (K.given out.old) (K.given out.new)) }
+    ensures write_fault { OnErr result (Rose (K.faults out.old) (K.faults out.new)) }
+{
+    let mut journal = Journal::new();
+    let mut report = Report::new(form);
+    put_pieces(report.head().as_slice(), out)?;
+    loop {
+        match journal.next(src) {
+            Item::Note(note) => put_pieces(report.add(&note).as_slice(), out)?,
+            Item::End => {
+                put_pieces(report.end().as_slice(), out)?;
+                return Ok(Status::Done);
+            }
+            Item::Fault => return Ok(Status::ReadFault),
+            Item::Refused(kind) => {
+                let line = journal.line() + 1;
+                return Ok(Status::Refused { line, kind });
+            }
+        }
+    }
+}
+
+/// Reads a journal from `src` and writes it to `out` in the form that was asked for. It is handed no allocator, so it takes
+/// no memory.
+pub fn wave_main<S: Source, K: Sink>(asked: Option<Form>, src: &mut S, out: &mut K) -> Status
+    // Words that ask for nothing are refused, and no others, before anything is read or written.
+    ensures usage { (result ≡ Status.Usage) ↔ (asked ≡ None) }
+    ensures untouched { asked ≡ None → (src.new ≡ src.old) × (out.new ≡ out.old) }
+
+    // What was read and written, by the status, where source and sink tell their bytes.
+    ensures shown { (form : AForm) → asked ≡ Some form → Shown form result (S.left src.old) (S.left src.new) (K.given out.old) (K.given out.new) }
+
+    // Each fault is the source's or the sink's own, and without one a journal is shown to its end.
+    ensures read_fault { OnReadFault result (Rose (S.faults src.old) (S.faults src.new)) }
+    ensures write_fault { OnWriteFault result (Rose (K.faults out.old) (K.faults out.new)) }
+    ensures done { (form : AForm) → asked ≡ Some form → (journal : List ℕ) → S.left src.old ≡ Some journal → IsJournal journal → IsDoneOrFault result }
+{
+    let Some(form) = asked else {
+        return Status::Usage;
+    };
+    match show(form, src, out) {
+        Ok(status) => status,
+        Err(_) => Status::WriteFault,
+    }
+}

@@ -1,0 +1,4 @@
+pub mod Powers
+pub mod ReadBack
+pub mod Steps
+pub mod Rounding
