@@ -97,7 +97,8 @@ leaves_parts : (n : Note) (notes : List Note) → has_leave (n ∷ notes) ≡ fa
 leaves_parts (note.Leave t k) notes e = absurd (cc)
 leaves_parts n notes e = (refl, e)
 
-quiet_stack : (before notes : List Note) → All (λ n. is_entry n ≡ false) notes → has_leave notes ≡ false → (place (before ++ notes)).stack ≡ (place before).stack
+quiet_stack : (before notes : List Note) → All (λ n. is_entry n ≡ false) notes → has_leave notes ≡ false
+    → (place (before ++ notes)).stack ≡ (place before).stack
 quiet_stack before [] e l = ap (λ (x : List Note). (place x).stack) (append-nil before)
 quiet_stack before (n ∷ notes) e l =
     let parts = leaves_parts n notes l in
@@ -111,7 +112,8 @@ front_entries [] ys a = All-nil (λ n. is_entry n ≡ false)
 front_entries (x ∷ xs) ys a = All-cons (λ n. is_entry n ≡ false) x xs (All-head (λ n. is_entry n ≡ false) x (xs ++ ys) a)
     (front_entries xs ys (All-tail (λ n. is_entry n ≡ false) x (xs ++ ys) a))
 
-leaves_back : (front : List Note) (b : Bool) (t k : ℕ) → has_leave front ≡ false → has_leave (front ++ (if b then note.Leave (record { 0 = t }) k ∷ [] else [])) ≡ b
+leaves_back : (front : List Note) (b : Bool) (t k : ℕ) → has_leave front ≡ false
+    → has_leave (front ++ (if b then note.Leave (record { 0 = t }) k ∷ [] else [])) ≡ b
 leaves_back [] true t k e = refl
 leaves_back [] false t k e = refl
 leaves_back (n ∷ front) b t k e = let parts = leaves_parts n front e in cons n (front ++ (if b then note.Leave (record { 0 = t }) k ∷ [] else [])) b parts.0
@@ -181,7 +183,8 @@ open_self stack stack' k false s top e = ap (λ (x : List Kind). is_open x k) (e
 
 open_other : (stack stack' : List Kind) (k j : Kind) (back : Bool) → (kind_number k == kind_number j) ≡ false → innermost stack ≡ Some k
     → stack' ≡ (if back then outer_ones stack else stack) → is_open stack' j ≡ is_open stack j
-open_other stack stack' k j true ne top e = ap (λ (x : List Kind). is_open x j) e ∙ sym (ap (λ (x : List Kind). is_open x j) (innermost_first stack k top) ∙ rw ne refl)
+open_other stack stack' k j true ne top e =
+    ap (λ (x : List Kind). is_open x j) e ∙ sym (ap (λ (x : List Kind). is_open x j) (innermost_first stack k top) ∙ rw ne refl)
 open_other stack stack' k j false ne top e = ap (λ (x : List Kind). is_open x j) e
 
 open_entered : (stack stack' : List Kind) (k j : Kind) → (kind_number k == kind_number j) ≡ false → stack' ≡ k ∷ stack → is_open stack' j ≡ is_open stack j

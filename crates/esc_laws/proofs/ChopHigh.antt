@@ -234,7 +234,7 @@ module _ (cost : ℕ) (trace : List Event) (log : List Turned) (m d s until t ed
   pub run : (before rest : List Turned) → log ≡ before ++ rest → EachStep (StepMade cost trace) before rest → EachStep DriveFits before rest
       → EachStep (NoComm (2000 * m)) before rest → NonePassed cost trace log until → Past cost trace before
       → Placed cost (after cost trace before) (view before) → AllBy t before → State before → Fresh edge m d s t (at_tick t log)
-  run before [] h f g none steps_by past p all st = subst (λ (v : View). Fresh edge m d s t v) (sym (at_split t log before [] h all tt)) (ends st)
+  run before [] h f g none all_made past p all st = subst (λ (v : View). Fresh edge m d s t v) (sym (at_split t log before [] h all tt)) (ends st)
     where
       whole : log ≡ before
       whole = h ∙ append-nil before
@@ -243,12 +243,13 @@ module _ (cost : ℕ) (trace : List Event) (log : List Turned) (m d s until t ed
       dem = let q = edge_in is in let a : 2000 * m ≤ edge = q.0 in demand_at t before [] h all tt (omega arith) in_period
 
       ends : State before → Fresh edge m d s t (view before)
-      ends (inl y) = absurd (stale_ends before until (subst (λ (l : List Turned). NonePassed cost trace l until) whole steps_by) dem p below (early_is before p y))
-      ends (inr (a, inl y)) = absurd (stale_ends before until (subst (λ (l : List Turned). NonePassed cost trace l until) whole steps_by) dem p below y)
+      ends (inl y) =
+          absurd (stale_ends before until (subst (λ (l : List Turned). NonePassed cost trace l until) whole all_made) dem p below (early_is before p y))
+      ends (inr (a, inl y)) = absurd (stale_ends before until (subst (λ (l : List Turned). NonePassed cost trace l until) whole all_made) dem p below y)
       ends (inr (a, inr y)) = y.fresh
-  run before (e ∷ rest) h f g none steps_by past p all st = elim (cases_lt t e.tick) [
+  run before (e ∷ rest) h f g none all_made past p all st = elim (cases_lt t e.tick) [
     | inl lt ↦ subst (λ (v : View). Fresh edge m d s t v) (sym (at_split t log before (e ∷ rest) h all lt)) (ends lt st)
-    | inr le ↦ run (before ++ e ∷ []) rest (split_on log before rest e h) f.1 g.1 none.1 steps_by (past_on cost trace before e one f.0.later past)
+    | inr le ↦ run (before ++ e ∷ []) rest (split_on log before rest e h) f.1 g.1 none.1 all_made (past_on cost trace before e one f.0.later past)
         (placed_on cost trace before e f.0 p) (by-push t before e all le) (goes le st)
   ]
     where
