@@ -2,7 +2,7 @@ ghost use Rattle.std.specs.Prelude.{◌≡◌, ◌≢◌, ◌+◌, ◌<◌, ◌�
 ghost use Rattle.esc_base.specs.declared.kind.Kind.{Kind};
 ghost use Rattle.esc_base.specs.Range.{InRange};
 ghost use Rattle.esc_base.specs.Flash.{Told};
-ghost use Rattle.interrupt_machine.specs.Did.{notes_of};
+ghost use Rattle.interrupt_machine.specs.Did.{notes_in, notes_of};
 ghost use Rattle.interrupt_machine.specs.Open.{innermost, is_open, due_now, highest, next_entry, is_idle};
 ghost use Rattle.interrupt_machine.specs.Response.{Moment, Passed, Responds};
 ghost use Rattle.timer_regs.specs.Bank.{Bank};
@@ -274,10 +274,15 @@ fn note_own(notes: &mut Notes, kind: Kind, did: &Did, regs: &Regs)
 
 fn append(notes: &mut Notes, own: &Own)
     requires room { length notes.old.items ≤ 1 }
-    ensures items { notes.new.items ≡ notes.old.items ++ own.now.items }
-    ensures len { length notes.new.items ≤ length notes.old.items + 3 }
+    ensures items { notes.new.items ≡ notes.old.items ++ notes_in own.now }
+    ensures len { length notes.new.items ≤ length notes.old.items + 2 }
 {
-    for note in own.as_slice() {
-        notes.push(*note);
+    match own {
+        Own::None => {}
+        Own::One(note) => notes.push(*note),
+        Own::Two(first, second) => {
+            notes.push(*first);
+            notes.push(*second);
+        }
     }
 }
