@@ -1,32 +1,28 @@
 //! The notes of a step.
 ghost use Rattle.std.specs.Prelude.{◌≡◌, [], ◌∷◌, ◌++◌, List};
 ghost use Rattle.std.specs.Option.{option_to_list};
+ghost use Rattle.interrupt_machine.specs.Did.{notes_in};
 
-use arrayvec::ArrayVec;
 use esc_base::Note;
 use interrupt_machine::Own;
 
 pub(crate) fn no_note() -> Own
-    ensures { result.items ≡ [] }
+    ensures { notes_in result ≡ [] }
 {
-    ArrayVec::new()
+    Own::None
 }
 
 pub(crate) fn one_note(note: Note) -> Own
-    ensures { result.items ≡ note ∷ [] }
+    ensures { notes_in result ≡ note ∷ [] }
 {
-    let mut own = ArrayVec::new();
-    own.push(note);
-    own
+    Own::One(note)
 }
 
 pub(crate) fn note_and(note: Note, then: Option<Note>) -> Own
-    ensures { result.items ≡ note ∷ option_to_list then }
+    ensures { notes_in result ≡ note ∷ option_to_list then }
 {
-    let mut own = ArrayVec::new();
-    own.push(note);
-    if let Some(second) = then {
-        own.push(second);
+    match then {
+        None => Own::One(note),
+        Some(second) => Own::Two(note, second),
     }
-    own
 }

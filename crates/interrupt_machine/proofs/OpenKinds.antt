@@ -1,5 +1,5 @@
 -- The open kinds: the one that enters is above them, and each of them has steps left.
-use Rattle.std.proofs.Common.{◌≡◌, ◌≢◌, ◌<◌, ◌≤◌, ℕ, Bool, true, false, not, ◌&&◌, ◌||◌, ◌==◌, nat_lt, if◌then◌else◌, List, [], ◌∷◌, ◌++◌, Option, Some, None, is_none, is_some, refl, sym, ◌∙◌, ap, subst, arith, reverse, lit≤, ◌⊎◌, inl, inr, zero, suc, ◌+◌, length, get_or, drop}
+use Rattle.std.proofs.Common.{◌≡◌, ◌≢◌, ◌<◌, ◌≤◌, ℕ, Bool, true, false, not, ◌&&◌, ◌||◌, ◌==◌, nat_lt, if◌then◌else◌, List, [], ◌∷◌, ◌++◌, Option, Some, None, is_none, is_some, refl, sym, ◌∙◌, ap, subst, arith, reverse, lit≤, ◌⊎◌, inl, inr, suc, length}
 use Rattle.std.specs.List.{find}
 use Rattle.std.proofs.lemmas.Bool.Decides.{nat_tests}
 use Rattle.std.proofs.lemmas.List.{reverse-append}
@@ -18,15 +18,6 @@ highest_same p q h = same_in by_priority
     same_in : (kinds : List Kind) → find p kinds ≡ find q kinds
     same_in [] = refl
     same_in (k ∷ rest) = rw (h k, same_in rest) refl
-
--- one that isn't due is passed over
-pub find-passed_over : (due : Kind → Bool) (kinds : List Kind) (i : ℕ) (d : Kind) → i < length kinds → due (get_or kinds i d) ≡ false
-    → find due (drop i kinds) ≡ find due (drop (i + 1) kinds)
-find-passed_over due [] i d l e = absurd (omega arith)
-find-passed_over due (k ∷ kinds) zero d l e = rw e refl
-find-passed_over due (k ∷ kinds) (suc i) d l e =
-    let next : suc i + 1 ≡ suc (i + 1) = omega arith in
-    rw next (find-passed_over due kinds i d (omega arith) e)
 
 pub number_most : (k : Kind) → kind_number k ≤ 6
 number_most kind.Main = lit≤ tt

@@ -3,7 +3,7 @@ use Rattle.std.proofs.Common.{◌≡◌, ℕ, Bool, false, List, ◌++◌, Some,
 use Rattle.esc_base.specs.declared.kind.Kind.{Kind}
 use Rattle.esc_base.specs.declared.note.Note.{Note}
 use Rattle.esc_base.specs.Flash.{Told}
-use Rattle.arrayvec.specs.ArrayVec.{ArrayVec}
+use Rattle.interrupt_machine.specs.declared.firmware.Own.{Own}
 use Rattle.timer_regs.specs.Bank.{Bank}
 use Rattle.interrupt_machine.specs.declared.firmware.Did.{Did}
 use Rattle.interrupt_machine.specs.declared.firmware.Did.TheVariants.{More, Return}
@@ -39,11 +39,11 @@ own_is made waits nest old new stack stack' b a flash flash' k did gates notes h
 )
 
 -- the stack of an activation that goes on
-pub goes_on : (stack : List Kind) (k : Kind) (did : Did) (own : ArrayVec Note) → innermost stack ≡ Some k → did ≡ More own
+pub goes_on : (stack : List Kind) (k : Kind) (did : Did) (own : Own) → innermost stack ≡ Some k → did ≡ More own
     → stack ≡ open_after k (outer_ones stack) did
 goes_on stack k did own i e = rw e (innermost_first stack k i)
 
 -- and of one that returned
-pub went_back : (stack stack' : List Kind) (k : Kind) (did : Did) (own : ArrayVec Note) → stack' ≡ outer_ones stack → did ≡ Return own
+pub went_back : (stack stack' : List Kind) (k : Kind) (did : Did) (own : Own) → stack' ≡ outer_ones stack → did ≡ Return own
     → stack' ≡ open_after k (outer_ones stack) did
 went_back stack stack' k did own s e = rw e s

@@ -1,5 +1,5 @@
 -- What a step of a handler came to: the activation goes on or returns, with notes of its own.
-use Rattle.std.specs.Prelude.{◌≡◌, ℕ, List}
+use Rattle.std.specs.Prelude.{◌≡◌, ℕ, List, [], ◌∷◌}
 use Rattle.esc_base.specs.declared.kind.Kind.{Kind}
 use Rattle.esc_base.specs.declared.kind.Kind.TheVariants as kind
 use Rattle.esc_base.specs.declared.note.Note.{Note}
@@ -7,6 +7,8 @@ use Rattle.timer_regs.specs.Bank.{Bank}
 pub use Rattle.timer_regs.specs.Access.{Access, accessed}
 pub use Rattle.timer_regs.specs.Access.Access.{NoAccess, Reads, Writes}
 use Rattle.interrupt_machine.specs.declared.firmware.Did.{Did}
+use Rattle.interrupt_machine.specs.declared.firmware.Own.{Own}
+use Rattle.interrupt_machine.specs.declared.firmware.Own.TheVariants as own
 use Rattle.interrupt_machine.specs.declared.firmware.Did.TheVariants.{More, Return}
 
 abbrev pub IsMore : Did → Type 0
@@ -17,9 +19,15 @@ abbrev pub IsReturn : Did → Type 0
 IsReturn (More own) = ⊥
 IsReturn (Return own) = Unit {0}
 
+-- the notes that a step gives of its own
+abbrev pub notes_in : Own → List Note
+notes_in own.None = []
+notes_in (own.One n) = n ∷ []
+notes_in (own.Two n m) = n ∷ m ∷ []
+
 abbrev pub notes_of : Did → List Note
-notes_of (More own) = own.items
-notes_of (Return own) = own.items
+notes_of (More given) = notes_in given
+notes_of (Return given) = notes_in given
 
 -- how many own steps an activation makes at most, its return counted and its entry not
 abbrev pub most : Kind → ℕ

@@ -4,14 +4,18 @@ ghost use Rattle.esc_base.specs.Range.{InRange};
 ghost use Rattle.esc_base.specs.Flash.{Told};
 ghost use Rattle.timer_regs.specs.Bank.{Bank};
 ghost use Rattle.interrupt_machine.specs.declared.firmware.Did.{Did};
-ghost use Rattle.interrupt_machine.specs.Did.{IsMore, IsReturn, notes_of, most, MakesOneAccess};
+ghost use Rattle.interrupt_machine.specs.Did.{IsMore, IsReturn, notes_in, notes_of, most, MakesOneAccess};
 
-use arrayvec::ArrayVec;
 use esc_base::{FlashDev, Kind, Note};
 use timer_regs::Regs;
 
-/// The notes that a step gives of its own.
-pub type Own = ArrayVec<Note, 3>;
+/// The notes that a step gives of its own, in order. Most steps give none, so it is no list: a run makes millions of steps.
+#[derive(Drop)]
+pub enum Own {
+    None,
+    One(Note),
+    Two(Note, Note),
+}
 
 /// What a step of a handler came to.
 #[derive(Drop)]
@@ -25,7 +29,7 @@ pub enum Did {
 impl Did {
     /// The notes that the step gave of its own.
     pub fn own(&self) -> &Own
-        ensures { result.now.items ≡ notes_of self.now }
+        ensures { notes_in result.now ≡ notes_of self.now }
     {
         match self {
             Did::More(own) | Did::Return(own) => own,

@@ -2,7 +2,7 @@ ghost use Rattle.std.specs.Prelude.{◌≡◌, ◌≢◌, ◌+◌, ◌<◌, ◌�
 ghost use Rattle.esc_base.specs.declared.kind.Kind.{Kind};
 ghost use Rattle.esc_base.specs.Range.{InRange};
 ghost use Rattle.esc_base.specs.Flash.{Told};
-ghost use Rattle.interrupt_machine.specs.Did.{notes_of};
+ghost use Rattle.interrupt_machine.specs.Did.{notes_in, notes_of};
 ghost use Rattle.interrupt_machine.specs.Open.{innermost, is_open, due_now, highest, next_entry, is_idle};
 ghost use Rattle.interrupt_machine.specs.Response.{Moment, Passed, Responds};
 ghost use Rattle.timer_regs.specs.Bank.{Bank};
@@ -42,17 +42,6 @@ impl<F: Firmware> Model for Machine<F> {
     ghost invariant = { λ m. (k : Kind) → is_open m.stack k ≡ true → 0 < F.left m.firmware k };
 }
 
-/// The kinds, the highest first.
-const BY_PRIORITY: [Kind; 7] = [
-    Kind::Comm,
-    Kind::Pwm,
-    Kind::Cmp,
-    Kind::Cap,
-    Kind::Tick,
-    Kind::Uart,
-    Kind::Main,
-];
-
 impl<F: Firmware> Machine<F> {
     /// The firmware with no handler open.
     pub fn new(firmware: F, nest: Nest) -> Machine<F>
@@ -84,25 +73,32 @@ impl<F: Firmware> Machine<F> {
         self.stack.depth()
     }
 
-    /// The highest due kind.
+    /// The highest due kind. A run asks this millions of times, so each kind has a line of its own and no loop goes over them.
     fn due(&self, regs: &Regs) -> Option<Kind>
         ensures { result ≡ highest (due_now (F.waits self.now.firmware) regs.now) }
     {
-        for kind in BY_PRIORITY {
-            if self.is_due(kind, regs) {
-                return Some(kind);
-            }
+        if regs.is_due(Kind::Comm) {
+            return Some(Kind::Comm);
+        }
+        if regs.is_due(Kind::Pwm) {
+            return Some(Kind::Pwm);
+        }
+        if regs.is_due(Kind::Cmp) {
+            return Some(Kind::Cmp);
+        }
+        if regs.is_due(Kind::Cap) {
+            return Some(Kind::Cap);
+        }
+        if regs.is_due(Kind::Tick) {
+            return Some(Kind::Tick);
+        }
+        if regs.is_due(Kind::Uart) {
+            return Some(Kind::Uart);
+        }
+        if self.firmware.waiting() {
+            return Some(Kind::Main);
         }
         None
-    }
-
-    fn is_due(&self, kind: Kind, regs: &Regs) -> bool
-        ensures { result ≡ due_now (F.waits self.now.firmware) regs.now kind }
-    {
-        match kind {
-            Kind::Main => self.firmware.waiting(),
-            _ => regs.is_due(kind),
-        }
     }
 
     /// Whether no handler is open and no kind is due.
@@ -274,10 +270,15 @@ fn note_own(notes: &mut Notes, kind: Kind, did: &Did, regs: &Regs)
 
 fn append(notes: &mut Notes, own: &Own)
     requires room { length notes.old.items ≤ 1 }
-    ensures items { notes.new.items ≡ notes.old.items ++ own.now.items }
-    ensures len { length notes.new.items ≤ length notes.old.items + 3 }
+    ensures items { notes.new.items ≡ notes.old.items ++ notes_in own.now }
+    ensures len { length notes.new.items ≤ length notes.old.items + 2 }
 {
-    for note in own.as_slice() {
-        notes.push(*note);
+    match own {
+        Own::None => {}
+        Own::One(note) => notes.push(*note),
+        Own::Two(first, second) => {
+            notes.push(*first);
+            notes.push(*second);
+        }
     }
 }

@@ -3,7 +3,7 @@ ghost use Rattle.std.specs.Prelude.{◌≡◌, ◌<◌, ◌≤◌, ◌+◌, ◌�
 use esc_base::{Note, Tick};
 use std::marker::Model;
 
-/// The notes of one step, at most six: a gate change, three of the handler's own, a return. A run makes millions of steps and
+/// The notes of one step, at most six; with a gate change, two of its own and a return it has four. A run makes millions of steps and
 /// keeps one such list, so unlike a list of the library's it leaves its unused places as they are.
 #[derive(Drop)]
 pub struct Notes {

@@ -2,8 +2,7 @@ ghost use Rattle.std.specs.Prelude.{◌≡◌, ◌≤◌, ℕ, true, slice_index
 ghost use Rattle.esc_base.specs.Numbers.{kind_number};
 ghost use Rattle.interrupt_machine.specs.Turn.{IsHeld};
 
-use crate::{Did, Firmware, Machine, Nest, Notes};
-use arrayvec::ArrayVec;
+use crate::{Did, Firmware, Machine, Nest, Notes, Own};
 use esc_base::{FlashDev, Kind, MemFlash, Note, Tick};
 use std::process::Abort;
 use std::test::Fail;
@@ -44,20 +43,18 @@ impl Firmware for Script {
         self.left[at] -= 1;
         if self.left[at] == 0 {
             regs.write(Reg::Mask, 0);
-            let mut own = ArrayVec::new();
-            own.push(Note::Armed { t: regs.now() });
-            return Did::Return(own);
+            return Did::Return(Own::One(Note::Armed { t: regs.now() }));
         }
         if kind == Kind::Tick && !regs.masked() {
             regs.read(Reg::TickState);
-            return Did::More(ArrayVec::new());
+            return Did::More(Own::None);
         }
         if !regs.masked() {
             self.hold = if kind == Kind::Main { 3 } else { 1 };
         }
         self.hold -= 1;
         regs.write(Reg::Mask, if self.hold == 0 { 0 } else { 1 });
-        Did::More(ArrayVec::new())
+        Did::More(Own::None)
     }
 
     fn waiting(&self) -> bool {
