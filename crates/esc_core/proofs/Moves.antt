@@ -3,6 +3,8 @@ use Rattle.std.proofs.Common.{◌≡◌, ◌≢◌, ◌<◌, ◌+◌, ◌-◌, �
 use Rattle.std.proofs.lemmas.Bool.Decides.{nat_tests}
 use Rattle.esc_base.specs.declared.gate.Leg.{Leg}
 use Rattle.esc_base.specs.declared.kind.Kind.{Kind}
+use Rattle.esc_base.specs.declared.signal.Mode.{Mode}
+use Rattle.esc_base.specs.declared.signal.Mode.TheVariants.{D300Inv, D600Inv}
 use Rattle.esc_base.specs.declared.kind.Kind.TheVariants as kind
 use Rattle.esc_base.specs.declared.note.Note.{Note}
 use Rattle.timer_regs.specs.Bank.{Bank}
@@ -44,7 +46,7 @@ use Rattle.esc_core.specs.Brain.{Brain}
 use Rattle.input_detect.specs.Judge.{judged}
 use Rattle.settings_block.specs.Settings.{servo_of}
 use Rattle.esc_core.specs.Stepped.{Stepped, goes_on}
-use Rattle.esc_core.specs.Cap.{after_edges, after_copy, opens, takes, next_edge, judge_step, cap_step}
+use Rattle.esc_core.specs.Cap.{after_edges, after_copy, after_good, opens, takes, next_edge, judge_step, cap_step}
 use Rattle.esc_core.specs.Tick.{ticked, asked, drive_after, number_in, marks_in, off_step, tick_step}
 use Rattle.esc_core.specs.Pwm.{chopped, pwm_step}
 use Rattle.esc_core.specs.Cmp.{ready_step, judged_step, blank_step, filter_step, look_step, may_filter, ack_step, cmp_step}
@@ -76,9 +78,19 @@ opens_moves left c b l = record {
   hold = refl;
 }
 
-judge_moves : (j : Judgement) (c : Brain) (b : Bank) → PlainMoves kind.Cap 3 c b (judge_step j c b)
+good_less : (m : Mode) → cap_left (after_good m) < 5
+good_less D300Inv = lit< tt
+good_less D600Inv = lit< tt
+good_less m = lit< tt
+
+good_more : (m : Mode) → 0 < cap_left (after_good m)
+good_more D300Inv = lit< tt
+good_more D600Inv = lit< tt
+good_more m = lit< tt
+
+judge_moves : (j : Judgement) (c : Brain) (b : Bank) → PlainMoves kind.Cap 5 c b (judge_step j c b)
 judge_moves (Good frame) c b = record {
-  moves = record { less = lit< tt; more = λ e. lit< tt; shut = λ e. cc; others = elim [ kind.Cap ↦ λ ne. absurd (ne refl) | j ↦ λ ne. (refl, refl) ] };
+  moves = record { less = good_less c.window; more = λ e. good_more c.window; shut = λ e. cc; others = elim [ kind.Cap ↦ λ ne. absurd (ne refl) | j ↦ λ ne. (refl, refl) ] };
   masked = refl;
   hold = refl;
 }
@@ -106,11 +118,11 @@ edges_more : (v : Bool) (n : ℕ) → 0 < cap_left (if v then cap.Back else cap.
 edges_more true n = lit< tt
 edges_more false n = omega arith
 
-copy_less_at : (v : Bool) (rest : ℕ) → nat_le rest 1 ≡ v → cap_left (if v then cap.Judge else cap.Copy (rest - 1)) < rest + 4
+copy_less_at : (v : Bool) (rest : ℕ) → nat_le rest 1 ≡ v → cap_left (if v then cap.Judge else cap.Copy (rest - 1)) < rest + 6
 copy_less_at true rest e = omega arith
 copy_less_at false rest e = let l : 1 < rest = grind (arith, nat_tests) in omega arith
 
-copy_less : (rest : ℕ) → cap_left (after_copy rest) < rest + 4
+copy_less : (rest : ℕ) → cap_left (after_copy rest) < rest + 6
 copy_less rest = copy_less_at (nat_le rest 1) rest refl
 
 copy_more : (v : Bool) (rest : ℕ) → 0 < cap_left (if v then cap.Judge else cap.Copy (rest - 1))
@@ -118,7 +130,7 @@ copy_more true rest = lit< tt
 copy_more false rest = omega arith
 
 copy_moves : (v : Bool) (rest : ℕ) (c : Brain) (b : Bank)
-    → PlainMoves kind.Cap (rest + 4) c b (record {
+    → PlainMoves kind.Cap (rest + 6) c b (record {
       core = if v then record c { burst = c.burst ++ next_edge c b ∷ []; cap_at = after_copy rest } else record c { cap_at = cap.Back };
       access = Reads (reg.CapEdge (length c.burst));
       notes = [];
@@ -165,6 +177,16 @@ cap_moves cap.Start c b l = either_moves c.paused c b
 cap_moves (cap.Copy rest) c b l = copy_moves (takes c.burst (next_edge c b)) rest c b
 cap_moves cap.Judge c b l = judge_moves (judged c.window c.burst c.orders.settings.input (servo_of c.orders.settings)) c b
 cap_moves cap.Open c b l = opens_moves 2 c b (lit< tt)
+cap_moves cap.Period c b l = record {
+  moves = record { less = lit< tt; more = λ e. lit< tt; shut = λ e. cc; others = elim [ kind.Cap ↦ λ ne. absurd (ne refl) | j ↦ λ ne. (refl, refl) ] };
+  masked = refl;
+  hold = refl;
+}
+cap_moves (cap.Reply period) c b l = record {
+  moves = record { less = lit< tt; more = λ e. lit< tt; shut = λ e. cc; others = elim [ kind.Cap ↦ λ ne. absurd (ne refl) | j ↦ λ ne. (refl, refl) ] };
+  masked = refl;
+  hold = refl;
+}
 cap_moves (cap.Pause at) c b l = record {
   moves = record { less = lit< tt; more = λ e. lit< tt; shut = λ e. cc; others = elim [ kind.Cap ↦ λ ne. absurd (ne refl) | j ↦ λ ne. (refl, refl) ] };
   masked = refl;

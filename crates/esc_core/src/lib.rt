@@ -14,6 +14,9 @@ mod firmware;
 mod orders;
 mod own;
 mod pwm;
+mod reply;
+#[cfg(test)]
+mod reply_tests;
 mod state;
 #[cfg(test)]
 mod tests;
