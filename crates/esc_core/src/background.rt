@@ -16,7 +16,8 @@ use timer_regs::Regs;
 impl Core {
     /// MAIN decides in this step what it does, since commands may act between its entry and this step.
     pub(crate) fn main_step<D: FlashDev>(&mut self, regs: &Regs, dev: &mut D) -> Did
-        ensures made { IsMade (λ answers. main_step answers self.old.main_at self.old regs.now) (main_asked self.old.main_at self.old.orders) regs.now (D.told dev.old) result self.new regs.now (D.told dev.new) }
+        ensures made { IsMade (λ answers. main_step answers self.old.main_at self.old regs.now) (main_asked self.old.main_at self.old.orders)
+            regs.now (D.told dev.old) result self.new regs.now (D.told dev.new) }
         ensures in_range { All InRange (notes_of result) }
     {
         match self.main_at {
@@ -37,7 +38,8 @@ impl Core {
 
     /// Saves the settings as they stand now. Where the flash fails, those in memory stay as they are.
     fn save_settings<D: FlashDev>(&mut self, regs: &Regs, dev: &mut D) -> Did
-        ensures made { IsMade (λ answers. saving_step (took_first answers) self.old regs.now) (λ answers. Saves (block_of self.old.orders.settings) ∷ []) regs.now (D.told dev.old) result self.new regs.now (D.told dev.new) }
+        ensures made { IsMade (λ answers. saving_step (took_first answers) self.old regs.now) (λ answers. Saves (block_of self.old.orders.settings) ∷ [])
+            regs.now (D.told dev.old) result self.new regs.now (D.told dev.new) }
         ensures in_range { All InRange (notes_of result) }
     {
         self.orders.save_asked = false;

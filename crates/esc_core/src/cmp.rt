@@ -96,7 +96,8 @@ impl Core {
     fn judge_filter(&mut self, regs: &mut Regs) -> Did
         requires count { regs.old.accesses < 2 ^ 63 }
         requires over { is_over self.old.drive.crossing.phase regs.old.time ≡ true }
-        ensures step { IsStepped regs.old (judged_step (is_clean self.old.drive.crossing regs.old.comp regs.old.comp_changed) self.old regs.old) result self.new regs.new }
+        ensures step { IsStepped regs.old (judged_step (is_clean self.old.drive.crossing regs.old.comp regs.old.comp_changed) self.old regs.old)
+            result self.new regs.new }
         ensures in_range { All InRange (notes_of result) }
     {
         let t = regs.now();

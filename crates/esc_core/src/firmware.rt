@@ -66,7 +66,8 @@ impl Core {
 
     fn kind_step<D: FlashDev>(&mut self, kind: Kind, regs: &mut Regs, dev: &mut D) -> Did
         requires count { regs.old.accesses < 2 ^ 63 }
-        ensures made { IsMade (λ answers. kind_step kind answers self.old regs.old) (kind_asked kind self.old) regs.old (D.told dev.old) result self.new regs.new (D.told dev.new) }
+        ensures made { IsMade (λ answers. kind_step kind answers self.old regs.old) (kind_asked kind self.old)
+            regs.old (D.told dev.old) result self.new regs.new (D.told dev.new) }
         ensures in_range { All InRange (notes_of result) }
     {
         match kind {
@@ -99,7 +100,8 @@ impl Core {
 
     fn core_step<D: FlashDev>(&mut self, kind: Kind, regs: &mut Regs, dev: &mut D) -> Did
         requires count { regs.old.accesses < 2 ^ 63 }
-        ensures made { IsMade (λ answers. core_step kind answers self.old regs.old) (core_asked kind self.old regs.old) regs.old (D.told dev.old) result self.new regs.new (D.told dev.new) }
+        ensures made { IsMade (λ answers. core_step kind answers self.old regs.old) (core_asked kind self.old regs.old)
+            regs.old (D.told dev.old) result self.new regs.new (D.told dev.new) }
         ensures in_range { All InRange (notes_of result) }
     {
         if self.is_stray(kind, regs) {

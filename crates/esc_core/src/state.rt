@@ -146,7 +146,22 @@ impl Model for Core {
 
     ghost Value = { Brain };
 
-    ghost view = { λ c. record { cap_at = c.cap_at; tick_at = c.tick_at; main_at = c.main_at; uart_at = c.uart_at; cmp_at = c.cmp_at; pwm_at = c.pwm_at; comm_at = c.comm_at; hold = c.hold; window = c.window; burst = c.burst; paused = c.paused; control = c.control; orders = c.orders; drive = c.drive } };
+    ghost view = { λ c. record {
+      cap_at = c.cap_at;
+      tick_at = c.tick_at;
+      main_at = c.main_at;
+      uart_at = c.uart_at;
+      cmp_at = c.cmp_at;
+      pwm_at = c.pwm_at;
+      comm_at = c.comm_at;
+      hold = c.hold;
+      window = c.window;
+      burst = c.burst;
+      paused = c.paused;
+      control = c.control;
+      orders = c.orders;
+      drive = c.drive;
+    } };
 
     ghost invariant = { λ c. c.hold ≤ 8 };
 }
