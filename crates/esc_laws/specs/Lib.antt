@@ -2,6 +2,7 @@
 pub mod Place
 pub mod Rested
 pub mod Windowed
+pub mod Replied
 pub mod HeardWhole
 pub mod RestOpens
 pub mod Driven
