@@ -43,9 +43,11 @@ use Rattle.esc_core.specs.Background.{main_step, main_asked}
 abbrev pub cap_left : CapAt → ℕ
 cap_left cap.Shut = 0
 cap_left cap.Start = 40
-cap_left (cap.Copy rest) = rest + 4
-cap_left cap.Judge = 3
+cap_left (cap.Copy rest) = rest + 6
+cap_left cap.Judge = 5
 cap_left cap.Open = 2
+cap_left cap.Period = 4
+cap_left (cap.Reply period) = 3
 cap_left (cap.Pause at) = 2
 cap_left cap.Back = 1
 

@@ -2,6 +2,7 @@ pub mod Orders
 pub mod Drive
 pub mod Brain
 pub mod Stepped
+pub mod Reply
 pub mod Cap
 pub mod Tick
 pub mod Pwm

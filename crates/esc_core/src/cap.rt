@@ -6,12 +6,14 @@ ghost use Rattle.interrupt_machine.specs.Did.{notes_of};
 ghost use Rattle.edge_capture.specs.Edges.{last_at};
 ghost use Rattle.input_detect.specs.Judge.{IsJudged};
 ghost use Rattle.esc_core.specs.Stepped.{IsStepped};
-ghost use Rattle.esc_core.specs.Cap.{cap_step, judge_step, opens, edge_of, takes, after_copy};
+ghost use Rattle.esc_core.specs.Cap.{cap_step, judge_step, period_step, reply_step, opens, edge_of, takes, after_copy, after_good};
 
 use crate::own::{no_note, note_and, one_note};
+use crate::reply::{period_us, reply_end, reply_start};
 use crate::{CapAt, Core};
 use edge_capture::{Burst, Edge};
-use esc_base::{Frame, Note, Tick};
+use esc_base::{Frame, Mode, Note, Tick};
+use gcr_reply::reply_bits;
 use input_detect::{Judgement, judge};
 use interrupt_machine::Did;
 use settings_block::servo_of;
@@ -37,6 +39,8 @@ impl Core {
             CapAt::Copy(rest) => self.copy_edge(rest, regs),
             CapAt::Judge => self.judge_burst(regs),
             CapAt::Open => self.open_window(regs),
+            CapAt::Period => self.read_period(regs),
+            CapAt::Reply(period) => self.load_reply(period, regs),
             CapAt::Pause(at) => {
                 regs.write(Reg::CapAt, at);
                 self.paused = true;
@@ -136,7 +140,7 @@ impl Core {
         ensures in_range { All InRange (notes_of result) }
     {
         let act = self.control.frame(frame.value);
-        self.cap_at = CapAt::Open;
+        self.cap_at = after_good(self.window);
         let good = Note::Good {
             t,
             v: frame.value,
@@ -148,6 +152,40 @@ impl Core {
         self.orders.obey(act);
         let command = Note::Command { t, c: act.number() };
         Did::More(note_and(good, Some(command)))
+    }
+
+    /// The electrical period is one register, which COMM writes whole, so it is never a sum that is being changed.
+    fn read_period(&mut self, regs: &mut Regs) -> Did
+        requires count { regs.old.accesses < 2 ^ 63 }
+        ensures step { IsStepped regs.old (period_step self.old regs.old) result self.new regs.new }
+        ensures in_range { All InRange (notes_of result) }
+    {
+        let p = period_us(regs.read(Reg::Period));
+        self.cap_at = CapAt::Reply(p);
+        Did::More(one_note(Note::Period { t: regs.now(), p }))
+    }
+
+    fn load_reply(&mut self, period: Option<u32>, regs: &mut Regs) -> Did
+        requires count { regs.old.accesses < 2 ^ 63 }
+        ensures step { IsStepped regs.old (reply_step period self.old regs.old) result self.new regs.new }
+        ensures in_range { All InRange (notes_of result) }
+    {
+        let b = reply_bits(period);
+        regs.write(Reg::Reply, b);
+        let t = regs.now();
+        let s = reply_start(&self.burst, t);
+        self.cap_at = CapAt::Pause(reply_end(self.window, s));
+        Did::More(one_note(Note::Reply { t, s, b }))
+    }
+}
+
+/// A good frame of an inverted mode is answered; after any other the next window opens at once.
+fn after_good(window: Mode) -> CapAt
+    ensures { result ≡ after_good window }
+{
+    match window {
+        Mode::D300Inv | Mode::D600Inv => CapAt::Period,
+        _ => CapAt::Open,
     }
 }
 

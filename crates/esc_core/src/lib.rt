@@ -14,6 +14,7 @@ mod firmware;
 mod orders;
 mod own;
 mod pwm;
+mod reply;
 mod state;
 #[cfg(test)]
 mod tests;

@@ -18,6 +18,10 @@ pub enum CapAt {
     Judge,
     /// Opens the next window.
     Open,
+    /// Reads the electrical period, for the reply to an inverted frame.
+    Period,
+    /// Loads the reply that tells this period, in microseconds.
+    Reply(Option<u32>),
     /// Sets the window timer for this tick.
     Pause(u32),
     Back,
