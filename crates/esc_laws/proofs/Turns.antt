@@ -62,6 +62,7 @@ stood loaded nest cost trace next c b stack log l = record {
   said = record {
     in_time = l.marks.in_time;
     windowed = l.marks.windowed;
+    replied = l.marks.replied;
     dead_safe = l.marks.dead_safe;
     driven = l.marks.driven;
     commutated = l.marks.commutated;

@@ -25,6 +25,7 @@ pub mod DutyKept
 pub mod Tied
 pub mod DriveTied
 pub mod CrossTied
+pub mod PeriodTied
 pub mod World
 pub mod Rooms
 pub mod ChopStalls
