@@ -10,7 +10,6 @@ use Rattle.zero_cross.specs.declared.phase.Phase.TheVariants as phase
 use Rattle.zero_cross.specs.Kept.{after_changed, is_expected, is_clean, until}
 use Rattle.esc_core.specs.declared.state.CmpAt.{CmpAt}
 use Rattle.esc_core.specs.declared.state.CmpAt.TheVariants as cmp
-use Rattle.esc_core.specs.declared.drive.Drive.{Drive}
 use Rattle.esc_core.specs.Brain.{Brain}
 use Rattle.esc_core.specs.Drive.{in_phase, crossed, due_at, arms}
 use Rattle.esc_core.specs.Stepped.{Stepped, goes_on, goes_back}
