@@ -279,6 +279,20 @@ good_tied (Some act) frame trace c b p w m e i same =
     (record { verdict = ap (λ (n : ℕ). n + 1) i.no_verdict; taken = i.taken; running = i.hears.running; no_timer = i.hears.no_timer })
     (record { closed_at = h.closed_at; closes = h.closes; past = h.past; copied = h.copied; core_mode = h.core_mode })
 
+-- the window timer isn't set by then
+none_at_open : (s : Signal) (edges : List Edge) (since : ℕ) (timer : Option ℕ) → TimerTied s cap.Open edges since timer
+none_at_open Silent edges since timer = tt
+none_at_open s edges since timer = tt
+
+none_at_period : (s : Signal) (edges : List Edge) (since : ℕ) (timer : Option ℕ) → TimerTied s cap.Period edges since timer
+none_at_period Silent edges since timer = tt
+none_at_period s edges since timer = tt
+
+pub framed_timer : (x : Mode) (s : Signal) (edges : List Edge) (since t : ℕ) (timer : Option ℕ) → TimerTied (framed s t) (after_good x) edges since timer
+framed_timer mode.D300Inv s edges since t timer = none_at_period (framed s t) edges since timer
+framed_timer mode.D600Inv s edges since t timer = none_at_period (framed s t) edges since timer
+framed_timer x s edges since t timer = none_at_open (framed s t) edges since timer
+
 -- it reads the period
 pub period_tied : (trace : List Event) (c : Brain) (b : Bank) (p : Place) (w m : ℕ) → p.signal ≡ Owes w m → IsJudged (cap_view trace c b p)
     → HasBurst (cap_view trace c b p) w m → TiedAfter trace b p (period_step c b)
@@ -395,6 +409,7 @@ back_timer (Tells w m period) v edges since t timer i le k = absurd i
 back_timer (Rests from latest r) v edges since t timer i le k = absurd i
 
 pub timer_off : (s : Signal) (edges : List Edge) (since : ℕ) (timer : Option ℕ) → TimerTied s cap.Start edges since timer
+timer_off Silent edges since timer = tt
 timer_off s edges since timer = tt
 
 pub timer_grows : (s : Signal) (at : CapAt) (edges : List Edge) (x : Edge) (since : ℕ) (timer : Option ℕ) → All (λ e. e.t.0 ≤ x.t.0) edges
