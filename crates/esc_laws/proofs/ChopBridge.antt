@@ -29,6 +29,9 @@ use Rattle.esc_laws.specs.Chopped.{Chopped}
 use Rattle.esc_laws.proofs.ChopPushes.{view-push, view-none}
 use Rattle.esc_laws.proofs.ChopBack.{times_fit, is_chopped}
 use Rattle.esc_laws.proofs.ChopHigh.{same_after, waits_after as pwm_waits_after}
+use Rattle.std.proofs.lemmas.Bool.{and_from}
+use Rattle.interrupt_machine.proofs.OpenKinds.{kind_of-number, innermost_first}
+use Rattle.gate_driver.proofs.Bits.{off_is}
 
 -- ---- stacks
 
@@ -61,15 +64,6 @@ all_below (h ∷ stack) k j a i e le =
 above_stack : (stack : List Kind) (k : Kind) → All (λ x. kind_number x < kind_number k) stack → IsStack stack → IsStack (k ∷ stack)
 above_stack [] k a s = (tt, s)
 above_stack (h ∷ stack) k a s = (All-head (λ x. kind_number x < kind_number k) h stack a, s)
-
-same_of : (k : Kind) → kind_of (kind_number k) ≡ k
-same_of kind.Main = refl
-same_of kind.Uart = refl
-same_of kind.Tick = refl
-same_of kind.Cap = refl
-same_of kind.Cmp = refl
-same_of kind.Pwm = refl
-same_of kind.Comm = refl
 
 -- ---- the open kinds after a step
 
@@ -160,7 +154,7 @@ open_out loaded cost trace before e f b = record {
       ap (λ (x : List Note). (place x).stack) (journal-push loaded before e ∙ ap (λ (x : List Note). journal loaded before ++ x) (f.entry q))
       ∙ ap (λ (p : Place). p.stack) (place-push (journal loaded before) (note.Enter (record { 0 = e.tick }) (kind_number e.kind)))
       ∙ enter_stack (place (journal loaded before)) e.tick (kind_number e.kind)
-      ∙ ap (λ (k : Kind). k ∷ open_in loaded before) (same_of e.kind);
+      ∙ ap (λ (k : Kind). k ∷ open_in loaded before) (kind_of-number e.kind);
   own = λ q.
       ap (λ (x : List Note). (place x).stack) (journal-push loaded before e ∙ ap (λ (x : List Note). journal loaded before ++ x) b.notes_are)
       ∙ own_stack (journal loaded before) b.front b.back e.tick (kind_number e.kind) (front_entries b.front _ (subst (λ (x : List Note). All
@@ -176,25 +170,18 @@ entry_leaves : (loaded : Loaded) (cost : ℕ) (trace : List Event) (before : Lis
 entry_leaves loaded cost trace before e f q = ap leaves (f.entry q)
 
 -- the innermost open kind is on top
-top_is : (stack : List Kind) (k : Kind) → innermost stack ≡ Some k → stack ≡ k ∷ outer_ones stack
-top_is [] k e = absurd (cc)
-top_is (h ∷ outer) k e = ap (λ (x : Kind). x ∷ outer) (some_same h k e)
-  where
-    some_same : (x y : Kind) → Some x ≡ Some y → x ≡ y
-    some_same x y e = cc
-
 -- whether a kind is open after a step
 open_self : (stack stack' : List Kind) (k : Kind) (back : Bool) → IsStack stack → innermost stack ≡ Some k
     → stack' ≡ (if back then outer_ones stack else stack) → is_open stack' k ≡ not back
-open_self stack stack' k true s top e = ap (λ (x : List Kind). is_open x k) e ∙ none_twice (outer_ones stack) k (subst IsStack (top_is stack k top) s)
-open_self stack stack' k false s top e = ap (λ (x : List Kind). is_open x k) (e ∙ top_is stack k top) ∙ rw (same (kind_number k)) refl
+open_self stack stack' k true s top e = ap (λ (x : List Kind). is_open x k) e ∙ none_twice (outer_ones stack) k (subst IsStack (innermost_first stack k top) s)
+open_self stack stack' k false s top e = ap (λ (x : List Kind). is_open x k) (e ∙ innermost_first stack k top) ∙ rw (same (kind_number k)) refl
   where
     same : (x : ℕ) → (x == x) ≡ true
     same x = grind (arith, nat_tests)
 
 open_other : (stack stack' : List Kind) (k j : Kind) (back : Bool) → (kind_number k == kind_number j) ≡ false → innermost stack ≡ Some k
     → stack' ≡ (if back then outer_ones stack else stack) → is_open stack' j ≡ is_open stack j
-open_other stack stack' k j true ne top e = ap (λ (x : List Kind). is_open x j) e ∙ sym (ap (λ (x : List Kind). is_open x j) (top_is stack k top) ∙ rw ne refl)
+open_other stack stack' k j true ne top e = ap (λ (x : List Kind). is_open x j) e ∙ sym (ap (λ (x : List Kind). is_open x j) (innermost_first stack k top) ∙ rw ne refl)
 open_other stack stack' k j false ne top e = ap (λ (x : List Kind). is_open x j) e
 
 open_entered : (stack stack' : List Kind) (k j : Kind) → (kind_number k == kind_number j) ≡ false → stack' ≡ k ∷ stack → is_open stack' j ≡ is_open stack j
@@ -210,7 +197,7 @@ turn_is : (loaded : Loaded) (cost : ℕ) (trace : List Event) (before : List Tur
     → StepIn loaded cost trace before k en t ns → IsTurn (view before) (by_kind k en (leaves ns))
 turn_is loaded cost trace before kind.Comm true t ns i = i.link.comm ∙ all_below (open_in loaded before) 6 6 (i.bridge.above refl) kind.Comm refl (omega arith)
 turn_is loaded cost trace before kind.Comm false t ns i = record {
-  is_open = i.link.comm ∙ ap (λ (x : List Kind). is_open x kind.Comm) (top_is (open_in loaded before) kind.Comm (i.fits.own refl));
+  is_open = i.link.comm ∙ ap (λ (x : List Kind). is_open x kind.Comm) (innermost_first (open_in loaded before) kind.Comm (i.fits.own refl));
   few = let a : own_steps kind.Comm (before ++ record { tick = t; kind = kind.Comm; enters = false; notes = ns } ∷ []) ≤ 24 = i.fits.few refl in
       let b : own_steps kind.Comm (before ++ record { tick = t; kind = kind.Comm; enters = false; notes = ns } ∷ []) ≡ own_steps kind.Comm before + 1 =
       own-push kind.Comm before (record { tick = t; kind = kind.Comm; enters = false; notes = ns }) in
@@ -221,7 +208,7 @@ turn_is loaded cost trace before kind.Pwm true t ns i = record {
   pwm = i.link.pwm ∙ all_below (open_in loaded before) 5 5 (i.bridge.above refl) kind.Pwm refl (omega arith);
 }
 turn_is loaded cost trace before kind.Pwm false t ns i =
-    let top = top_is (open_in loaded before) kind.Pwm (i.fits.own refl) in
+    let top = innermost_first (open_in loaded before) kind.Pwm (i.fits.own refl) in
     let a : own_steps kind.Pwm (before ++ record { tick = t; kind = kind.Pwm; enters = false; notes = ns } ∷ []) ≤ 12 = i.fits.few refl in
     let b : own_steps kind.Pwm (before ++ record { tick = t; kind = kind.Pwm; enters = false; notes = ns } ∷ []) ≡ own_steps kind.Pwm before + 1 =
     own-push kind.Pwm before (record { tick = t; kind = kind.Pwm; enters = false; notes = ns }) in
@@ -238,7 +225,7 @@ turn_is loaded cost trace before k true t ns i = record {
   pwm = i.link.pwm ∙ all_below (open_in loaded before) (kind_number k) 5 (i.bridge.above refl) kind.Pwm refl (omega arith);
 }
 turn_is loaded cost trace before k false t ns i =
-    let top = top_is (open_in loaded before) k (i.fits.own refl) in
+    let top = innermost_first (open_in loaded before) k (i.fits.own refl) in
     record {
       comm = i.link.comm ∙ ap (λ (x : List Kind). is_open x kind.Comm) top
           ∙ none_above (outer_ones (open_in loaded before)) k kind.Comm (subst IsStack top i.link.sorted) (omega arith);
@@ -340,23 +327,19 @@ wait_mono true true false b' a' c' w w' f g e le = rw (f refl, g refl, e) le
 wait_mono true false c b' a' c' w w' f g e le = omega arith
 wait_mono false a c b' a' c' w w' f g e le = omega arith
 
-both_true : (a b : Bool) → a ≡ true → b ≡ true → (a && b) ≡ true
-both_true true b e f = f
-both_true false b e f = e
-
 pwm_is_called : (loaded : Loaded) (trace : List Event) (log : List Turned) (t : ℕ) → CallsSeen loaded trace log
     → (view log).pwm ≡ is_open (open_in loaded log) kind.Pwm → pwm_called (view log) t ≡ true → is_called loaded trace log t kind.Pwm ≡ true
 pwm_is_called loaded trace log t c e q =
     let p = and_parts _ (not (view log).pwm) q in
     let r : not (is_open (open_in loaded log) kind.Pwm) ≡ true = ap not (sym e) ∙ p.1 in
-    both_true (sees loaded trace (journal loaded log) t kind.Pwm) (not (is_open (open_in loaded log) kind.Pwm)) (c.pwm t q) r
+    and_from (sees loaded trace (journal loaded log) t kind.Pwm) (not (is_open (open_in loaded log) kind.Pwm)) (c.pwm t q) r
 
 comm_is_called : (loaded : Loaded) (trace : List Event) (log : List Turned) (t : ℕ) → CallsSeen loaded trace log
     → (view log).comm ≡ is_open (open_in loaded log) kind.Comm → comm_called (view log) t ≡ true → is_called loaded trace log t kind.Comm ≡ true
 comm_is_called loaded trace log t c e q =
     let p = and_parts _ (not (view log).comm) q in
     let r : not (is_open (open_in loaded log) kind.Comm) ≡ true = ap not (sym e) ∙ p.1 in
-    both_true (sees loaded trace (journal loaded log) t kind.Comm) (not (is_open (open_in loaded log) kind.Comm)) (c.comm t q) r
+    and_from (sees loaded trace (journal loaded log) t kind.Comm) (not (is_open (open_in loaded log) kind.Comm)) (c.comm t q) r
 
 pwm_counts : (k : Kind) (en l : Bool) → counts Full kind.Pwm (Some k) ≡ not (is_comm (by_kind k en l))
 pwm_counts kind.Comm true l = refl
@@ -404,17 +387,13 @@ link_next loaded cost trace before e d i =
 
 -- ---- no tick is passed over
 
-not_true : (v : Bool) → (v ≡ true → ⊥) → v ≡ false
-not_true true f = absurd (f refl)
-not_true false f = refl
-
 rests_idle : (loaded : Loaded) (trace : List Event) (log : List Turned) (t : ℕ) → Linked loaded trace log → CallsSeen loaded trace log
     → open_in loaded log ≡ [] → ((k : Kind) → sees loaded trace (journal loaded log) t k ≡ false) → Rests (view log) t
 rests_idle loaded trace log t l c e none = record {
   comm = l.comm ∙ ap (λ (x : List Kind). is_open x kind.Comm) e;
   pwm = l.pwm ∙ ap (λ (x : List Kind). is_open x kind.Pwm) e;
-  pwm_called = not_true _ (λ q. clash _ (c.pwm t q) (none kind.Pwm));
-  comm_called = not_true _ (λ q. clash _ (c.comm t q) (none kind.Comm));
+  pwm_called = off_is _ (λ q. clash _ (c.pwm t q) (none kind.Pwm));
+  comm_called = off_is _ (λ q. clash _ (c.comm t q) (none kind.Comm));
 }
   where
     clash : (v : Bool) → v ≡ true → v ≡ false → ⊥

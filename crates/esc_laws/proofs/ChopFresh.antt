@@ -1,5 +1,5 @@
 -- PWM's write of what it read since an edge stands within 48 steps of it.
-use Rattle.std.proofs.Common.{◌≡◌, ◌≤◌, ◌<◌, ◌+◌, ◌-◌, ◌*◌, ◌%◌, ◌⊎◌, inl, inr, ℕ, Bool, true, false, not, ◌||◌, ◌==◌, if◌then◌else◌, nat_lt, refl, sym, ◌∙◌, subst, arith}
+use Rattle.std.proofs.Common.{◌≡◌, ◌≤◌, ◌<◌, ◌+◌, ◌-◌, ◌*◌, ◌%◌, ◌⊎◌, inl, inr, ℕ, Bool, true, false, not, ◌==◌, if◌then◌else◌, refl, sym, ◌∙◌, subst, arith}
 use Rattle.std.proofs.lemmas.Nat.{mul-le}
 use Rattle.std.proofs.lemmas.Bool.{cases_lt}
 use Rattle.std.proofs.lemmas.Bool.Decides.{nat_tests}
@@ -13,6 +13,8 @@ use Rattle.esc_laws.specs.ChopLaws.{IsTurn, Chops, may_chop, is_quiet}
 use Rattle.esc_laws.specs.ChopPlaced.{Placed}
 use Rattle.esc_laws.specs.ChopFresh.{IsEdge, Stale, Early, Fresh}
 use Rattle.esc_laws.proofs.ChopPlaced.{Same, own_cases, OwnFirst, OwnWrites, OwnOther}
+use Rattle.std.proofs.lemmas.Bool.{lt-ltb}
+use Rattle.std.proofs.lemmas.Bool.{or_right}
 
 -- ---- an edge calls PWM
 
@@ -20,22 +22,15 @@ edge_counts : (m d edge u t : ℕ) → d ≤ 1900 → IsEdge m d edge → u < ed
 edge_counts m d edge u t small (inl e) l le = omega arith
 edge_counts m d edge u t small (inr e) l le = omega arith
 
-lt_is : (m n : ℕ) → m < n → nat_lt m n ≡ true
-lt_is m n l = grind (arith, nat_tests)
-
-or_true : (f : Bool) → (f || true) ≡ true
-or_true true = refl
-or_true false = refl
-
 pub edge_calls : (m d edge t : ℕ) (v : View) → 0 < d → d ≤ 1900 → IsEdge m d edge → v.demand ≡ d → v.pwm ≡ false → v.entered < edge → edge ≤ t
     → pwm_called v t ≡ true
 edge_calls m d edge t v some small is e shut l le =
     let g : edges v.demand v.entered < edges v.demand t = rw e (edge_counts m d edge v.entered t small is l le) in
-    rw (lt_is 0 v.demand (omega arith), lt_is (edges v.demand v.entered) (edges v.demand t) g, shut, or_true v.asked) refl
+    rw (lt-ltb 0 v.demand (omega arith), lt-ltb (edges v.demand v.entered) (edges v.demand t) g, shut, or_right v.asked true refl) refl
 
 -- ---- one step less
 
-less : (cost n m : ℕ) → n + 1 ≤ m → n * cost + cost ≤ m * cost
+pub less : (cost n m : ℕ) → n + 1 ≤ m → n * cost + cost ≤ m * cost
 less cost n m le = let l : (n + 1) * cost ≤ m * cost = mul-le (n + 1) cost m cost le (omega arith) in omega (arith, l)
 
 some_left : (cost n : ℕ) → 1 ≤ n → cost ≤ n * cost

@@ -12,11 +12,12 @@ use Rattle.esc_laws.specs.ChopPeriods.{NoComm}
 use Rattle.esc_laws.specs.ChopCalm.{Calm}
 use Rattle.esc_laws.specs.ChopPlaced.{Placed}
 use Rattle.esc_laws.specs.ChopFresh.{IsEdge, Stale, Early, Fresh}
-use Rattle.esc_laws.proofs.ChopCalm.{free_same, free_low, free_later}
+use Rattle.esc_laws.proofs.ChopCalm.{free_same, free_low}
 use Rattle.esc_laws.proofs.ChopPushes.{view-push, AllBy, FirstAbove, made-split, by-push}
 use Rattle.esc_laws.proofs.Pushes.{after-push}
 use Rattle.esc_laws.proofs.ChopPlaced.{Same, next_same, next_placed}
 use Rattle.esc_laws.proofs.ChopFresh.{Within, left_some, not_resting, fresh_on, stale_on, early_stale}
+use Rattle.esc_laws.proofs.Stalls.{free_later}
 
 -- all steps stand below the next one
 abbrev pub Past : ℕ → List Event → List Turned → Type 0

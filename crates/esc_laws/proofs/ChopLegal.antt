@@ -1,7 +1,6 @@
 -- From the laws of a log to `Chopped` of its journal.
-use Rattle.std.proofs.Common.{◌≡◌, ◌≢◌, ◌≤◌, ◌<◌, ◌+◌, ℕ, Bool, true, false, not, ◌==◌, if◌then◌else◌, nat_le, List, [], ◌∷◌, ◌++◌, reverse, refl, sym, ◌∙◌, ap, subst, arith, append-nil, All}
+use Rattle.std.proofs.Common.{◌≡◌, ◌≢◌, ◌≤◌, ◌<◌, ◌+◌, ℕ, Bool, true, false, not, ◌==◌, if◌then◌else◌, List, [], ◌∷◌, ◌++◌, reverse, refl, sym, ◌∙◌, ap, subst, arith, append-nil, All}
 use Rattle.std.specs.List.{fold}
-use Rattle.std.proofs.lemmas.List.{reverse-append}
 use Rattle.std.proofs.lemmas.List.Elements.{All-head, All-tail}
 use Rattle.std.proofs.lemmas.Bool.{and_parts, or_right}
 use Rattle.std.proofs.lemmas.Bool.Decides.{nat_tests}
@@ -40,6 +39,9 @@ use Rattle.esc_laws.proofs.ChopPushes.{view-push, view-none}
 use Rattle.esc_laws.proofs.ChopHigh.{same_after}
 use Rattle.esc_laws.proofs.ChopBack.{Says, says_all, says_note, says_moved}
 use Rattle.esc_laws.proofs.ChopBridge.{chopped_of}
+use Rattle.std.proofs.lemmas.Bool.{leb-true}
+use Rattle.arming.proofs.InOrder.{reverse-push}
+use Rattle.std.proofs.lemmas.Bool.{not-true}
 
 -- ---- PWM's own steps
 
@@ -109,13 +111,6 @@ pwm_steps kind.Cmp en l r e = absurd (cc)
 some_sector : (s : ℕ) → not (s == 0) ≡ true → 0 < s
 some_sector s e = grind (arith, nat_tests)
 
-not_on : (v : Bool) → not v ≡ true → v ≡ false
-not_on true e = cc
-not_on false e = refl
-
-is_le : (m n : ℕ) → nat_le m n ≡ true → m ≤ n
-is_le m n e = grind (arith, nat_tests)
-
 none_on : (x : Leg) → is_on 0 x ≡ false
 none_on leg.A = refl
 none_on leg.B = refl
@@ -141,9 +136,9 @@ drive_fits loaded before e a c =
                 let y = and_parts (not (is_on (view before).lo (high_of (view before).sector))) _ x.1 in
                 rw (s'.hi, s.sector)
                 (w.on (rw (← a.sampled_is, ← s.demand) d) (rw (← s.sector) (some_sector (view before).sector x.0))
-                (rw (← s.lo, ← s.sector) (not_on (is_on (view before).lo (high_of (view before).sector)) y.0))
+                (rw (← s.lo, ← s.sector) (not-true (is_on (view before).lo (high_of (view before).sector)) y.0))
                 (rw (← s.sector, ← s.lo_free (high_of (view before).sector))
-                (is_le (at_leg (view before).lo_free (high_of (view before).sector)) e.tick y.1)));
+                (leb-true (at_leg (view before).lo_free (high_of (view before).sector)) e.tick y.1)));
             off = λ d x. rw (s'.hi, w.off (rw (← a.sampled_is, ← s.demand) d)) (none_on x);
           };
     }
@@ -211,16 +206,13 @@ note_paired v back (note.Step t x) s d w r p = record {
 note_paired v back (note.Control t n m d') s d w r p = record { fits = tt; after = record { high = p.high; low = p.low; sector = p.sector } }
 note_paired v back n s d w r p = record { fits = tt; after = p }
 
-reverse_push : (xs : List Note) (x : Note) → reverse (xs ++ x ∷ []) ≡ x ∷ reverse xs
-reverse_push xs x = reverse-append xs (x ∷ [])
-
 paired : (v : View) (before notes : List Note) → Says v (reverse before) → Each DrivenRule before notes → Each WaitsRule before notes → All InRange notes
     → InPair v → Paired v notes
 paired v before [] s d w r p = record { each = tt; after = p }
 paired v before (n ∷ notes) s d w r p =
     let one = note_paired v (reverse before) n s d.0 w.0 (All-head InRange n notes r) p in
     let s' : Says (noted v n) (reverse (before ++ n ∷ [])) =
-    subst (λ (l : List Note). Says (noted v n) l) (sym (reverse_push before n)) (says_note v (reverse before) n s) in
+    subst (λ (l : List Note). Says (noted v n) l) (sym (reverse-push before n)) (says_note v (reverse before) n s) in
     let more = paired (noted v n) (before ++ n ∷ []) notes s' d.1 w.1 (All-tail InRange n notes r) one.after in
     record { each = (one.fits, one.after, more.each); after = more.after }
 

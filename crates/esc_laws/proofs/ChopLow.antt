@@ -1,8 +1,7 @@
 -- In an undisturbed period the low switch is on from 48 steps after its start on.
-use Rattle.std.proofs.Common.{◌≡◌, ◌≤◌, ◌<◌, ◌+◌, ◌-◌, ◌*◌, ◌⊎◌, inl, inr, ℕ, Bool, true, false, nat_lt, nat_le, List, [], ◌∷◌, ◌++◌, refl, sym, ◌∙◌, subst, arith, append-nil}
+use Rattle.std.proofs.Common.{◌≡◌, ◌≤◌, ◌<◌, ◌+◌, ◌-◌, ◌*◌, ◌⊎◌, inl, inr, ℕ, Bool, true, false, List, [], ◌∷◌, ◌++◌, refl, sym, ◌∙◌, subst, arith, append-nil}
 use Rattle.std.proofs.lemmas.Nat.{mul-le}
 use Rattle.std.proofs.lemmas.Bool.{cases_lt}
-use Rattle.std.proofs.lemmas.Bool.Decides.{nat_tests}
 use Rattle.esc_base.specs.Legs.{is_on}
 use Rattle.commutation.specs.Sectors.{low_of}
 use Rattle.esc_base.specs.declared.event.Event.{Event}
@@ -15,22 +14,19 @@ use Rattle.esc_laws.specs.ChopLaws.{IsTurn, StepFits, DriveFits, is_comm_step}
 use Rattle.esc_laws.specs.ChopPeriods.{NoComm}
 use Rattle.esc_laws.specs.ChopCalm.{Calm}
 use Rattle.esc_laws.specs.ChopPlaced.{Placed}
-use Rattle.esc_laws.proofs.ChopCalm.{free_same, free_low, free_later}
+use Rattle.esc_laws.proofs.ChopCalm.{free_same, free_low}
 use Rattle.esc_laws.proofs.ChopPushes.{view-push, AllBy, FirstAbove, by-push}
 use Rattle.esc_laws.proofs.Pushes.{after-push}
 use Rattle.esc_laws.proofs.ChopHigh.{Past, past_on, at_split, first_above, split_on, same_after, placed_on}
-
-lt_is : (m n : ℕ) → m < n → nat_lt m n ≡ true
-lt_is m n l = grind (arith, nat_tests)
-
-le_is : (m n : ℕ) → m ≤ n → nat_le m n ≡ true
-le_is m n l = grind (arith, nat_tests)
+use Rattle.std.proofs.lemmas.Bool.{le-leb, lt-ltb}
+use Rattle.esc_laws.proofs.ChopFresh.{less}
+use Rattle.esc_laws.proofs.Stalls.{free_later}
 
 -- an off low switch calls COMM
 low_calls : (d s f t : ℕ) (v : View) → 0 < d → v.demand ≡ d → v.sector ≡ s → is_on v.lo (low_of s) ≡ false → at_leg v.hi_free (low_of s) ≤ f → f ≤ t
     → v.comm ≡ false → comm_called v t ≡ true
 low_calls d s f t v some e h off free le shut =
-    rw (lt_is 0 v.demand (omega arith), h, off, le_is (at_leg v.hi_free (low_of s)) t (omega arith), shut) refl
+    rw (lt-ltb 0 v.demand (omega arith), h, off, le-leb (at_leg v.hi_free (low_of s)) t (omega arith), shut) refl
 
 both_called : (b a : Bool) (w : ℕ) → b ≡ true → a ≡ true → wait_next b a true w ≡ w + 1
 both_called b a w e f = rw (e, f) refl
@@ -39,9 +35,6 @@ waits_after : (before : List Turned) (e : Turned) → (view (before ++ e ∷ [])
     (comm_called (view (before ++ e ∷ [])) e.tick) true (view before).comm_waits
 waits_after before e = subst (λ (w : View). w.comm_waits ≡ wait_next (comm_called (view before) e.tick) (comm_called w e.tick) true (view before).comm_waits)
     (sym (view-push before e)) refl
-
-less : (cost n m : ℕ) → n + 1 ≤ m → n * cost + cost ≤ m * cost
-less cost n m le = let l : (n + 1) * cost ≤ m * cost = mul-le (n + 1) cost m cost le (omega arith) in omega (arith, l)
 
 -- what a step leaves of COMM where it isn't its entry
 record CommLeft (v w : View) : Type 0 where

@@ -1,5 +1,5 @@
 -- From the pair sentence: in a period without a Q the off times that matter stay.
-use Rattle.std.proofs.Common.{◌≡◌, ◌≤◌, ◌<◌, ◌+◌, ◌-◌, ◌⊎◌, inl, inr, ℕ, zero, suc, Bool, true, false, ◌==◌, nat_le, List, [], ◌∷◌, ◌++◌, refl, sym, ◌∙◌, ap, subst, arith}
+use Rattle.std.proofs.Common.{◌≡◌, ◌≤◌, ◌<◌, ◌+◌, ◌-◌, ◌⊎◌, inl, inr, ℕ, true, false, ◌==◌, List, [], ◌∷◌, ◌++◌, refl, sym, ◌∙◌, ap, subst, arith}
 use Rattle.std.specs.List.{fold}
 use Rattle.std.proofs.lemmas.Bool.{cases_lt}
 use Rattle.std.proofs.lemmas.Bool.Decides.{nat_tests}
@@ -12,46 +12,28 @@ use Rattle.esc_base.specs.declared.gate.Leg.TheVariants as leg
 use Rattle.esc_base.specs.declared.event.Event.{Event}
 use Rattle.esc_laws.specs.Steps.{Turned, after, EachStep}
 use Rattle.esc_laws.specs.ChopView.{By, View, start, view, moved, noted, by_of}
-use Rattle.gate_driver.specs.Gated.{at_leg, offs, free_after, Legs}
+use Rattle.gate_driver.specs.Gated.{at_leg}
 use Rattle.esc_laws.specs.ChopView.By.{CommEnters, CommSteps, PwmEnters, PwmSteps, Lower}
 use Rattle.esc_laws.specs.ChopLog.{at_tick}
 use Rattle.esc_laws.specs.ChopLaws.{may_chop, StepFits}
 use Rattle.esc_laws.specs.ChopPairs.{InPair, NoteFits, EachNote, PairFits, AllAt, TimesFit, NoSteps, NoStep}
-use Rattle.esc_laws.proofs.ChopCalm.{free_later}
+use Rattle.esc_laws.proofs.Stalls.{free_later}
 use Rattle.esc_laws.proofs.ChopPushes.{view-push, AllBy, FirstAbove, by-push}
 use Rattle.esc_laws.proofs.Pushes.{after-push}
 use Rattle.esc_laws.proofs.ChopHigh.{Past, past_on, at_split, split_on}
+use Rattle.std.proofs.lemmas.Bool.{le-leb}
+use Rattle.gate_driver.proofs.OffTimes.{off_stays}
+use Rattle.gate_driver.proofs.Bits.{off_is}
+use Rattle.esc_laws.proofs.DriveFacts.{apart_legs}
 
 -- ---- legs and off times
 
-apart : (s : ℕ) → 0 < s → s ≤ 6 → high_of s ≡ low_of s → ⊥
-apart zero p l e = absurd (omega arith)
-apart (suc zero) p l e = cc
-apart (suc (suc zero)) p l e = cc
-apart (suc (suc (suc zero))) p l e = cc
-apart (suc (suc (suc (suc zero)))) p l e = cc
-apart (suc (suc (suc (suc (suc zero))))) p l e = cc
-apart (suc (suc (suc (suc (suc (suc zero)))))) p l e = cc
-apart (suc (suc (suc (suc (suc (suc (suc n))))))) p l e = absurd (omega arith)
-
-at_offs : (x : Leg) (f : Legs) (w w' t : ℕ) → at_leg (offs f w w' t) x ≡ free_after w w' x t (at_leg f x)
-at_offs leg.A f w w' t = refl
-at_offs leg.B f w w' t = refl
-at_offs leg.C f w w' t = refl
-
 -- what is off doesn't go off
-off_stays : (x : Leg) (f : Legs) (w w' t : ℕ) → is_on w x ≡ false → at_leg (offs f w w' t) x ≡ at_leg f x
-off_stays x f w w' t e = at_offs x f w w' t ∙ rw e refl
-
-not_on : (v : Bool) → (v ≡ true → ⊥) → v ≡ false
-not_on true f = absurd (f refl)
-not_on false f = refl
-
 high_off : (v : View) → InPair v → is_on v.hi (low_of v.sector) ≡ false
-high_off v p = not_on (is_on v.hi (low_of v.sector)) (λ e. let h = p.high (low_of v.sector) e in apart v.sector h.1 p.sector h.0)
+high_off v p = off_is (is_on v.hi (low_of v.sector)) (λ e. let h = p.high (low_of v.sector) e in apart_legs v.sector h.1 p.sector h.0)
 
 pub low_off : (v : View) → InPair v → is_on v.lo (high_of v.sector) ≡ false
-low_off v p = not_on (is_on v.lo (high_of v.sector)) (λ e. let h = p.low (high_of v.sector) e in apart v.sector h.1 p.sector (sym h.0))
+low_off v p = off_is (is_on v.lo (high_of v.sector)) (λ e. let h = p.low (high_of v.sector) e in apart_legs v.sector h.1 p.sector (sym h.0))
 
 -- ---- up to p - 1
 
@@ -66,7 +48,7 @@ static_note last v (note.Step t s) f p a u l st = record { pair = p; free = λ q
 static_note last v (note.Gate t hi lo) f p a u l st = record {
   pair = p;
   free =
-      λ q. rw (off_stays (low_of v.sector) v.hi_free v.hi hi t.0 (high_off v st.pair)) (st.free q);
+      λ q. rw (off_stays v.hi_free v.hi hi t.0 (low_of v.sector) (high_off v st.pair)) (st.free q);
   stepped = st.stepped;
 }
 static_note last v (note.Control t number marks d) f p a u l st = record { pair = p; free = st.free; stepped = st.stepped }
@@ -117,8 +99,8 @@ held_note p s v (note.Step t x) o i h = absurd o
 held_note p s v (note.Gate t hi lo) o i h = record {
   pair = i;
   sector = h.sector;
-  low_free = rw (off_stays (low_of s) v.hi_free v.hi hi t.0 (subst (λ (z : ℕ). is_on v.hi (low_of z) ≡ false) h.sector (high_off v h.pair))) h.low_free;
-  high_free = rw (off_stays (high_of s) v.lo_free v.lo lo t.0 (subst (λ (z : ℕ). is_on v.lo (high_of z) ≡ false) h.sector (low_off v h.pair))) h.high_free;
+  low_free = rw (off_stays v.hi_free v.hi hi t.0 (low_of s) (subst (λ (z : ℕ). is_on v.hi (low_of z) ≡ false) h.sector (high_off v h.pair))) h.low_free;
+  high_free = rw (off_stays v.lo_free v.lo lo t.0 (high_of s) (subst (λ (z : ℕ). is_on v.lo (high_of z) ≡ false) h.sector (low_off v h.pair))) h.high_free;
 }
 held_note p s v (note.Control t number marks d) o i h = record { pair = i; sector = h.sector; low_free = h.low_free; high_free = h.high_free }
 held_note p s v n o i h = h
@@ -234,11 +216,8 @@ start_static u = record {
 pos_is : (n : ℕ) → 0 < n → (n == 0) ≡ false
 pos_is n l = grind (arith, nat_tests)
 
-le_is : (m n : ℕ) → m ≤ n → nat_le m n ≡ true
-le_is m n l = grind (arith, nat_tests)
-
 pub may_turn : (p s t : ℕ) (v : View) → 0 < s → p ≤ t → Held p s v → may_chop v t ≡ true
 may_turn p s t v some le h =
     let off : is_on v.lo (high_of s) ≡ false = subst (λ (z : ℕ). is_on v.lo (high_of z) ≡ false) h.sector (low_off v h.pair) in
     let f = h.high_free in
-    rw (h.sector, pos_is s some, off, le_is (at_leg v.lo_free (high_of s)) t (omega arith)) refl
+    rw (h.sector, pos_is s some, off, le-leb (at_leg v.lo_free (high_of s)) t (omega arith)) refl
