@@ -1,5 +1,5 @@
 -- Later events change nothing of what the notes said of replies: a frame's window has closed before its reply.
-use Rattle.std.proofs.Common.{◌≡◌, ◌≤◌, ℕ, Bool, true, false, ◌==◌, if◌then◌else◌, List, [], ◌∷◌, ◌++◌, Some, Option, sym, ap, subst, arith, All}
+use Rattle.std.proofs.Common.{◌≡◌, ◌≤◌, ℕ, Bool, true, false, ◌==◌, if◌then◌else◌, List, [], ◌∷◌, ◌++◌, reverse, Some, Option, refl, sym, ap, subst, arith, All}
 use Rattle.std.proofs.lemmas.List.Elements.{All-head, All-tail}
 use Rattle.esc_base.specs.declared.kind.Kind.{Kind}
 use Rattle.esc_base.specs.declared.event.Event.{Event}
@@ -106,7 +106,7 @@ replied_from loaded trace e before [] past h w r = tt
 replied_from loaded trace e before (n ∷ notes) past h w r = (
   rule_grows trace e before n h r.0,
   replied_from loaded trace e (before ++ n ∷ []) notes (All-tail (λ x. time_of x ≤ tick_of e) n notes past)
-      (rw (place-push before n) (settled_next loaded trace (tick_of e) (place before) _ n (All-head (λ x. time_of x ≤ tick_of e) n notes past) w.0 h))
+      (rw (place-push before n) (settled_next loaded trace (tick_of e) (place before) (reverse before) n (All-head (λ x. time_of x ≤ tick_of e) n notes past) w.0 h))
       w.1 r.1,
 )
 

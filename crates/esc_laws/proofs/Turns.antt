@@ -157,6 +157,7 @@ logged_after loaded nest cost trace c c' b b' stack stack' log e some at l g =
       marks = record {
         in_time = out.said.in_time;
         windowed = out.said.windowed;
+        replied = out.said.replied;
         dead_safe = out.said.dead_safe;
         driven = out.said.driven;
         commutated = out.said.commutated;
