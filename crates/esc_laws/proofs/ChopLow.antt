@@ -6,11 +6,11 @@ use Rattle.esc_base.specs.Legs.{is_on}
 use Rattle.commutation.specs.Sectors.{low_of}
 use Rattle.esc_base.specs.declared.event.Event.{Event}
 use Rattle.esc_laws.specs.Steps.{free, Turned, after, EachStep}
-use Rattle.esc_laws.specs.ChopView.{By, View, view, moved, by_of, comm_called, wait_next}
+use Rattle.esc_laws.specs.ChopView.{By, View, view, moved_by, by_of, comm_called, wait_next}
 use Rattle.gate_driver.specs.Gated.{at_leg}
 use Rattle.esc_laws.specs.ChopView.By.{CommEnters, CommSteps, PwmEnters, PwmSteps, Lower}
 use Rattle.esc_laws.specs.ChopLog.{at_tick, NonePassed}
-use Rattle.esc_laws.specs.ChopLaws.{IsTurn, StepFits, DriveFits, is_comm_step}
+use Rattle.esc_laws.specs.ChopLaws.{IsTurn, StepMade, DriveFits, is_comm_step}
 use Rattle.esc_laws.specs.ChopPeriods.{NoComm}
 use Rattle.esc_laws.specs.ChopCalm.{Calm}
 use Rattle.esc_laws.specs.ChopPlaced.{Placed}
@@ -41,7 +41,7 @@ record CommLeft (v w : View) : Type 0 where
   shut : v.comm ≡ false → w.comm ≡ false
   more : v.comm ≡ true → (w.comm_own ≡ v.comm_own + 1) × (v.comm_own + 1 ≤ 24)
 
-moved_comm : (v : View) (t : ℕ) (by : By) → IsTurn v by → (by ≡ CommEnters → ⊥) → CommLeft v (moved v by t)
+moved_comm : (v : View) (t : ℕ) (by : By) → IsTurn v by → (by ≡ CommEnters → ⊥) → CommLeft v (moved_by v by t)
 moved_comm v t CommEnters turn none = absurd (none refl)
 moved_comm v t (CommSteps l) turn none = record { shut = λ e. absurd (let o = turn.is_open in cc); more = λ e. (refl, turn.few) }
 moved_comm v t PwmEnters turn none = record { shut = λ e. e; more = λ e. absurd (let o = turn.comm in cc) }
@@ -170,7 +170,7 @@ module _ (cost : ℕ) (trace : List Event) (log : List Turned) (m d s until t : 
     pub inside_after : Inside e.tick (before ++ e ∷ [])
     pub none_enters : by_of e ≡ CommEnters → ⊥
 
-  steps : (before rest : List Turned) (e : Turned) → log ≡ before ++ (e ∷ rest) → EachStep (StepFits cost trace) before (e ∷ rest)
+  steps : (before rest : List Turned) (e : Turned) → log ≡ before ++ (e ∷ rest) → EachStep (StepMade cost trace) before (e ∷ rest)
       → NoComm (2000 * m) before e → Past cost trace before → 2000 * m ≤ e.tick → e.tick ≤ t → Steps before e
   steps before rest e h f none past ge le =
       let later = f.0.later in
@@ -193,7 +193,7 @@ module _ (cost : ℕ) (trace : List Event) (log : List Turned) (m d s until t : 
       record { shut = λ a. same.comm ∙ c.shut a; more = λ a. (let b = c.more a in (same.comm_own ∙ b.0, b.1)) }
 
   -- a step before p + 39 cost
-  early_step : (before rest : List Turned) (e : Turned) → log ≡ before ++ (e ∷ rest) → EachStep (StepFits cost trace) before (e ∷ rest)
+  early_step : (before rest : List Turned) (e : Turned) → log ≡ before ++ (e ∷ rest) → EachStep (StepMade cost trace) before (e ∷ rest)
       → NoComm (2000 * m) before e → Past cost trace before → e.tick < 2000 * m + 39 * cost → e.tick ≤ t → Before before → Before (before ++ e ∷ [])
   early_step before rest e h f none past lt le b = elim (cases_lt e.tick (2000 * m)) [
     | inl l ↦ (
@@ -251,7 +251,7 @@ module _ (cost : ℕ) (trace : List Event) (log : List Turned) (m d s until t : 
       goes tick l (inr a) q z x = omega arith
 
   -- a step from p + 39 cost on
-  late_step : (before rest : List Turned) (e : Turned) → log ≡ before ++ (e ∷ rest) → EachStep (StepFits cost trace) before (e ∷ rest) → DriveFits before e
+  late_step : (before rest : List Turned) (e : Turned) → log ≡ before ++ (e ∷ rest) → EachStep (StepMade cost trace) before (e ∷ rest) → DriveFits before e
       → NoComm (2000 * m) before e → Past cost trace before → 2000 * m + 39 * cost ≤ e.tick → e.tick ≤ t
       → Placed cost (after cost trace before) (view before) → Waiting before ⊎ Done before → Waiting (before ++ e ∷ []) ⊎ Done (before ++ e ∷ [])
   late_step before rest e h f g none past ge le p st =
@@ -294,7 +294,7 @@ module _ (cost : ℕ) (trace : List Event) (log : List Turned) (m d s until t : 
           goes tick x r r' l (inl a) q z = omega arith
           goes tick x r r' l (inr a) q z = omega arith
 
-  pub low_run : (before rest : List Turned) → log ≡ before ++ rest → EachStep (StepFits cost trace) before rest → EachStep DriveFits before rest
+  pub low_run : (before rest : List Turned) → log ≡ before ++ rest → EachStep (StepMade cost trace) before rest → EachStep DriveFits before rest
       → EachStep (NoComm (2000 * m)) before rest → NonePassed cost trace log until → Past cost trace before
       → Placed cost (after cost trace before) (view before) → AllBy t before → State before → is_on (at_tick t log).lo (low_of s) ≡ true
   low_run before [] h f g none made past p all st =

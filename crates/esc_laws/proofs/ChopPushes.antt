@@ -2,15 +2,15 @@
 use Rattle.std.proofs.Common.{◌≡◌, ◌≤◌, ◌<◌, ℕ, List, [], ◌∷◌, ◌++◌, refl, ap, arith}
 use Rattle.std.proofs.lemmas.List.Sums.{fold_push}
 use Rattle.esc_laws.specs.Steps.{Turned}
-use Rattle.esc_laws.specs.ChopView.{start, view, view_next}
-use Rattle.esc_laws.specs.ChopLog.{made}
+use Rattle.esc_laws.specs.ChopView.{unmoved, view, view_next}
+use Rattle.esc_laws.specs.ChopLog.{steps_by}
 use Rattle.std.proofs.lemmas.Bool.{le-leb, lt-leb}
 
 pub view-push : (log : List Turned) (e : Turned) → view (log ++ e ∷ []) ≡ view_next (view log) e
 unfolding view
-view-push log e = fold_push view_next start log e
+view-push log e = fold_push view_next unmoved log e
 
-pub view-none : view [] ≡ start
+pub view-none : view [] ≡ unmoved
 unfolding view
 view-none = refl
 
@@ -24,7 +24,7 @@ abbrev pub FirstAbove : ℕ → List Turned → Type 0
 FirstAbove t [] = Unit {0}
 FirstAbove t (e ∷ log) = t < e.tick
 
-pub made-split : (t : ℕ) (before rest : List Turned) → AllBy t before → FirstAbove t rest → made t (before ++ rest) ≡ before
+pub made-split : (t : ℕ) (before rest : List Turned) → AllBy t before → FirstAbove t rest → steps_by t (before ++ rest) ≡ before
 made-split t [] [] b f = refl
 made-split t [] (e ∷ rest) b f = rw (lt-leb e.tick t f) refl
 made-split t (e ∷ before) rest b f = rw (le-leb e.tick t b.0) (ap (λ (l : List Turned). e ∷ l) (made-split t before rest b.1 f))

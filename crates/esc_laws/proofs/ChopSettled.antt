@@ -11,11 +11,11 @@ use Rattle.esc_base.specs.declared.note.Note.TheVariants as note
 use Rattle.esc_base.specs.declared.gate.Leg.TheVariants as leg
 use Rattle.esc_base.specs.declared.event.Event.{Event}
 use Rattle.esc_laws.specs.Steps.{Turned, after, EachStep}
-use Rattle.esc_laws.specs.ChopView.{By, View, start, view, moved, noted, by_of}
+use Rattle.esc_laws.specs.ChopView.{By, View, unmoved, view, moved_by, told_by, by_of}
 use Rattle.gate_driver.specs.Gated.{at_leg}
 use Rattle.esc_laws.specs.ChopView.By.{CommEnters, CommSteps, PwmEnters, PwmSteps, Lower}
 use Rattle.esc_laws.specs.ChopLog.{at_tick}
-use Rattle.esc_laws.specs.ChopLaws.{may_chop, StepFits}
+use Rattle.esc_laws.specs.ChopLaws.{may_chop, StepMade}
 use Rattle.esc_laws.specs.ChopPairs.{InPair, NoteFits, EachNote, PairFits, AllAt, TimesFit, NoSteps, NoStep}
 use Rattle.esc_laws.proofs.Stalls.{free_later}
 use Rattle.esc_laws.proofs.ChopPushes.{view-push, AllBy, FirstAbove, by-push}
@@ -42,8 +42,8 @@ pub record Static (last : ℕ) (v : View) : Type 0 where
   pub free : 0 < v.sector → at_leg v.hi_free (low_of v.sector) ≤ v.stepped + 40
   pub stepped : v.stepped ≤ last
 
-static_note : (last : ℕ) (v : View) (n : Note) → NoteFits v n → InPair (noted v n) → AllAt last (n ∷ []) → (u : ℕ) → last ≤ u → Static u v
-    → Static u (noted v n)
+static_note : (last : ℕ) (v : View) (n : Note) → NoteFits v n → InPair (told_by v n) → AllAt last (n ∷ []) → (u : ℕ) → last ≤ u → Static u v
+    → Static u (told_by v n)
 static_note last v (note.Step t s) f p a u l st = record { pair = p; free = λ q. f.0; stepped = let e = a.0 in omega arith }
 static_note last v (note.Gate t hi lo) f p a u l st = record {
   pair = p;
@@ -58,11 +58,11 @@ one_at : (t : ℕ) (n : Note) (notes : List Note) → AllAt t (n ∷ notes) → 
 one_at t (note.Step u s) notes a = ((a.0, tt), a.1)
 one_at t n notes a = (tt, a)
 
-static_notes : (t u : ℕ) (notes : List Note) (v : View) → t ≤ u → EachNote v notes → AllAt t notes → Static u v → Static u (fold noted v notes)
+static_notes : (t u : ℕ) (notes : List Note) (v : View) → t ≤ u → EachNote v notes → AllAt t notes → Static u v → Static u (fold told_by v notes)
 static_notes t u [] v l f a st = st
-static_notes t u (n ∷ notes) v l f a st = let o = one_at t n notes a in static_notes t u notes (noted v n) l f.2 o.1 (static_note t v n f.0 f.1 o.0 u l st)
+static_notes t u (n ∷ notes) v l f a st = let o = one_at t n notes a in static_notes t u notes (told_by v n) l f.2 o.1 (static_note t v n f.0 f.1 o.0 u l st)
 
-static_moved : (u t : ℕ) (v : View) (by : By) → Static u v → Static u (moved v by t)
+static_moved : (u t : ℕ) (v : View) (by : By) → Static u v → Static u (moved_by v by t)
 static_moved u t v CommEnters s = record { pair = record { high = s.pair.high; low = s.pair.low; sector = s.pair.sector }; free = s.free; stepped = s.stepped }
 static_moved u t v (CommSteps l) s = record {
   pair = record { high = s.pair.high; low = s.pair.low; sector = s.pair.sector };
@@ -82,7 +82,7 @@ static_moved u t v Lower s = s
 static_next : (u : ℕ) (before : List Turned) (e : Turned) → e.tick ≤ u → PairFits before e → TimesFit before e → Static u (view before)
     → Static u (view (before ++ e ∷ []))
 static_next u before e l f a s =
-    let r = static_notes e.tick u e.notes (moved (view before) (by_of e) e.tick) l f a (static_moved u e.tick (view before) (by_of e) s) in
+    let r = static_notes e.tick u e.notes (moved_by (view before) (by_of e) e.tick) l f a (static_moved u e.tick (view before) (by_of e) s) in
     subst (λ (w : View). Static u w) (sym (view-push before e)) (record
     { pair = record { high = r.pair.high; low = r.pair.low; sector = r.pair.sector }; free = r.free; stepped = r.stepped })
 
@@ -94,7 +94,7 @@ pub record Held (p s : ℕ) (v : View) : Type 0 where
   pub low_free : at_leg v.hi_free (low_of s) ≤ p + 39
   pub high_free : at_leg v.lo_free (high_of s) ≤ p
 
-held_note : (p s : ℕ) (v : View) (n : Note) → NoSteps (n ∷ []) → InPair (noted v n) → Held p s v → Held p s (noted v n)
+held_note : (p s : ℕ) (v : View) (n : Note) → NoSteps (n ∷ []) → InPair (told_by v n) → Held p s v → Held p s (told_by v n)
 held_note p s v (note.Step t x) o i h = absurd o
 held_note p s v (note.Gate t hi lo) o i h = record {
   pair = i;
@@ -109,11 +109,11 @@ no_steps_one : (n : Note) (notes : List Note) → NoSteps (n ∷ notes) → NoSt
 no_steps_one (note.Step t s) notes o = absurd o
 no_steps_one n notes o = (tt, o)
 
-held_notes : (p s : ℕ) (notes : List Note) (v : View) → NoSteps notes → EachNote v notes → Held p s v → Held p s (fold noted v notes)
+held_notes : (p s : ℕ) (notes : List Note) (v : View) → NoSteps notes → EachNote v notes → Held p s v → Held p s (fold told_by v notes)
 held_notes p s [] v o f h = h
-held_notes p s (n ∷ notes) v o f h = let q = no_steps_one n notes o in held_notes p s notes (noted v n) q.1 f.2 (held_note p s v n q.0 f.1 h)
+held_notes p s (n ∷ notes) v o f h = let q = no_steps_one n notes o in held_notes p s notes (told_by v n) q.1 f.2 (held_note p s v n q.0 f.1 h)
 
-held_moved : (p s t : ℕ) (v : View) (by : By) → Held p s v → Held p s (moved v by t)
+held_moved : (p s t : ℕ) (v : View) (by : By) → Held p s v → Held p s (moved_by v by t)
 held_moved p s t v CommEnters h = record {
   pair = record { high = h.pair.high; low = h.pair.low; sector = h.pair.sector };
   sector = h.sector;
@@ -146,7 +146,7 @@ held_moved p s t v Lower h = h
 
 held_next : (p s : ℕ) (before : List Turned) (e : Turned) → NoSteps e.notes → PairFits before e → Held p s (view before) → Held p s (view (before ++ e ∷ []))
 held_next p s before e o f h =
-    let r = held_notes p s e.notes (moved (view before) (by_of e) e.tick) o f (held_moved p s e.tick (view before) (by_of e) h) in
+    let r = held_notes p s e.notes (moved_by (view before) (by_of e) e.tick) o f (held_moved p s e.tick (view before) (by_of e) h) in
     subst (λ (w : View). Held p s w) (sym (view-push before e)) (record
     { pair = record { high = r.pair.high; low = r.pair.low; sector = r.pair.sector }; sector = r.sector; low_free = r.low_free; high_free = r.high_free })
 
@@ -169,7 +169,7 @@ module _ (cost : ℕ) (trace : List Event) (log : List Turned) (p s u : ℕ) (on
   abbrev pub Stage : List Turned → Type 0
   Stage before = (AllBy (p - 1) before × Static (p - 1) (view before)) ⊎ ((p ≤ after cost trace before) × Held p s (view before))
 
-  pub carried : (before rest : List Turned) → log ≡ before ++ rest → EachStep (StepFits cost trace) before rest → EachStep PairFits before rest
+  pub carried : (before rest : List Turned) → log ≡ before ++ rest → EachStep (StepMade cost trace) before rest → EachStep PairFits before rest
       → EachStep TimesFit before rest → EachStep (NoStep p) before rest → Past cost trace before → AllBy u before
       → Stage before → Held p s (at_tick u log)
   carried before [] h f g a n past all st = subst (λ (v : View). Held p s v) (sym (at_split u log before [] h all tt)) (ends st)
@@ -201,7 +201,7 @@ module _ (cost : ℕ) (trace : List Event) (log : List Turned) (p s u : ℕ) (on
           let ge : p ≤ e.tick = omega arith in
           inr (above ge, held_next p s before e (n.0 ge (omega arith)) g.0 q.1)
 
-pub start_static : (u : ℕ) → Static u start
+pub start_static : (u : ℕ) → Static u unmoved
 start_static u = record {
   pair = record { high = λ x e. absurd (none x e); low = λ x e. absurd (none x e); sector = omega arith };
   free = λ q. absurd (omega arith);

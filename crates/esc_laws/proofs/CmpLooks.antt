@@ -62,7 +62,8 @@ pub record IsCmp (w : World) (outer : List Kind) (place : CmpAt) : Type 0 where
 pub free_of : (w : World) (outer : List Kind) (place : CmpAt) → IsCmp w outer place → Free (cross_seen w)
 free_of w outer place i = free_at w i.comm_is i.unmasked i.past
 
-pub stands_at : (w : World) (outer : List Kind) (place : CmpAt) (p : Phase) → IsCmp w outer place → w.core.drive.crossing.phase ≡ p → Stands (cross_seen w) place p
+pub stands_at : (w : World) (outer : List Kind) (place : CmpAt) (p : Phase) → IsCmp w outer place → w.core.drive.crossing.phase ≡ p
+    → Stands (cross_seen w) place p
 stands_at w outer place p i e = stands (cross_seen w) place p i.place_is e (free_of w outer place i) (i.ties kind.Cmp)
 
 -- ---- the drive beside a step that doesn't commute
