@@ -61,6 +61,7 @@ pub mod Carried
 pub mod FlashSteps
 pub mod Refused
 pub mod RefusedCrossings
+pub mod RefusedReplies
 pub mod RefusedDrive
 pub mod UpTo
 pub mod RefusedChops

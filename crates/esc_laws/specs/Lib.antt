@@ -18,6 +18,7 @@ pub mod Saves
 -- what is shown of them
 pub mod Refused
 pub mod RefusedCrossings
+pub mod RefusedReplies
 pub mod RefusedChops
 pub mod Allowed
 pub mod DutyKept
