@@ -7,6 +7,8 @@ mod crossing_tests;
 mod drive_tests;
 mod options;
 mod pipe;
+#[cfg(test)]
+mod reply_tests;
 mod run;
 mod show;
 mod status;

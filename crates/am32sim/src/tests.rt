@@ -24,7 +24,7 @@ pub(crate) fn ran(
     let mut words = Words::new(alloc);
     words.push("run")?;
     let mut src = MemSource::new(alloc, trace.as_bytes(), piece.max(1), takes)?;
-    let mut out = MemSink::new(alloc, 16384, puts)?;
+    let mut out = MemSink::new(alloc, 65536, puts)?;
     let status = sim_main(&words, &mut src, &mut out, flash);
     Ok((status, String::from_utf8_lossy(alloc, out.given())?))
 }

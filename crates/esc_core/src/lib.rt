@@ -15,6 +15,8 @@ mod orders;
 mod own;
 mod pwm;
 mod reply;
+#[cfg(test)]
+mod reply_tests;
 mod state;
 #[cfg(test)]
 mod tests;

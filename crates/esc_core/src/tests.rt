@@ -65,16 +65,16 @@ fn a_control_tick(rt: HostRuntime) -> Result<(), Fail> {
     Ok(())
 }
 
-/// The line is high for so many ticks, from a tick on.
-fn pulse(rt: &impl Abort, regs: &mut Regs, at: u64, width: u64)
+/// The line has a level for so many ticks, from a tick on.
+pub(crate) fn pulse(rt: &impl Abort, regs: &mut Regs, level: bool, at: u64, width: u64)
     ensures mask { regs.new.masked ≡ regs.old.masked }
 {
     assert!(rt; at < 1000000 && width < 1000);
     assert!(rt; regs.now().0 <= at);
     regs.advance(Tick(at));
-    regs.edge(true);
+    regs.edge(level);
     regs.advance(Tick(at + width));
-    regs.edge(false);
+    regs.edge(!level);
 }
 
 /// The frame of value 1046 at tick 10000: each bit is 80 ticks, a zero is high for 30 of them and a one for 60.
@@ -89,7 +89,7 @@ fn a_first_frame(rt: HostRuntime) -> Result<(), Fail> {
     ];
     let mut at = 10000;
     for width in widths.as_slice() {
-        pulse(&rt, &mut regs, at, *width);
+        pulse(&rt, &mut regs, true, at, *width);
         assert!(rt; at < 100000);
         at += 80;
     }
