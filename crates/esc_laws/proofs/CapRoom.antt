@@ -105,7 +105,8 @@ copies false x outer w m left v g per sound e k on = cc
 
 -- ---- it opens a window, or sets the timer
 
-open_window : (x : World) (outer : List Kind) (s : Signal) → Ground x → PeriodTie x → (so_far x).signal ≡ s → OpensAt x.trace s (so_far x).cap_entered x.bank.time
+open_window : (x : World) (outer : List Kind) (s : Signal) → Ground x → PeriodTie x → (so_far x).signal ≡ s
+    → OpensAt x.trace s (so_far x).cap_entered x.bank.time
     → x.bank.timer ≡ None
     → ((so_far x).verdicts ≡ 1) ⊎ (((so_far x).verdicts ≡ 0) × ((so_far x).windows ≡ 0)) → (so_far x).stack ≡ kind.Cap ∷ outer
     → StepKeeps kind.Cap outer x (opens x.core x.bank)
@@ -306,7 +307,12 @@ good None x outer frame w m g per sound e k same answers on shut named st = reco
     comparator = g.comparator;
     small = g.small;
   };
-  tie = λ told. (good_tied None frame x.trace x.core x.bank (so_far x) w m e k same, sound, framed_timer x.core.window (so_far x).signal _ _ x.bank.time _, per);
+  tie = λ told. (
+    good_tied None frame x.trace x.core x.bank (so_far x) w m e k same,
+    sound,
+    framed_timer x.core.window (so_far x).signal _ _ x.bank.time _,
+    per,
+  );
   others = elim [ kind.Cap ↦ λ ne t. absurd (ne refl) | j ↦ λ ne t. t ];
   stack_is = on;
 }
@@ -343,7 +349,12 @@ good (Some act) x outer frame w m g per sound e k same answers on shut named st 
         comparator = g.comparator;
         small = g.small;
       };
-      tie = λ told. (good_tied (Some act) frame x.trace x.core x.bank (so_far x) w m e k same, sound, framed_timer x.core.window (so_far x).signal _ _ x.bank.time _, per);
+      tie = λ told. (
+        good_tied (Some act) frame x.trace x.core x.bank (so_far x) w m e k same,
+        sound,
+        framed_timer x.core.window (so_far x).signal _ _ x.bank.time _,
+        per,
+      );
       others = elim [
         | kind.Cap ↦ λ ne t. absurd (ne refl)
         | kind.Main ↦ λ ne t. still_asked x.core.main_at x.core.orders (Some act) (so_far x).saves t

@@ -27,7 +27,7 @@ use Rattle.esc_laws.specs.Saves.{forward_at}
 use Rattle.esc_laws.specs.Crossed.{expects_at}
 use Rattle.esc_laws.specs.Searched.{sight_at, calls_cmp}
 use Rattle.esc_laws.proofs.Comparator.{held_before}
-use Rattle.esc_laws.specs.Place.{Signal, Listens, Owes, Tells, Replies, Rests, place}
+use Rattle.esc_laws.specs.Place.{Signal, Listens, Rests, place}
 use Rattle.esc_laws.specs.Rested.{first_rested}
 use Rattle.esc_laws.specs.Windowed.{Answers, AnswersAt, OpensAt, WindowRule, Windowed}
 use Rattle.esc_laws.specs.Seen.{calls_cap, sees}

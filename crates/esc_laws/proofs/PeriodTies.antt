@@ -1,6 +1,6 @@
 -- The tie of the period register: what it tells a reply, and what becomes of it at a start, at a sector change, where COMM writes
 -- the period and where TICK ends the drive.
-use Rattle.std.proofs.Common.{◌≡◌, ◌≢◌, ◌<◌, ◌≤◌, ◌-◌, ◌/◌, ◌==◌, ◌⊎◌, inl, inr, ℕ, Bool, true, false, not, ◌&&◌, nat_lt, nat_le, if◌then◌else◌, List, [], ◌∷◌, length, take, slice_index, Option, Some, None, refl, sym, ◌∙◌, ap, arith}
+use Rattle.std.proofs.Common.{◌≡◌, ◌≢◌, ◌<◌, ◌≤◌, ◌-◌, ◌/◌, ◌==◌, ◌⊎◌, inl, inr, ℕ, Bool, true, false, not, ◌&&◌, nat_le, if◌then◌else◌, List, [], ◌∷◌, length, take, slice_index, Some, None, refl, sym, ◌∙◌, ap, arith}
 use Rattle.std.proofs.lemmas.Bool.{eq-eqb, ne_eqb, leb-true, le-leb}
 use Rattle.std.proofs.lemmas.List.{take-take}
 use Rattle.esc_base.specs.declared.note.Note.{Note}

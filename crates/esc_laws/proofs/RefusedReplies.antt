@@ -1,5 +1,5 @@
 -- The wrong journals break the laws of replies.
-use Rattle.std.proofs.Common.{◌≡◌, ◌<◌, ◌≤◌, ◌+◌, ℕ, true, false, List, [], ◌∷◌, ◌++◌, reverse, Option, Some, None, refl, sym, ◌∙◌, ap, subst, arith}
+use Rattle.std.proofs.Common.{◌≡◌, ◌≤◌, ◌+◌, ℕ, true, false, List, [], ◌∷◌, ◌++◌, reverse, Option, Some, None, refl, sym, ◌∙◌, ap, subst, arith}
 use Rattle.esc_base.specs.declared.kind.Kind.TheVariants as kind
 use Rattle.esc_base.specs.declared.event.Event.{Event}
 use Rattle.esc_base.specs.declared.note.Note.{Note}
@@ -17,7 +17,7 @@ use Rattle.esc_laws.specs.Replied.{reply_start, ReplyRuleAt, ReplyRule, Replied}
 use Rattle.esc_laws.specs.Seen.{sees}
 use Rattle.esc_laws.specs.Steps.{journal, open_in, free, after, StepFits}
 use Rattle.esc_laws.specs.World.{placed}
-use Rattle.esc_laws.specs.Refused.{enters, leaves, window, good, bad, found, ticks, turns, first_two, entry}
+use Rattle.esc_laws.specs.Refused.{enters, leaves, window, bad, found, ticks, turns, first_two, entry}
 use Rattle.esc_laws.specs.RefusedReplies.{tells, replies, none_bits, thousand_bits, listens, framed, told, replied, changes_at, six_turns, seven_turns, later_frame, reply_ends, RepliesRefuse, ReplyWindowsRefuse, SomeAreReplied}
 use Rattle.esc_laws.proofs.Rests.{first_more}
 use Rattle.esc_laws.proofs.Refused.{window_fits, nest_fits}

@@ -1,5 +1,5 @@
 -- Later events change nothing of what the notes said of replies: a frame's window has closed before its reply.
-use Rattle.std.proofs.Common.{◌≡◌, ◌≤◌, ℕ, Bool, true, false, ◌==◌, if◌then◌else◌, List, [], ◌∷◌, ◌++◌, reverse, Some, Option, refl, sym, ap, subst, arith, All}
+use Rattle.std.proofs.Common.{◌≡◌, ◌≤◌, ℕ, Bool, true, false, ◌==◌, if◌then◌else◌, List, [], ◌∷◌, ◌++◌, reverse, Some, Option, refl, sym, subst, arith, All}
 use Rattle.std.proofs.lemmas.List.Elements.{All-head, All-tail}
 use Rattle.esc_base.specs.declared.kind.Kind.{Kind}
 use Rattle.esc_base.specs.declared.event.Event.{Event}
@@ -12,7 +12,7 @@ use Rattle.edge_capture.specs.Burst.{close}
 use Rattle.edge_capture.proofs.Grows.{burst_grows}
 use Rattle.interrupt_machine.specs.Open.{kind_of}
 use Rattle.settings_block.specs.declared.stored.Loaded.{Loaded}
-use Rattle.esc_laws.specs.Place.{Signal, Silent, Listens, Judged, Owes, Tells, Replies, Rests, Place, is_answered, framed, told, replied, rested, place_entered, next, place}
+use Rattle.esc_laws.specs.Place.{Signal, Listens, Judged, Owes, Tells, Replies, Place, is_answered, framed, told, replied, rested, place_entered, next, place}
 use Rattle.esc_laws.specs.Windowed.{AnswersAt, WindowRuleAt, WindowRule, Windowed}
 use Rattle.esc_laws.specs.Replied.{RepliesAt, ReplyRule, Replied}
 use Rattle.esc_laws.proofs.Pushes.{place-push}
@@ -106,7 +106,8 @@ replied_from loaded trace e before [] past h w r = tt
 replied_from loaded trace e before (n ∷ notes) past h w r = (
   rule_grows trace e before n h r.0,
   replied_from loaded trace e (before ++ n ∷ []) notes (All-tail (λ x. time_of x ≤ tick_of e) n notes past)
-      (rw (place-push before n) (settled_next loaded trace (tick_of e) (place before) (reverse before) n (All-head (λ x. time_of x ≤ tick_of e) n notes past) w.0 h))
+      (rw (place-push before n)
+      (settled_next loaded trace (tick_of e) (place before) (reverse before) n (All-head (λ x. time_of x ≤ tick_of e) n notes past) w.0 h))
       w.1 r.1,
 )
 

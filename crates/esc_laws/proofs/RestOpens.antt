@@ -33,7 +33,8 @@ is_seen : (loaded : Loaded) (trace : List Event) (from latest r : ℕ) (log : Li
     → first_rested (line trace).edges (max latest r) ≤ t → is_called loaded trace log t kind.Cap ≡ true
 is_seen loaded trace from latest r log t h le = rw (h.0, h.1, le-leb (first_rested (line trace).edges (max latest r)) t le) refl
 
-stays_head : (loaded : Loaded) (from latest r u : ℕ) (before steps : List Turned) → StaysWithout loaded from latest r u before steps → HasNoWindow loaded from latest r before
+stays_head : (loaded : Loaded) (from latest r u : ℕ) (before steps : List Turned) → StaysWithout loaded from latest r u before steps
+    → HasNoWindow loaded from latest r before
 stays_head loaded from latest r u before [] s = s
 stays_head loaded from latest r u before (e ∷ steps) s = s.0
 
@@ -82,8 +83,8 @@ record NothingYet (from latest r : ℕ) (p : Place) : Type 0 where
   windows : p.windows ≡ 0
   verdicts : p.verdicts ≡ 0
 
-answers_none : (loaded : Loaded) (trace : List Event) (s : Signal) (from latest r entered t : ℕ) (said : Note) → s ≡ Rests from latest r → AnswersAt loaded trace s entered t said
-    → ⊥
+answers_none : (loaded : Loaded) (trace : List Event) (s : Signal) (from latest r entered t : ℕ) (said : Note) → s ≡ Rests from latest r
+    → AnswersAt loaded trace s entered t said → ⊥
 answers_none loaded trace s from latest r entered t said e a = subst (λ (x : Signal). AnswersAt loaded trace x entered t said) e a
 
 entered_other : (from latest r : ℕ) (p : Place) (t k : ℕ) → k ≢ 3 → NothingYet from latest r p → NothingYet from latest r (place_entered p t k)
@@ -105,15 +106,19 @@ entered_other from latest r p t k ne h = by_tests (k == 3) (k == 2) (k == 0) (ki
 left_other : (from latest r : ℕ) (p : Place) (t k : ℕ) → k ≢ 3 → NothingYet from latest r p → NothingYet from latest r (place_left p t k)
 left_other from latest r p t k ne h = record { signal = rw (ne_eqb k 3 ne) h.signal; windows = h.windows; verdicts = h.verdicts }
 
-nothing_on : (loaded : Loaded) (trace : List Event) (from latest r : ℕ) (p : Place) (back : List Note) (n : Note) → OpensNone n → WindowRuleAt loaded trace p back n
-    → NothingYet from latest r p → NothingYet from latest r (next p n)
+nothing_on : (loaded : Loaded) (trace : List Event) (from latest r : ℕ) (p : Place) (back : List Note) (n : Note) → OpensNone n
+    → WindowRuleAt loaded trace p back n → NothingYet from latest r p → NothingYet from latest r (next p n)
 nothing_on loaded trace from latest r p back (note.Window t m) o w h = absurd o
 nothing_on loaded trace from latest r p back (note.Enter t k) o w h = entered_other from latest r p t.0 k o h
 nothing_on loaded trace from latest r p back (note.Leave t k) o w h = left_other from latest r p t.0 k o h
-nothing_on loaded trace from latest r p back (note.Good t v q) o w h = absurd (answers_none loaded trace p.signal from latest r p.cap_entered t.0 (note.Good t v q) h.signal w)
-nothing_on loaded trace from latest r p back (note.Detected t m) o w h = absurd (answers_none loaded trace p.signal from latest r p.cap_entered t.0 (note.Detected t m) h.signal w)
-nothing_on loaded trace from latest r p back (note.Nothing t) o w h = absurd (answers_none loaded trace p.signal from latest r p.cap_entered t.0 (note.Nothing t) h.signal w)
-nothing_on loaded trace from latest r p back (note.Bad t y) o w h = absurd (answers_none loaded trace p.signal from latest r p.cap_entered t.0 (note.Bad t y) h.signal w)
+nothing_on loaded trace from latest r p back (note.Good t v q) o w h =
+    absurd (answers_none loaded trace p.signal from latest r p.cap_entered t.0 (note.Good t v q) h.signal w)
+nothing_on loaded trace from latest r p back (note.Detected t m) o w h =
+    absurd (answers_none loaded trace p.signal from latest r p.cap_entered t.0 (note.Detected t m) h.signal w)
+nothing_on loaded trace from latest r p back (note.Nothing t) o w h =
+    absurd (answers_none loaded trace p.signal from latest r p.cap_entered t.0 (note.Nothing t) h.signal w)
+nothing_on loaded trace from latest r p back (note.Bad t y) o w h =
+    absurd (answers_none loaded trace p.signal from latest r p.cap_entered t.0 (note.Bad t y) h.signal w)
 nothing_on loaded trace from latest r p back (note.Period t period) o w h =
     record { signal = ap (λ (s : Signal). told s period) h.signal; windows = h.windows; verdicts = h.verdicts }
 nothing_on loaded trace from latest r p back (note.Reply t start b) o w h =
@@ -124,11 +129,13 @@ not_done : (from latest r : ℕ) (p : Place) (back : List Note) (advance : ℕ) 
 not_done from latest r p back advance h (inl v) = let z = h.verdicts in omega arith
 not_done from latest r p back advance h (inr w) = let z = h.windows in let y = w.1 in omega arith
 
-returns_not : (loaded : Loaded) (nest : Nest) (trace : List Event) (from latest r : ℕ) (before through after : List Note) (u : Tick) → NothingYet from latest r (place before)
+returns_not : (loaded : Loaded) (nest : Nest) (trace : List Event) (from latest r : ℕ) (before through after : List Note) (u : Tick)
+    → NothingYet from latest r (place before)
     → All OpensNone through
     → Each (WindowRule loaded trace) before (through ++ note.Leave u 3 ∷ after)
     → Each (NestRule (advance_of loaded.settings) nest) before (through ++ note.Leave u 3 ∷ after) → ⊥
-returns_not loaded nest trace from latest r before [] after u h a w n = not_done from latest r (place before) (reverse before) (advance_of loaded.settings) h n.0.1
+returns_not loaded nest trace from latest r before [] after u h a w n =
+    not_done from latest r (place before) (reverse before) (advance_of loaded.settings) h n.0.1
 returns_not loaded nest trace from latest r before (x ∷ through) after u h a w n =
     returns_not loaded nest trace from latest r (before ++ x ∷ []) through after u
     (rw (place-push before x) (nothing_on loaded trace from latest r (place before) (reverse before) x (All-head OpensNone x through a) w.0 h))

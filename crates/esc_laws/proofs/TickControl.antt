@@ -308,7 +308,10 @@ asks lost armed_now start w outer marks demand kept i begins none st number = by
     }
     by_outcome None false st = record {
       gates = quiet_gates kind.Tick w _ (λ e. cc) (gates_same start) refl refl;
-      fits = λ told. (record { at = refl; owned = refl; window = tt; replies = tt; nest = here; driven = tt; turns = tt; crossed = tt; searched = tt; waits = tt }, tt);
+      fits = λ told. (
+        record { at = refl; owned = refl; window = tt; replies = tt; nest = here; driven = tt; turns = tt; crossed = tt; searched = tt; waits = tt },
+        tt,
+      );
       ground = record {
         control = st;
         orders = orders_other w.loaded w.core.orders k w.back refl i.ground.orders;

@@ -197,7 +197,12 @@ drive_off w outer i =
           none_flag tick.Lower w.bank.flag (pwm_asked_at w.back) (demand_at w.back) (pwm_entered_at w.back) w.bank.time refl duty.0 u.1.past,
         )
         | kind.Comm ↦ λ ne u. driven_off (drive_seen w) i.comm_is duty.0 u
-        | kind.Cap ↦ λ ne u. (u.0, u.1, u.2, period_off w.core.drive.timing.turns _ _ _ w.bank.sector (turns_at w.back) (rests_at w.back) (rests_now w.back duty.0) u.3)
+        | kind.Cap ↦ λ ne u. (
+          u.0,
+          u.1,
+          u.2,
+          period_off w.core.drive.timing.turns _ _ _ w.bank.sector (turns_at w.back) (rests_at w.back) (rests_now w.back duty.0) u.3,
+        )
         | kind.Cmp ↦ λ ne u. driven_cross (cross_seen w) (rw i.place_is refl) u
         | j ↦ λ ne u. u
       ];
