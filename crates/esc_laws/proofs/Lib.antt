@@ -3,6 +3,7 @@ pub mod Stalls
 pub mod Rests
 pub mod Comparator
 pub mod Growth
+pub mod ReplyGrowth
 pub mod StepGrowth
 pub mod CrossGrowth
 pub mod HeardWhole
@@ -11,6 +12,7 @@ pub mod RestOpens
 pub mod Notes
 pub mod Facts
 pub mod Saves
+pub mod PeriodTies
 pub mod CapTies
 pub mod Dues
 pub mod Lines
@@ -59,6 +61,7 @@ pub mod Carried
 pub mod FlashSteps
 pub mod Refused
 pub mod RefusedCrossings
+pub mod RefusedReplies
 pub mod RefusedDrive
 pub mod UpTo
 pub mod RefusedChops

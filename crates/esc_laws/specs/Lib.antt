@@ -2,6 +2,7 @@
 pub mod Place
 pub mod Rested
 pub mod Windowed
+pub mod Replied
 pub mod HeardWhole
 pub mod RestOpens
 pub mod Driven
@@ -17,6 +18,7 @@ pub mod Saves
 -- what is shown of them
 pub mod Refused
 pub mod RefusedCrossings
+pub mod RefusedReplies
 pub mod RefusedChops
 pub mod Allowed
 pub mod DutyKept
@@ -24,6 +26,7 @@ pub mod DutyKept
 pub mod Tied
 pub mod DriveTied
 pub mod CrossTied
+pub mod PeriodTied
 pub mod World
 pub mod Rooms
 pub mod ChopStalls

@@ -23,6 +23,7 @@ use Rattle.esc_core.specs.Firmware.{core_step, core_asked, entered_core, left_of
 use Rattle.commutation.specs.Commutated.{Commutated}
 use Rattle.gate_driver.specs.DeadSafe.{DeadSafe}
 use Rattle.esc_laws.specs.Windowed.{Windowed}
+use Rattle.esc_laws.specs.Replied.{Replied}
 use Rattle.esc_laws.specs.Driven.{Driven}
 use Rattle.esc_laws.specs.Crossed.{Crossed}
 use Rattle.esc_laws.specs.Searched.{Searched}
@@ -43,6 +44,7 @@ first_bank = written reset reg.CapArm 0
 pub record Marks (loaded : Loaded) (nest : Nest) (trace : List Event) (b : Bank) (stack : List Kind) (log : List Turned) : Type 0 where
   pub in_time : Journal (journal loaded log)
   pub windowed : Windowed loaded trace (journal loaded log)
+  pub replied : Replied trace (journal loaded log)
   pub dead_safe : DeadSafe (journal loaded log)
   pub driven : Driven (journal loaded log)
   pub commutated : Commutated (advance_of loaded.settings) (forward_at loaded.settings) (journal loaded log)

@@ -17,9 +17,9 @@ pub fn sent_frame_is_read()
     ensures { SentFrameIsRead }
 {}
 
-/// No rest passes without a window: after a bad window, from the first tick before which the line has
-/// rested, at or after the end of the pause, at most 8 steps are made, those of higher handlers aside,
-/// before CAP is entered.
+/// No rest passes without a window: after a bad window, and after a reply, from the first tick before which
+/// the line has rested, at or after the end of the pause or of the reply, at most 8 steps are made, those of
+/// higher handlers aside, before CAP is entered.
 pub fn rest_calls_cap()
     ensures { RestCallsCap }
 {}
