@@ -9,6 +9,7 @@ pub mod CrossGrowth
 pub mod HeardWhole
 pub mod SentFrames
 pub mod RestOpens
+pub mod FrameReplied
 pub mod Notes
 pub mod Facts
 pub mod Saves

@@ -18,7 +18,7 @@ use Rattle.esc_laws.specs.Seen.{sees}
 use Rattle.esc_laws.specs.Steps.{journal, open_in, free, after, StepFits}
 use Rattle.esc_laws.specs.World.{placed}
 use Rattle.esc_laws.specs.Refused.{enters, leaves, window, bad, found, ticks, turns, first_two, entry}
-use Rattle.esc_laws.specs.RefusedReplies.{tells, replies, none_bits, thousand_bits, listens, framed, told, replied, changes_at, six_turns, seven_turns, later_frame, reply_ends, RepliesRefuse, ReplyWindowsRefuse, SomeAreReplied}
+use Rattle.esc_laws.specs.RefusedReplies.{tells, replies, none_bits, thousand_bits, listens, with_frame, with_period, with_reply, changes_at, six_turns, seven_turns, later_frame, reply_ends, RepliesRefuse, ReplyWindowsRefuse, SomeAreReplied}
 use Rattle.esc_laws.proofs.Rests.{first_more}
 use Rattle.esc_laws.proofs.Refused.{window_fits, nest_fits}
 use Rattle.esc_laws.proofs.Stages.{placed-is}
@@ -58,15 +58,15 @@ start_late = refl
 pub replies_refuse : RepliesRefuse
 replies_refuse = record {
   period_for_a_damaged_frame = λ trace after h. reply_fits trace (listens 4 ++ (enters 6160 3 ∷ bad 6200 5 ∷ [])) after (tells 6202 None) h;
-  period_for_a_frame_in_mode_1 = λ trace after h. reply_fits trace (framed 1) after (tells 6202 None) h;
+  period_for_a_frame_in_mode_1 = λ trace after h. reply_fits trace (with_frame 1) after (tells 6202 None) h;
   period_for_a_detection = λ trace after h. reply_fits trace (enters 4200 3 ∷ found 4206 4 ∷ []) after (tells 4208 None) h;
   period_for_nothing = λ trace after h. reply_fits trace (listens 4) after (tells 5100 None) h;
-  second_period = λ trace after h. reply_fits trace (told 4) after (tells 6204 None) h;
-  reply_without_a_period = λ trace after h. reply_fits trace (framed 4) after (replies 6204 7440 none_bits) h;
-  second_reply = λ trace after h. reply_fits trace (replied 4) after (replies 6206 7440 none_bits) h;
-  no_period = λ trace after h. reply_fits trace (framed 4) after (leaves 6204 3) h refl;
-  no_reply = λ trace after h. reply_fits trace (told 3) after (leaves 6204 3) h refl;
-  period_without_a_drive = λ trace after h. (let e : Some 1000 ≡ None = reply_fits trace (framed 4) after (tells 6202 (Some 1000)) h in cc);
+  second_period = λ trace after h. reply_fits trace (with_period 4) after (tells 6204 None) h;
+  reply_without_a_period = λ trace after h. reply_fits trace (with_frame 4) after (replies 6204 7440 none_bits) h;
+  second_reply = λ trace after h. reply_fits trace (with_reply 4) after (replies 6206 7440 none_bits) h;
+  no_period = λ trace after h. reply_fits trace (with_frame 4) after (leaves 6204 3) h refl;
+  no_reply = λ trace after h. reply_fits trace (with_period 3) after (leaves 6204 3) h refl;
+  period_without_a_drive = λ trace after h. (let e : Some 1000 ≡ None = reply_fits trace (with_frame 4) after (tells 6202 (Some 1000)) h in cc);
   period_with_six_turns = λ trace after h. (let e : Some 1000 ≡ None = reply_fits trace (six_turns ++ later_frame) after (tells 64002 (Some 1000)) h in cc);
   no_period_with_seven_turns = λ trace after h. (let e : None ≡ Some 1000 = reply_fits trace (seven_turns ++ later_frame) after (tells 64002 None) h in cc);
   another_period = λ trace after h. (let e : Some 999 ≡ Some 1000 = reply_fits trace (seven_turns ++ later_frame) after (tells 64002 (Some 999)) h in
@@ -78,18 +78,18 @@ replies_refuse = record {
       reply_fits trace (seven_turns ++ (ticks 52804 22 0 0 ∷ later_frame)) after (tells 64002 (Some 1000)) h in cc);
   period_of_the_drive_before = λ trace after h. (let e : Some 1000 ≡ None =
       reply_fits trace (seven_turns ++ (ticks 52804 22 0 0 ∷ ticks 55204 23 0 20 ∷ later_frame)) after (tells 64002 (Some 1000)) h in cc);
-  start_after_1439_ticks = λ after h. (let s = (reply_fits (changes_at 6000) (told 4) after (replies 6204 7439 none_bits) h).start_is in
+  start_after_1439_ticks = λ after h. (let s = (reply_fits (changes_at 6000) (with_period 4) after (replies 6204 7439 none_bits) h).start_is in
       let e = s ∙ start_early in absurd (omega arith));
-  start_after_1441_ticks = λ after h. (let s = (reply_fits (changes_at 6000) (told 4) after (replies 6204 7441 none_bits) h).start_is in
+  start_after_1441_ticks = λ after h. (let s = (reply_fits (changes_at 6000) (with_period 4) after (replies 6204 7441 none_bits) h).start_is in
       let e = s ∙ start_early in absurd (omega arith));
-  start_before_the_load = λ after h. (let s = (reply_fits (changes_at 6000) (told 4) after (replies 7604 7440 none_bits) h).start_is in
+  start_before_the_load = λ after h. (let s = (reply_fits (changes_at 6000) (with_period 4) after (replies 7604 7440 none_bits) h).start_is in
       let e = s ∙ start_late in absurd (omega arith));
-  start_at_the_load = λ after h. (let s = (reply_fits (changes_at 6000) (told 4) after (replies 7604 7604 none_bits) h).start_is in
+  start_at_the_load = λ after h. (let s = (reply_fits (changes_at 6000) (with_period 4) after (replies 7604 7604 none_bits) h).start_is in
       let e = s ∙ start_late in absurd (omega arith));
   bits_of_another_period = λ trace after h. (let e = only_none thousand_bits
-      (reply_fits trace (told 4) after (replies 6204 7440 thousand_bits) h).bits_are in absurd (omega arith));
+      (reply_fits trace (with_period 4) after (replies 6204 7440 thousand_bits) h).bits_are in absurd (omega arith));
   line_that_starts_high = λ trace after h. (let e = only_none (none_bits + 0x100000)
-      (reply_fits trace (told 4) after (replies 6204 7440 (none_bits + 0x100000)) h).bits_are in absurd (omega arith));
+      (reply_fits trace (with_period 4) after (replies 6204 7440 (none_bits + 0x100000)) h).bits_are in absurd (omega arith));
 }
 
 -- ---- windows, activations and steps
@@ -122,15 +122,15 @@ late loaded nest cost le f =
 
 pub reply_windows_refuse : ReplyWindowsRefuse
 reply_windows_refuse = record {
-  window_in_place_of_a_reply = λ trace loaded after h. (window_fits loaded trace (first_two ++ framed 4) after (window 6202 4) h).0;
-  window_beside_the_reply = λ trace loaded after h. (window_fits loaded trace (first_two ++ replied 4) after (window 6206 4) h).0;
-  window_before_the_end = λ trace loaded after h. (let o = (window_fits loaded trace (first_two ++ (replied 4 ++ (leaves 6208 3 ∷ enters 8783 3 ∷ []))) after
+  window_in_place_of_a_reply = λ trace loaded after h. (window_fits loaded trace (first_two ++ with_frame 4) after (window 6202 4) h).0;
+  window_beside_the_reply = λ trace loaded after h. (window_fits loaded trace (first_two ++ with_reply 4) after (window 6206 4) h).0;
+  window_before_the_end = λ trace loaded after h. (let o = (window_fits loaded trace (first_two ++ (with_reply 4 ++ (leaves 6208 3 ∷ enters 8783 3 ∷ []))) after
       (window 8785 4) h).0.rested in let more = first_more (line trace).edges 8784 in absurd (omega arith));
   window_before_the_end_in_mode_3 = λ trace loaded after h. (let o = (window_fits loaded trace (first_two
-      ++ (replied 3 ++ (leaves 6208 3 ∷ enters 10127 3 ∷ []))) after (window 10129 3) h).0.rested in
+      ++ (with_reply 3 ++ (leaves 6208 3 ∷ enters 10127 3 ∷ []))) after (window 10129 3) h).0.rested in
       let more = first_more (line trace).edges 10128 in absurd (omega arith));
   window_before_the_rest = λ loaded after h. (let o = (window_fits loaded (changes_at 8700) (first_two
-      ++ (replied 4 ++ (leaves 6208 3 ∷ enters 8899 3 ∷ []))) after (window 8901 4) h).0.rested in let rest = rests_late in absurd (omega arith));
+      ++ (with_reply 4 ++ (leaves 6208 3 ∷ enters 8899 3 ∷ []))) after (window 8901 4) h).0.rested in let rest = rests_late in absurd (omega arith));
   period_in_tick = λ nest loaded after h. (let e = nest_fits nest loaded (enters 2400 2 ∷ []) after (tells 2402 None) h in absurd (cc));
   reply_in_main = λ nest loaded after h. (let e = nest_fits nest loaded (enters 2400 0 ∷ []) after (replies 2402 2403 none_bits) h in absurd (cc));
   cap_enters_a_tick_late = late;
@@ -144,15 +144,15 @@ none_right = subst (λ (bits : ℕ). ReplyBits bits None) none_told (reply_of-te
 thousand_right : ReplyBits thousand_bits (Some 1000)
 thousand_right = subst (λ (bits : ℕ). ReplyBits bits (Some 1000)) thousand_told (reply_of-tells (Some 1000))
 
-early : Replied (changes_at 6000) (first_two ++ (replied 4 ++ leaves 6206 3 ∷ []))
+early : Replied (changes_at 6000) (first_two ++ (with_reply 4 ++ leaves 6206 3 ∷ []))
 unfolding place line burst
 early = (tt, (tt, (tt, (tt, (tt, (λ e. tt, (tt, (tt, (refl, (record { start_is = refl; bits_are = none_right }, (λ e. tt, tt)))))))))))
 
-early_3 : Replied (changes_at 6000) (first_two ++ (replied 3 ++ leaves 6206 3 ∷ []))
+early_3 : Replied (changes_at 6000) (first_two ++ (with_reply 3 ++ leaves 6206 3 ∷ []))
 unfolding place line burst
 early_3 = (tt, (tt, (tt, (tt, (tt, (λ e. tt, (tt, (tt, (refl, (record { start_is = refl; bits_are = none_right }, (λ e. tt, tt)))))))))))
 
-later : Replied (changes_at 6000) (first_two ++ (told 4 ++ (replies 7604 7605 none_bits ∷ leaves 7606 3 ∷ [])))
+later : Replied (changes_at 6000) (first_two ++ (with_period 4 ++ (replies 7604 7605 none_bits ∷ leaves 7606 3 ∷ [])))
 unfolding place line burst
 later = (tt, (tt, (tt, (tt, (tt, (λ e. tt, (tt, (tt, (refl, (record { start_is = refl; bits_are = none_right }, (λ e. tt, tt)))))))))))
 

@@ -56,7 +56,7 @@ left_settled : (v : Bool) (trace : List Event) (u : ℕ) (s : Signal) (t : ℕ) 
 left_settled true trace u s t h = rested_settled trace u s t h
 left_settled false trace u s t h = h
 
-entered_signal : (p : Place) (t k : ℕ) → (place_entered p t k).signal ≡ p.signal
+pub entered_signal : (p : Place) (t k : ℕ) → (place_entered p t k).signal ≡ p.signal
 entered_signal p t k = by_tests (k == 3) (k == 2) (k == 0) (kind_of k ∷ p.stack)
   where
     by_tests : (x a b : Bool) (stack : List Kind)

@@ -5,6 +5,7 @@ pub mod Windowed
 pub mod Replied
 pub mod HeardWhole
 pub mod RestOpens
+pub mod FrameReplied
 pub mod Driven
 pub mod Calls
 pub mod Crossed

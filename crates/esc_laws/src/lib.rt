@@ -14,5 +14,6 @@ pub use shown::{
     turns_refuse, windows_refuse,
 };
 pub use signal_laws::{
-    cap_opens_window, first_rested_tick, rest_calls_cap, sent_frame_is_read, whole_signal_is_heard,
+    cap_opens_window, first_rested_tick, frame_is_replied, reply_has_frame, rest_calls_cap,
+    sent_frame_is_read, whole_signal_is_heard,
 };
