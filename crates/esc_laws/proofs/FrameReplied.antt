@@ -11,7 +11,7 @@ use Rattle.esc_base.specs.Numbers.{mode_of}
 use Rattle.arming.proofs.InOrder.{each_rest, each_at, each_front}
 use Rattle.commutation.specs.Drive.{period_at}
 use Rattle.settings_block.specs.declared.stored.Loaded.{Loaded}
-use Rattle.esc_laws.specs.Place.{Place, Signal, Silent, Listens, Judged, Owes, Tells, Replies, Rests, is_answered, framed, told, replied, rested, place_left, next, place}
+use Rattle.esc_laws.specs.Place.{Place, Signal, Listens, Judged, Owes, Tells, is_answered, framed, told, replied, rested, next, place}
 use Rattle.esc_laws.specs.Windowed.{AnswersAt, OpensAt, WindowRule}
 use Rattle.esc_laws.specs.Replied.{TellsAt, RepliesAt, HasReplied, IsReply, ReplyRule}
 use Rattle.esc_laws.specs.FrameReplied.{StaysIn, HasReply, FrameIsReplied, HasFrame, ReplyHasFrame}
