@@ -36,6 +36,7 @@ use Rattle.esc_laws.proofs.Notes.{Said, said_push}
 use Rattle.esc_laws.proofs.Start.{first_in_range, logged_start, start_said}
 use Rattle.esc_laws.proofs.Carried.{legal_chopped}
 use Rattle.esc_laws.proofs.ChopFront.{chopped_none}
+use Rattle.esc_laws.proofs.RefusedSteps.{none_open, no_stall_there}
 
 -- no Q stands in them, and no step of COMM
 none_opening : (loaded : Loaded) → All (λ n. disturbs n ≡ false) (opening loaded)
@@ -93,10 +94,6 @@ three = tick_in ∷ tick_out ∷ cap_in ∷ []
 abbrev four : List Turned
 four = tick_in ∷ tick_out ∷ cap_in ∷ cap_out ∷ []
 
-no_stall : (t : ℕ) → free two_edges t ≡ t
-unfolding free
-no_stall t = refl
-
 after_none : after 2 two_edges [] ≡ 0
 unfolding after free
 after_none = refl
@@ -116,10 +113,6 @@ after_three = refl
 after_four : after 2 two_edges four ≡ 4204
 unfolding after free
 after_four = refl
-
-open_none : (loaded : Loaded) → open_in loaded [] ≡ []
-unfolding place
-open_none loaded = refl
 
 open_one : (loaded : Loaded) → open_in loaded one ≡ kind.Tick ∷ []
 unfolding place
@@ -191,8 +184,8 @@ fits_tick_in loaded nest =
     let from = after_none in
     record {
       later = omega arith;
-      free_at = no_stall 2400;
-      open_step = λ o. absurd (o (open_none loaded));
+      free_at = no_stall_there 2400;
+      open_step = λ o. absurd (o (none_open loaded));
       idle = λ o t le lt f k. none_due loaded t k lt;
       first = λ o. (refl, λ k s. tick_highest loaded k s);
       entry = λ e. refl;
@@ -220,7 +213,7 @@ fits_tick_out loaded nest =
     let made = once_tick_out in
     record {
       later = omega arith;
-      free_at = no_stall 2402;
+      free_at = no_stall_there 2402;
       open_step = λ o. sym from;
       idle = λ o. absurd (let z : kind.Tick ∷ [] ≡ [] = sym (open_one loaded) ∙ o in cc);
       first = λ o. absurd (let z : kind.Tick ∷ [] ≡ [] = sym (open_one loaded) ∙ o in cc);
@@ -242,7 +235,7 @@ fits_cap_in loaded nest =
     let from = after_two in
     record {
       later = omega arith;
-      free_at = no_stall 4200;
+      free_at = no_stall_there 4200;
       open_step = λ o. absurd (o (open_two loaded));
       idle = λ o t le lt f k. none_due_later loaded t k lt;
       first = λ o. (refl, λ k s. cap_highest loaded k s);
@@ -271,7 +264,7 @@ fits_cap_out loaded nest =
     let made = once_cap_out in
     record {
       later = omega arith;
-      free_at = no_stall 4202;
+      free_at = no_stall_there 4202;
       open_step = λ o. sym from;
       idle = λ o. absurd (let z : kind.Cap ∷ [] ≡ [] = sym (open_three loaded) ∙ o in cc);
       first = λ o. absurd (let z : kind.Cap ∷ [] ≡ [] = sym (open_three loaded) ∙ o in cc);

@@ -25,7 +25,7 @@ use Rattle.arming.proofs.InOrder.{each_front, in_order}
 use Rattle.arming.specs.Controlled.{Controlled, FitsControl}
 use Rattle.esc_core.specs.Brain.{Brain}
 use Rattle.esc_core.specs.Calls.{Answer}
-use Rattle.esc_core.specs.Firmware.{new_core, entered_core, core_step}
+use Rattle.esc_core.specs.Firmware.{entered_core, core_step}
 use Rattle.esc_core.specs.Stepped.{IsStepped}
 use Rattle.esc_core.proofs.Bounds.{core_step-goes}
 use Rattle.esc_laws.specs.Seen.{sees}
@@ -42,7 +42,7 @@ use Rattle.esc_laws.proofs.Turns.{made_below}
 use Rattle.esc_laws.proofs.CrossGrowth.{notes_below}
 use Rattle.esc_laws.specs.Tied.{Keeps, WordTold}
 use Rattle.esc_laws.specs.Legal.{Legal, LegalFront}
-use Rattle.esc_laws.specs.Logged.{first_bank, Logged, CoreTurn, turned}
+use Rattle.esc_laws.specs.Logged.{Logged, CoreTurn, turned}
 use Rattle.esc_laws.specs.World.{Made, made, world, after_event, enters}
 use Rattle.esc_laws.specs.Rooms.{Past, Ground, Tie, TurnWaits}
 use Rattle.esc_laws.specs.Chopped.{Chopped}
@@ -56,14 +56,10 @@ use Rattle.esc_laws.proofs.Stages.{later_ground, event_ground, event_tie}
 use Rattle.esc_laws.proofs.Entries.{unheld_idle}
 use Rattle.esc_laws.proofs.OwnTurns.{steady, own_are}
 use Rattle.esc_laws.proofs.Stepping.{sees_due, entry_turn, own_turn, left_is, stepped_by}
-use Rattle.esc_laws.proofs.Start.{logged_start}
 use Rattle.esc_laws.proofs.Notes.{all_front}
 use Rattle.esc_laws.proofs.ChopLegal.{chopped_log}
 use Rattle.esc_laws.proofs.ChopFront.{chopped_front}
 use Rattle.esc_laws.proofs.Events.{keeps_later, marks_later, patient_later, event_time, told_grows, patient_grows, marks_grow, keeps_grow}
-
-pub start_logged : (loaded : Loaded) (nest : Nest) (cost : ℕ) → Logged loaded nest cost [] 0 (new_core loaded.settings) first_bank [] []
-start_logged loaded nest cost = logged_start loaded nest cost
 
 -- ---- a step
 

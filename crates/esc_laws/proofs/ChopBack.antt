@@ -2,10 +2,8 @@
 use Rattle.std.proofs.Common.{◌≡◌, ◌≤◌, ◌<◌, ◌+◌, ◌-◌, ◌*◌, ◌⊎◌, inl, inr, ℕ, Bool, true, false, if◌then◌else◌, nat_le, List, [], ◌∷◌, ◌++◌, reverse, refl, sym, ◌∙◌, ap, subst, arith, append_assoc, append-nil, All}
 use Rattle.std.specs.List.{fold}
 use Rattle.std.proofs.lemmas.List.{reverse-append}
-use Rattle.std.proofs.lemmas.List.Concat.{flat_map-append}
 use Rattle.std.proofs.lemmas.List.Elements.{All-head, All-tail, All-nil, All-cons}
 use Rattle.std.proofs.lemmas.Bool.{cases_lt}
-use Rattle.std.proofs.lemmas.Bool.Decides.{nat_tests}
 use Rattle.esc_base.specs.declared.gate.Leg.{Leg}
 use Rattle.esc_base.specs.declared.gate.Leg.TheVariants as leg
 use Rattle.esc_base.specs.declared.kind.Kind.{Kind}
@@ -25,18 +23,22 @@ use Rattle.gate_driver.specs.DeadSafe.{high_at, low_at, high_free_at, low_free_a
 use Rattle.commutation.specs.Commutated.{sector_at}
 use Rattle.esc_laws.specs.Chopped.{upto, by_tick, NoStallIn, disturbs, Undisturbed, IsChopped, Chopped}
 use Rattle.esc_laws.specs.ChopStalls.{NoStall}
-use Rattle.esc_laws.specs.ChopView.{By, View, view, moved, noted, by_of, by_kind, leaves}
-use Rattle.gate_driver.specs.Gated.{Legs, at_leg, offs, free_after, no_legs}
+use Rattle.esc_laws.specs.ChopView.{By, View, view, moved_by, told_by, by_of, by_kind, has_leave}
+use Rattle.gate_driver.specs.Gated.{at_leg, no_legs}
 use Rattle.esc_laws.specs.ChopView.By.{CommEnters, CommSteps, PwmEnters, PwmSteps, Lower}
-use Rattle.esc_laws.specs.ChopLog.{made, at_tick}
-use Rattle.esc_laws.specs.ChopLaws.{StepFits}
+use Rattle.esc_laws.specs.ChopLog.{steps_by, at_tick}
+use Rattle.esc_laws.specs.ChopLaws.{StepMade}
 use Rattle.esc_laws.specs.ChopPairs.{NoSteps, NoStep, AllAt, TimesFit}
-use Rattle.esc_laws.specs.ChopPeriods.{NoComm, Undisturbed as Quiet, Legal}
+use Rattle.esc_laws.specs.ChopPeriods.{NoComm, UndisturbedLog, LogFits}
 use Rattle.esc_laws.specs.ChopNotes.{NotesFit}
-use Rattle.esc_laws.proofs.ChopCalm.{free_later}
+use Rattle.esc_laws.proofs.Stalls.{free_later}
 use Rattle.esc_laws.proofs.ChopPushes.{view-push, view-none}
 use Rattle.esc_laws.proofs.Pushes.{after-push}
 use Rattle.esc_laws.proofs.ChopTheorem.{chopped}
+use Rattle.std.proofs.lemmas.Bool.{le-leb, lt-leb}
+use Rattle.arming.proofs.InOrder.{reverse-push}
+use Rattle.esc_laws.proofs.Pushes.{journal-push}
+use Rattle.gate_driver.proofs.OffTimes.{at_offs}
 
 -- ---- the fold says what the notes say, looking back
 
@@ -48,17 +50,12 @@ pub record Says (v : View) (back : List Note) : Type 0 where
   pub demand : v.demand ≡ demand_at back
   pub sector : v.sector ≡ sector_at back
 
-at_offs : (x : Leg) (f : Legs) (w w' t : ℕ) → at_leg (offs f w w' t) x ≡ free_after w w' x t (at_leg f x)
-at_offs leg.A f w w' t = refl
-at_offs leg.B f w w' t = refl
-at_offs leg.C f w w' t = refl
-
-pub says_note : (v : View) (back : List Note) (n : Note) → Says v back → Says (noted v n) (n ∷ back)
+pub says_note : (v : View) (back : List Note) (n : Note) → Says v back → Says (told_by v n) (n ∷ back)
 says_note v back (note.Gate t hi lo) s = record {
   hi = refl;
   lo = refl;
-  hi_free = λ x. at_offs x v.hi_free v.hi hi t.0 ∙ rw (s.hi, s.hi_free x) refl;
-  lo_free = λ x. at_offs x v.lo_free v.lo lo t.0 ∙ rw (s.lo, s.lo_free x) refl;
+  hi_free = λ x. at_offs v.hi_free v.hi hi t.0 x ∙ rw (s.hi, s.hi_free x) refl;
+  lo_free = λ x. at_offs v.lo_free v.lo lo t.0 x ∙ rw (s.lo, s.lo_free x) refl;
   demand = s.demand;
   sector = s.sector;
 }
@@ -66,33 +63,24 @@ says_note v back (note.Control t number marks d) s = record { hi = s.hi; lo = s.
 says_note v back (note.Step t x) s = record { hi = s.hi; lo = s.lo; hi_free = s.hi_free; lo_free = s.lo_free; demand = s.demand; sector = refl }
 says_note v back n s = record { hi = s.hi; lo = s.lo; hi_free = s.hi_free; lo_free = s.lo_free; demand = s.demand; sector = s.sector }
 
-reverse-push : (xs : List Note) (x : Note) → reverse (xs ++ x ∷ []) ≡ x ∷ reverse xs
-reverse-push xs x = reverse-append xs (x ∷ [])
-
-says_notes : (v : View) (before notes : List Note) → Says v (reverse before) → Says (fold noted v notes) (reverse (before ++ notes))
+says_notes : (v : View) (before notes : List Note) → Says v (reverse before) → Says (fold told_by v notes) (reverse (before ++ notes))
 says_notes v before [] s = subst (λ (l : List Note). Says v (reverse l)) (sym (append-nil before)) s
 says_notes v before (n ∷ notes) s =
-    subst (λ (l : List Note). Says (fold noted (noted v n) notes) (reverse l)) (append_assoc before (n ∷ []) notes)
-    (says_notes (noted v n) (before ++ n ∷ []) notes (subst (λ (l : List Note). Says (noted v n) l) (sym (reverse-push before n))
+    subst (λ (l : List Note). Says (fold told_by (told_by v n) notes) (reverse l)) (append_assoc before (n ∷ []) notes)
+    (says_notes (told_by v n) (before ++ n ∷ []) notes (subst (λ (l : List Note). Says (told_by v n) l) (sym (reverse-push before n))
     (says_note v (reverse before) n s)))
 
-pub says_moved : (v : View) (by : By) (t : ℕ) (back : List Note) → Says v back → Says (moved v by t) back
+pub says_moved : (v : View) (by : By) (t : ℕ) (back : List Note) → Says v back → Says (moved_by v by t) back
 says_moved v CommEnters t back s = record { hi = s.hi; lo = s.lo; hi_free = s.hi_free; lo_free = s.lo_free; demand = s.demand; sector = s.sector }
 says_moved v (CommSteps l) t back s = record { hi = s.hi; lo = s.lo; hi_free = s.hi_free; lo_free = s.lo_free; demand = s.demand; sector = s.sector }
 says_moved v PwmEnters t back s = record { hi = s.hi; lo = s.lo; hi_free = s.hi_free; lo_free = s.lo_free; demand = s.demand; sector = s.sector }
 says_moved v (PwmSteps l) t back s = record { hi = s.hi; lo = s.lo; hi_free = s.hi_free; lo_free = s.lo_free; demand = s.demand; sector = s.sector }
 says_moved v Lower t back s = s
 
-notes-push : (log : List Turned) (e : Turned) → notes_in (log ++ e ∷ []) ≡ notes_in log ++ e.notes
-notes-push log e = flat_map-append (λ x. x.notes) log (e ∷ []) ∙ ap (λ (ns : List Note). notes_in log ++ ns) (append-nil e.notes)
-
-journal-push : (loaded : Loaded) (log : List Turned) (e : Turned) → journal loaded (log ++ e ∷ []) ≡ journal loaded log ++ e.notes
-journal-push loaded log e = ap (λ (ns : List Note). opening loaded ++ ns) (notes-push log e) ∙ sym (append_assoc (opening loaded) (notes_in log) e.notes)
-
 says_step : (loaded : Loaded) (before : List Turned) (e : Turned) → Says (view before) (reverse (journal loaded before))
     → Says (view (before ++ e ∷ [])) (reverse (journal loaded (before ++ e ∷ [])))
 says_step loaded before e s =
-    let r = says_notes (moved (view before) (by_of e) e.tick) (journal loaded before) e.notes
+    let r = says_notes (moved_by (view before) (by_of e) e.tick) (journal loaded before) e.notes
     (says_moved (view before) (by_of e) e.tick (reverse (journal loaded before)) s) in
     subst (λ (l : List Note). Says (view (before ++ e ∷ [])) (reverse l)) (sym (journal-push loaded before e))
     (subst (λ (w : View). Says w (reverse (journal loaded before ++ e.notes))) (sym (view-push before e))
@@ -115,23 +103,17 @@ says_all loaded log = says_from loaded [] log (subst (λ (v : View). Says v (rev
 
 -- ---- the notes up to a tick are those of the steps up to it
 
-le_is : (m n : ℕ) → m ≤ n → nat_le m n ≡ true
-le_is m n l = grind (arith, nat_tests)
-
-le_isnt : (m n : ℕ) → n < m → nat_le m n ≡ false
-le_isnt m n l = grind (arith, nat_tests)
-
 upto_in : (t u : ℕ) (notes rest : List Note) → u ≤ t → All (λ n. time_of n ≡ u) notes → upto t (notes ++ rest) ≡ notes ++ upto t rest
 upto_in t u [] rest le a = refl
 upto_in t u (n ∷ notes) rest le a =
     let e : time_of n ≡ u = All-head (λ x. time_of x ≡ u) n notes a in
-    rw (le_is (time_of n) t (omega arith)) (ap (λ (l : List Note). n ∷ l) (upto_in t u notes rest le (All-tail (λ x. time_of x ≡ u) n notes a)))
+    rw (le-leb (time_of n) t (omega arith)) (ap (λ (l : List Note). n ∷ l) (upto_in t u notes rest le (All-tail (λ x. time_of x ≡ u) n notes a)))
 
 upto_out : (t u : ℕ) (notes rest : List Note) → t < u → All (λ n. time_of n ≡ u) notes → upto t rest ≡ [] → upto t (notes ++ rest) ≡ []
 upto_out t u [] rest l a e = e
-upto_out t u (n ∷ notes) rest l a e = let q : time_of n ≡ u = All-head (λ x. time_of x ≡ u) n notes a in rw (le_isnt (time_of n) t (omega arith)) refl
+upto_out t u (n ∷ notes) rest l a e = let q : time_of n ≡ u = All-head (λ x. time_of x ≡ u) n notes a in rw (lt-leb (time_of n) t (omega arith)) refl
 
-none_above : (cost : ℕ) (trace : List Event) (t : ℕ) (before rest : List Turned) → t < after cost trace before → EachStep (StepFits cost trace) before rest
+none_above : (cost : ℕ) (trace : List Event) (t : ℕ) (before rest : List Turned) → t < after cost trace before → EachStep (StepMade cost trace) before rest
     → EachStep NotesFit before rest → upto t (notes_in rest) ≡ []
 none_above cost trace t before [] l f g = refl
 none_above cost trace t before (e ∷ rest) l f g =
@@ -140,15 +122,15 @@ none_above cost trace t before (e ∷ rest) l f g =
     upto_out t e.tick e.notes (notes_in rest) (omega arith) g.0.at_tick (none_above cost trace t (before
     ++ e ∷ []) rest (rw (after-push cost trace before e) (omega arith)) f.1 g.1)
 
-made_upto : (cost : ℕ) (trace : List Event) (t : ℕ) (before rest : List Turned) → EachStep (StepFits cost trace) before rest → EachStep NotesFit before rest
-    → upto t (notes_in rest) ≡ notes_in (made t rest)
+made_upto : (cost : ℕ) (trace : List Event) (t : ℕ) (before rest : List Turned) → EachStep (StepMade cost trace) before rest → EachStep NotesFit before rest
+    → upto t (notes_in rest) ≡ notes_in (steps_by t rest)
 made_upto cost trace t before [] f g = refl
 made_upto cost trace t before (e ∷ rest) f g = elim (cases_lt t e.tick) [
-  | inl l ↦ rw (le_isnt e.tick t l) (
+  | inl l ↦ rw (lt-leb e.tick t l) (
       let more = free_later trace (e.tick + cost) in
       upto_out t e.tick e.notes (notes_in rest) l g.0.at_tick (none_above cost trace t (before
       ++ e ∷ []) rest (rw (after-push cost trace before e) (omega arith)) f.1 g.1))
-  | inr le ↦ rw (le_is e.tick t le) (upto_in t e.tick e.notes (notes_in rest) le g.0.at_tick
+  | inr le ↦ rw (le-leb e.tick t le) (upto_in t e.tick e.notes (notes_in rest) le g.0.at_tick
       ∙ ap (λ (l : List Note). e.notes ++ l) (made_upto cost trace t (before ++ e ∷ []) rest f.1 g.1))
 ]
 
@@ -221,7 +203,7 @@ no_comm p before [] g n = tt
 no_comm p before (e ∷ rest) g n =
     let s = none_split p e.notes (notes_in rest) n in (
       λ lo hi q.
-          let c = comm_enters e.kind e.enters (leaves e.notes) q in
+          let c = comm_enters e.kind e.enters (has_leave e.notes) q in
           let is : e.notes ≡ note.Enter (record { 0 = e.tick }) 6 ∷ [] = g.0.entry c.1
           ∙ ap (λ (k : Kind). note.Enter (record { 0 = e.tick }) (kind_number k) ∷ []) c.0 in
           let w = subst (λ (ns : List Note). NoneWithin p ns) is s.0 in
@@ -247,17 +229,17 @@ small_demand t (n ∷ notes) back a b = by_time (nat_le (time_of n) t) (small_de
         (ap (λ (l : List Note). l ++ back) (reverse-append (n ∷ []) (upto t notes)) ∙ append_assoc (reverse (upto t notes)) (n ∷ []) back)) r
 
 module _ (loaded : Loaded) (cost : ℕ) (trace : List Event) (log : List Turned) (until : ℕ) (one : 1 ≤ cost) (few : cost ≤ 16)
-    (legal : Legal cost trace until log) (fit : EachStep NotesFit [] log) (range : All InRange (journal loaded log)) where
+    (legal : LogFits cost trace until log) (fit : EachStep NotesFit [] log) (range : All InRange (journal loaded log)) where
   opening_times : All (λ n. time_of n ≡ 0) (opening loaded)
   opening_times = All-cons (λ n. time_of n ≡ 0) (note.Up (record { 0 = 0 }) (load_number loaded.fault)) (note.Window (record { 0 = 0 }) 0 ∷ []) refl
       (All-cons (λ n. time_of n ≡ 0) (note.Window (record { 0 = 0 }) 0) [] refl (All-nil (λ n. time_of n ≡ 0)))
 
-  by_made : (t : ℕ) → by_tick t (journal loaded log) ≡ reverse (journal loaded (made t log))
+  by_made : (t : ℕ) → by_tick t (journal loaded log) ≡ reverse (journal loaded (steps_by t log))
   by_made t = ap (λ (l : List Note). reverse l) (upto_in t 0 (opening loaded) (notes_in log) (omega arith) opening_times
       ∙ ap (λ (l : List Note). opening loaded ++ l) (made_upto cost trace t [] log legal.fits fit))
 
   says_at : (t : ℕ) → Says (at_tick t log) (by_tick t (journal loaded log))
-  says_at t = subst (λ (l : List Note). Says (at_tick t log) l) (sym (by_made t)) (says_all loaded (made t log))
+  says_at t = subst (λ (l : List Note). Says (at_tick t log) l) (sym (by_made t)) (says_all loaded (steps_by t log))
 
   within : (p : ℕ) → All (λ n. p ≤ time_of n → time_of n < p + 2000 → disturbs n ≡ false) (journal loaded log) → NoneWithin p (notes_in log)
   within p a = (none_split p (opening loaded) (notes_in log) (none_of p (journal loaded log) a)).1
@@ -270,7 +252,7 @@ module _ (loaded : Loaded) (cost : ℕ) (trace : List Event) (log : List Turned)
       omega arith
 
   quiet_of : (p d m : ℕ) → p ≡ 2000 * m → Undisturbed cost trace (journal loaded log) (2000 * m) d
-      → Quiet cost trace log m d (sector_at (by_tick (2000 * m - 1) (journal loaded log)))
+      → UndisturbedLog cost trace log m d (sector_at (by_tick (2000 * m - 1) (journal loaded log)))
   quiet_of p d m e y = record {
     drives = y.drives;
     duty = small (2000 * m) d (y.demand (2000 * m) (omega arith) (omega arith));

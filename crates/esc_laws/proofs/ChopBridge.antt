@@ -17,9 +17,9 @@ use Rattle.esc_laws.specs.Place.{Place, place, next}
 use Rattle.esc_laws.specs.Seen.{sees}
 use Rattle.esc_laws.specs.Steps.{Turned, is_entry, journal, open_in, own_steps, called, is_called, free, EachStep, Awaits, StepFits}
 use Rattle.esc_laws.proofs.Pushes.{place-push, journal-push, own-push, called-push}
-use Rattle.esc_laws.specs.ChopView.{View, view, by_of, by_kind, leaves, pwm_called, comm_called, is_comm, wait_next as waits_next}
-use Rattle.esc_laws.specs.ChopLog.{Rests, NonePassed}
-use Rattle.esc_laws.specs.ChopLaws.{IsTurn, StepFits as LawFits, DriveFits}
+use Rattle.esc_laws.specs.ChopView.{View, view, by_of, by_kind, has_leave, pwm_called, comm_called, is_comm, wait_next as waits_next}
+use Rattle.esc_laws.specs.ChopLog.{BothIdle, NonePassed}
+use Rattle.esc_laws.specs.ChopLaws.{IsTurn, StepMade, DriveFits}
 use Rattle.esc_laws.specs.ChopBridge.{OneBack, BridgeFits, CallsSeen, SeesDrive}
 use Rattle.esc_laws.proofs.ChopCalls.{Asks, asks_next, asks_start, seen_of}
 use Rattle.esc_base.specs.Range.{InRange}
@@ -29,6 +29,9 @@ use Rattle.esc_laws.specs.Chopped.{Chopped}
 use Rattle.esc_laws.proofs.ChopPushes.{view-push, view-none}
 use Rattle.esc_laws.proofs.ChopBack.{times_fit, is_chopped}
 use Rattle.esc_laws.proofs.ChopHigh.{same_after, waits_after as pwm_waits_after}
+use Rattle.std.proofs.lemmas.Bool.{and_from}
+use Rattle.interrupt_machine.proofs.OpenKinds.{kind_of-number, innermost_first}
+use Rattle.gate_driver.proofs.Bits.{off_is}
 
 -- ---- stacks
 
@@ -62,15 +65,6 @@ above_stack : (stack : List Kind) (k : Kind) → All (λ x. kind_number x < kind
 above_stack [] k a s = (tt, s)
 above_stack (h ∷ stack) k a s = (All-head (λ x. kind_number x < kind_number k) h stack a, s)
 
-same_of : (k : Kind) → kind_of (kind_number k) ≡ k
-same_of kind.Main = refl
-same_of kind.Uart = refl
-same_of kind.Tick = refl
-same_of kind.Cap = refl
-same_of kind.Cmp = refl
-same_of kind.Pwm = refl
-same_of kind.Comm = refl
-
 -- ---- the open kinds after a step
 
 enter_stack : (p : Place) (t k : ℕ) → (next p (note.Enter (record { 0 = t }) k)).stack ≡ kind_of k ∷ p.stack
@@ -94,16 +88,17 @@ enter_stack p t k = by_tests (k == 3) (k == 2) (k == 0)
     by_tests false false true = refl
     by_tests false false false = refl
 
-quiet_next : (p : Place) (n : Note) → is_entry n ≡ false → leaves (n ∷ []) ≡ false → (next p n).stack ≡ p.stack
+quiet_next : (p : Place) (n : Note) → is_entry n ≡ false → has_leave (n ∷ []) ≡ false → (next p n).stack ≡ p.stack
 quiet_next p (note.Enter t k) e l = absurd (cc)
 quiet_next p (note.Leave t k) e l = absurd (cc)
 quiet_next p n e l = refl
 
-leaves_parts : (n : Note) (notes : List Note) → leaves (n ∷ notes) ≡ false → (leaves (n ∷ []) ≡ false) × (leaves notes ≡ false)
+leaves_parts : (n : Note) (notes : List Note) → has_leave (n ∷ notes) ≡ false → (has_leave (n ∷ []) ≡ false) × (has_leave notes ≡ false)
 leaves_parts (note.Leave t k) notes e = absurd (cc)
 leaves_parts n notes e = (refl, e)
 
-quiet_stack : (before notes : List Note) → All (λ n. is_entry n ≡ false) notes → leaves notes ≡ false → (place (before ++ notes)).stack ≡ (place before).stack
+quiet_stack : (before notes : List Note) → All (λ n. is_entry n ≡ false) notes → has_leave notes ≡ false
+    → (place (before ++ notes)).stack ≡ (place before).stack
 quiet_stack before [] e l = ap (λ (x : List Note). (place x).stack) (append-nil before)
 quiet_stack before (n ∷ notes) e l =
     let parts = leaves_parts n notes l in
@@ -117,17 +112,18 @@ front_entries [] ys a = All-nil (λ n. is_entry n ≡ false)
 front_entries (x ∷ xs) ys a = All-cons (λ n. is_entry n ≡ false) x xs (All-head (λ n. is_entry n ≡ false) x (xs ++ ys) a)
     (front_entries xs ys (All-tail (λ n. is_entry n ≡ false) x (xs ++ ys) a))
 
-leaves_back : (front : List Note) (b : Bool) (t k : ℕ) → leaves front ≡ false → leaves (front ++ (if b then note.Leave (record { 0 = t }) k ∷ [] else [])) ≡ b
+leaves_back : (front : List Note) (b : Bool) (t k : ℕ) → has_leave front ≡ false
+    → has_leave (front ++ (if b then note.Leave (record { 0 = t }) k ∷ [] else [])) ≡ b
 leaves_back [] true t k e = refl
 leaves_back [] false t k e = refl
 leaves_back (n ∷ front) b t k e = let parts = leaves_parts n front e in cons n (front ++ (if b then note.Leave (record { 0 = t }) k ∷ [] else [])) b parts.0
     (leaves_back front b t k parts.1)
   where
-    cons : (x : Note) (rest : List Note) (c : Bool) → leaves (x ∷ []) ≡ false → leaves rest ≡ c → leaves (x ∷ rest) ≡ c
+    cons : (x : Note) (rest : List Note) (c : Bool) → has_leave (x ∷ []) ≡ false → has_leave rest ≡ c → has_leave (x ∷ rest) ≡ c
     cons (note.Leave u j) rest c f g = absurd (cc)
     cons x rest c f g = g
 
-own_stack : (before front : List Note) (b : Bool) (t k : ℕ) → All (λ n. is_entry n ≡ false) front → leaves front ≡ false
+own_stack : (before front : List Note) (b : Bool) (t k : ℕ) → All (λ n. is_entry n ≡ false) front → has_leave front ≡ false
     → (place (before ++ (front ++ (if b then note.Leave (record { 0 = t }) k ∷ [] else [])))).stack ≡
     (if b then outer_ones (place before).stack else (place before).stack)
 own_stack before front false t k e l = ap (λ (x : List Note). (place (before ++ x)).stack) (append-nil front) ∙ quiet_stack before front e l
@@ -160,41 +156,35 @@ open_out loaded cost trace before e f b = record {
       ap (λ (x : List Note). (place x).stack) (journal-push loaded before e ∙ ap (λ (x : List Note). journal loaded before ++ x) (f.entry q))
       ∙ ap (λ (p : Place). p.stack) (place-push (journal loaded before) (note.Enter (record { 0 = e.tick }) (kind_number e.kind)))
       ∙ enter_stack (place (journal loaded before)) e.tick (kind_number e.kind)
-      ∙ ap (λ (k : Kind). k ∷ open_in loaded before) (same_of e.kind);
+      ∙ ap (λ (k : Kind). k ∷ open_in loaded before) (kind_of-number e.kind);
   own = λ q.
       ap (λ (x : List Note). (place x).stack) (journal-push loaded before e ∙ ap (λ (x : List Note). journal loaded before ++ x) b.notes_are)
       ∙ own_stack (journal loaded before) b.front b.back e.tick (kind_number e.kind) (front_entries b.front _ (subst (λ (x : List Note). All
       (λ n. is_entry n ≡ false) x) b.notes_are (f.no_entry q))) b.none;
 }
 
-back_is : (e : Turned) (b : OneBack e) → leaves e.notes ≡ b.back
-back_is e b = ap leaves b.notes_are ∙ leaves_back b.front b.back e.tick (kind_number e.kind) b.none
+back_is : (e : Turned) (b : OneBack e) → has_leave e.notes ≡ b.back
+back_is e b = ap has_leave b.notes_are ∙ leaves_back b.front b.back e.tick (kind_number e.kind) b.none
 
 -- an entry has no O
 entry_leaves : (loaded : Loaded) (cost : ℕ) (trace : List Event) (before : List Turned) (e : Turned) → StepFits loaded Full cost trace before e
-    → e.enters ≡ true → leaves e.notes ≡ false
-entry_leaves loaded cost trace before e f q = ap leaves (f.entry q)
+    → e.enters ≡ true → has_leave e.notes ≡ false
+entry_leaves loaded cost trace before e f q = ap has_leave (f.entry q)
 
 -- the innermost open kind is on top
-top_is : (stack : List Kind) (k : Kind) → innermost stack ≡ Some k → stack ≡ k ∷ outer_ones stack
-top_is [] k e = absurd (cc)
-top_is (h ∷ outer) k e = ap (λ (x : Kind). x ∷ outer) (some_same h k e)
-  where
-    some_same : (x y : Kind) → Some x ≡ Some y → x ≡ y
-    some_same x y e = cc
-
 -- whether a kind is open after a step
 open_self : (stack stack' : List Kind) (k : Kind) (back : Bool) → IsStack stack → innermost stack ≡ Some k
     → stack' ≡ (if back then outer_ones stack else stack) → is_open stack' k ≡ not back
-open_self stack stack' k true s top e = ap (λ (x : List Kind). is_open x k) e ∙ none_twice (outer_ones stack) k (subst IsStack (top_is stack k top) s)
-open_self stack stack' k false s top e = ap (λ (x : List Kind). is_open x k) (e ∙ top_is stack k top) ∙ rw (same (kind_number k)) refl
+open_self stack stack' k true s top e = ap (λ (x : List Kind). is_open x k) e ∙ none_twice (outer_ones stack) k (subst IsStack (innermost_first stack k top) s)
+open_self stack stack' k false s top e = ap (λ (x : List Kind). is_open x k) (e ∙ innermost_first stack k top) ∙ rw (same (kind_number k)) refl
   where
     same : (x : ℕ) → (x == x) ≡ true
     same x = grind (arith, nat_tests)
 
 open_other : (stack stack' : List Kind) (k j : Kind) (back : Bool) → (kind_number k == kind_number j) ≡ false → innermost stack ≡ Some k
     → stack' ≡ (if back then outer_ones stack else stack) → is_open stack' j ≡ is_open stack j
-open_other stack stack' k j true ne top e = ap (λ (x : List Kind). is_open x j) e ∙ sym (ap (λ (x : List Kind). is_open x j) (top_is stack k top) ∙ rw ne refl)
+open_other stack stack' k j true ne top e =
+    ap (λ (x : List Kind). is_open x j) e ∙ sym (ap (λ (x : List Kind). is_open x j) (innermost_first stack k top) ∙ rw ne refl)
 open_other stack stack' k j false ne top e = ap (λ (x : List Kind). is_open x j) e
 
 open_entered : (stack stack' : List Kind) (k j : Kind) → (kind_number k == kind_number j) ≡ false → stack' ≡ k ∷ stack → is_open stack' j ≡ is_open stack j
@@ -207,10 +197,10 @@ record StepIn (loaded : Loaded) (cost : ℕ) (trace : List Event) (before : List
   bridge : BridgeFits loaded trace before (record { tick = t; kind = k; enters = en; notes = ns })
 
 turn_is : (loaded : Loaded) (cost : ℕ) (trace : List Event) (before : List Turned) (k : Kind) (en : Bool) (t : ℕ) (ns : List Note)
-    → StepIn loaded cost trace before k en t ns → IsTurn (view before) (by_kind k en (leaves ns))
+    → StepIn loaded cost trace before k en t ns → IsTurn (view before) (by_kind k en (has_leave ns))
 turn_is loaded cost trace before kind.Comm true t ns i = i.link.comm ∙ all_below (open_in loaded before) 6 6 (i.bridge.above refl) kind.Comm refl (omega arith)
 turn_is loaded cost trace before kind.Comm false t ns i = record {
-  is_open = i.link.comm ∙ ap (λ (x : List Kind). is_open x kind.Comm) (top_is (open_in loaded before) kind.Comm (i.fits.own refl));
+  is_open = i.link.comm ∙ ap (λ (x : List Kind). is_open x kind.Comm) (innermost_first (open_in loaded before) kind.Comm (i.fits.own refl));
   few = let a : own_steps kind.Comm (before ++ record { tick = t; kind = kind.Comm; enters = false; notes = ns } ∷ []) ≤ 24 = i.fits.few refl in
       let b : own_steps kind.Comm (before ++ record { tick = t; kind = kind.Comm; enters = false; notes = ns } ∷ []) ≡ own_steps kind.Comm before + 1 =
       own-push kind.Comm before (record { tick = t; kind = kind.Comm; enters = false; notes = ns }) in
@@ -221,7 +211,7 @@ turn_is loaded cost trace before kind.Pwm true t ns i = record {
   pwm = i.link.pwm ∙ all_below (open_in loaded before) 5 5 (i.bridge.above refl) kind.Pwm refl (omega arith);
 }
 turn_is loaded cost trace before kind.Pwm false t ns i =
-    let top = top_is (open_in loaded before) kind.Pwm (i.fits.own refl) in
+    let top = innermost_first (open_in loaded before) kind.Pwm (i.fits.own refl) in
     let a : own_steps kind.Pwm (before ++ record { tick = t; kind = kind.Pwm; enters = false; notes = ns } ∷ []) ≤ 12 = i.fits.few refl in
     let b : own_steps kind.Pwm (before ++ record { tick = t; kind = kind.Pwm; enters = false; notes = ns } ∷ []) ≡ own_steps kind.Pwm before + 1 =
     own-push kind.Pwm before (record { tick = t; kind = kind.Pwm; enters = false; notes = ns }) in
@@ -238,7 +228,7 @@ turn_is loaded cost trace before k true t ns i = record {
   pwm = i.link.pwm ∙ all_below (open_in loaded before) (kind_number k) 5 (i.bridge.above refl) kind.Pwm refl (omega arith);
 }
 turn_is loaded cost trace before k false t ns i =
-    let top = top_is (open_in loaded before) k (i.fits.own refl) in
+    let top = innermost_first (open_in loaded before) k (i.fits.own refl) in
     record {
       comm = i.link.comm ∙ ap (λ (x : List Kind). is_open x kind.Comm) top
           ∙ none_above (outer_ones (open_in loaded before)) k kind.Comm (subst IsStack top i.link.sorted) (omega arith);
@@ -265,7 +255,7 @@ sorted_next loaded cost trace before k false t ns i =
     let o = open_out loaded cost trace before (step_of k false t ns) i.fits i.bridge.one_back in
     subst IsStack (sym (o.own refl)) (sorted_own (open_in loaded before) i.bridge.one_back.back i.link.sorted)
 
--- another kind's step leaves whether it is open
+-- another kind's step has_leave whether it is open
 others_next : (loaded : Loaded) (cost : ℕ) (trace : List Event) (before : List Turned) (k j : Kind) (en : Bool) (t : ℕ) (ns : List Note)
     → StepIn loaded cost trace before k en t ns → (kind_number k == kind_number j) ≡ false
     → is_open (open_in loaded (before ++ step_of k en t ns ∷ [])) j ≡ is_open (open_in loaded before) j
@@ -286,7 +276,7 @@ self_entered loaded cost trace before k t ns i =
     same x = grind (arith, nat_tests)
 
 self_own : (loaded : Loaded) (cost : ℕ) (trace : List Event) (before : List Turned) (k : Kind) (t : ℕ) (ns : List Note)
-    → StepIn loaded cost trace before k false t ns → is_open (open_in loaded (before ++ step_of k false t ns ∷ [])) k ≡ not (leaves ns)
+    → StepIn loaded cost trace before k false t ns → is_open (open_in loaded (before ++ step_of k false t ns ∷ [])) k ≡ not (has_leave ns)
 self_own loaded cost trace before k t ns i =
     let o = open_out loaded cost trace before (step_of k false t ns) i.fits i.bridge.one_back in
     open_self (open_in loaded before) _ k i.bridge.one_back.back i.link.sorted (i.fits.own refl) (o.own refl)
@@ -340,23 +330,19 @@ wait_mono true true false b' a' c' w w' f g e le = rw (f refl, g refl, e) le
 wait_mono true false c b' a' c' w w' f g e le = omega arith
 wait_mono false a c b' a' c' w w' f g e le = omega arith
 
-both_true : (a b : Bool) → a ≡ true → b ≡ true → (a && b) ≡ true
-both_true true b e f = f
-both_true false b e f = e
-
 pwm_is_called : (loaded : Loaded) (trace : List Event) (log : List Turned) (t : ℕ) → CallsSeen loaded trace log
     → (view log).pwm ≡ is_open (open_in loaded log) kind.Pwm → pwm_called (view log) t ≡ true → is_called loaded trace log t kind.Pwm ≡ true
 pwm_is_called loaded trace log t c e q =
     let p = and_parts _ (not (view log).pwm) q in
     let r : not (is_open (open_in loaded log) kind.Pwm) ≡ true = ap not (sym e) ∙ p.1 in
-    both_true (sees loaded trace (journal loaded log) t kind.Pwm) (not (is_open (open_in loaded log) kind.Pwm)) (c.pwm t q) r
+    and_from (sees loaded trace (journal loaded log) t kind.Pwm) (not (is_open (open_in loaded log) kind.Pwm)) (c.pwm t q) r
 
 comm_is_called : (loaded : Loaded) (trace : List Event) (log : List Turned) (t : ℕ) → CallsSeen loaded trace log
     → (view log).comm ≡ is_open (open_in loaded log) kind.Comm → comm_called (view log) t ≡ true → is_called loaded trace log t kind.Comm ≡ true
 comm_is_called loaded trace log t c e q =
     let p = and_parts _ (not (view log).comm) q in
     let r : not (is_open (open_in loaded log) kind.Comm) ≡ true = ap not (sym e) ∙ p.1 in
-    both_true (sees loaded trace (journal loaded log) t kind.Comm) (not (is_open (open_in loaded log) kind.Comm)) (c.comm t q) r
+    and_from (sees loaded trace (journal loaded log) t kind.Comm) (not (is_open (open_in loaded log) kind.Comm)) (c.comm t q) r
 
 pwm_counts : (k : Kind) (en l : Bool) → counts Full kind.Pwm (Some k) ≡ not (is_comm (by_kind k en l))
 pwm_counts kind.Comm true l = refl
@@ -392,7 +378,7 @@ link_next loaded cost trace before e d i =
           ++ e ∷ [])) e.tick) (not (is_comm (by_of e))) (is_called loaded trace before e.tick kind.Pwm) (is_called loaded trace (before
           ++ e ∷ []) e.tick kind.Pwm) (counts Full kind.Pwm (Some e.kind)) (view before).pwm_waits (called loaded Full trace before kind.Pwm)
           (pwm_is_called loaded trace before e.tick c i.link.pwm) (pwm_is_called loaded trace (before
-          ++ e ∷ []) e.tick c' o.pwm) (pwm_counts e.kind e.enters (leaves e.notes)) i.link.pwm_waits);
+          ++ e ∷ []) e.tick c' o.pwm) (pwm_counts e.kind e.enters (has_leave e.notes)) i.link.pwm_waits);
       comm_waits = rw (comm_waits_after before e, called-push loaded Full trace before e kind.Comm)
           (wait_mono (comm_called (view before) e.tick) (comm_called (view (before
           ++ e ∷ [])) e.tick) true (is_called loaded trace before e.tick kind.Comm) (is_called loaded trace (before
@@ -404,17 +390,13 @@ link_next loaded cost trace before e d i =
 
 -- ---- no tick is passed over
 
-not_true : (v : Bool) → (v ≡ true → ⊥) → v ≡ false
-not_true true f = absurd (f refl)
-not_true false f = refl
-
 rests_idle : (loaded : Loaded) (trace : List Event) (log : List Turned) (t : ℕ) → Linked loaded trace log → CallsSeen loaded trace log
-    → open_in loaded log ≡ [] → ((k : Kind) → sees loaded trace (journal loaded log) t k ≡ false) → Rests (view log) t
+    → open_in loaded log ≡ [] → ((k : Kind) → sees loaded trace (journal loaded log) t k ≡ false) → BothIdle (view log) t
 rests_idle loaded trace log t l c e none = record {
   comm = l.comm ∙ ap (λ (x : List Kind). is_open x kind.Comm) e;
   pwm = l.pwm ∙ ap (λ (x : List Kind). is_open x kind.Pwm) e;
-  pwm_called = not_true _ (λ q. clash _ (c.pwm t q) (none kind.Pwm));
-  comm_called = not_true _ (λ q. clash _ (c.comm t q) (none kind.Comm));
+  pwm_called = off_is _ (λ q. clash _ (c.pwm t q) (none kind.Pwm));
+  comm_called = off_is _ (λ q. clash _ (c.comm t q) (none kind.Comm));
 }
   where
     clash : (v : Bool) → v ≡ true → v ≡ false → ⊥
@@ -442,13 +424,13 @@ end_passes loaded cost trace log until l c f t lo hi free = elim (idle_or_not (o
 
 fits_from : (loaded : Loaded) (cost : ℕ) (trace : List Event) (d : SeesDrive loaded trace) (before rest : List Turned) → Linked loaded trace before
     → EachStep (StepFits loaded Full cost trace) before rest → EachStep (BridgeFits loaded trace) before rest
-    → EachStep (LawFits cost trace) before rest × Linked loaded trace (before ++ rest)
+    → EachStep (StepMade cost trace) before rest × Linked loaded trace (before ++ rest)
 fits_from loaded cost trace d before [] l f g = (tt, subst (λ (x : List Turned). Linked loaded trace x) (sym (append-nil before)) l)
 fits_from loaded cost trace d before (e ∷ rest) l f g =
     let i : StepIn loaded cost trace before e.kind e.enters e.tick e.notes = record { link = l; fits = f.0; bridge = g.0 } in
     let n = link_next loaded cost trace before e d i in
     let more = fits_from loaded cost trace d (before ++ e ∷ []) rest n f.1 g.1 in
-    let one : LawFits cost trace before e = record {
+    let one : StepMade cost trace before e = record {
       later = f.0.later;
       none_passed = step_passes loaded cost trace before e l (seen_of loaded trace before d l.asks) f.0;
       turn = turn_is loaded cost trace before e.kind e.enters e.tick e.notes i;

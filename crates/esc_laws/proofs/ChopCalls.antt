@@ -18,7 +18,7 @@ use Rattle.esc_base.specs.Legs.{is_on}
 use Rattle.commutation.specs.Sectors.{low_of}
 use Rattle.gate_driver.specs.DeadSafe.{low_at, high_free_at}
 use Rattle.commutation.specs.Commutated.{sector_at}
-use Rattle.esc_laws.specs.ChopView.{View, view, moved, noted, by_kind, leaves, pwm_called, comm_called}
+use Rattle.esc_laws.specs.ChopView.{View, view, moved_by, told_by, by_kind, has_leave, pwm_called, comm_called}
 use Rattle.esc_base.specs.Periods.{edges}
 use Rattle.gate_driver.specs.Gated.{at_leg}
 use Rattle.esc_laws.specs.Calls.{pwm_entered_at, pwm_asked_at, calls_pwm, calls_low}
@@ -31,7 +31,7 @@ pub record Asks (v : View) (back : List Note) : Type 0 where
   pub asked : v.asked ≡ pwm_asked_at back
 
 -- a note that is no I
-asks_note : (v : View) (back : List Note) (n : Note) → is_entry n ≡ false → Asks v back → Asks (noted v n) (n ∷ back)
+asks_note : (v : View) (back : List Note) (n : Note) → is_entry n ≡ false → Asks v back → Asks (told_by v n) (n ∷ back)
 asks_note v back (note.Enter t k) e a = absurd (cc)
 asks_note v back (note.Control t number marks d) e a = record { entered = a.entered; asked = refl }
 asks_note v back (note.Gate t hi lo) e a = record { entered = a.entered; asked = a.asked }
@@ -39,39 +39,39 @@ asks_note v back (note.Step t s) e a = record { entered = a.entered; asked = a.a
 asks_note v back n e a = record { entered = a.entered; asked = a.asked }
 
 asks_notes : (v : View) (before notes : List Note) → All (λ n. is_entry n ≡ false) notes → Asks v (reverse before)
-    → Asks (fold noted v notes) (reverse (before ++ notes))
+    → Asks (fold told_by v notes) (reverse (before ++ notes))
 asks_notes v before [] e a = subst (λ (l : List Note). Asks v (reverse l)) (sym (append-nil before)) a
 asks_notes v before (n ∷ notes) e a =
-    subst (λ (l : List Note). Asks (fold noted (noted v n) notes) (reverse l)) (append_assoc before (n ∷ []) notes)
-    (asks_notes (noted v n) (before ++ n ∷ []) notes (All-tail (λ x. is_entry x ≡ false) n notes e)
-    (subst (λ (l : List Note). Asks (noted v n) l) (sym (reverse-append before (n ∷ [])))
+    subst (λ (l : List Note). Asks (fold told_by (told_by v n) notes) (reverse l)) (append_assoc before (n ∷ []) notes)
+    (asks_notes (told_by v n) (before ++ n ∷ []) notes (All-tail (λ x. is_entry x ≡ false) n notes e)
+    (subst (λ (l : List Note). Asks (told_by v n) l) (sym (reverse-append before (n ∷ [])))
     (asks_note v (reverse before) n (All-head (λ x. is_entry x ≡ false) n notes e) a)))
 
 -- what a step that is no entry moves
-asks_own : (k : Kind) (l : Bool) (v : View) (t : ℕ) (back : List Note) → Asks v back → Asks (moved v (by_kind k false l) t) back
+asks_own : (k : Kind) (l : Bool) (v : View) (t : ℕ) (back : List Note) → Asks v back → Asks (moved_by v (by_kind k false l) t) back
 asks_own kind.Comm l v t back a = record { entered = a.entered; asked = a.asked }
 asks_own kind.Pwm l v t back a = record { entered = a.entered; asked = a.asked }
 asks_own k l v t back a = a
 
 -- an entry
 asks_entry : (k : Kind) (l : Bool) (v : View) (t : ℕ) (back : List Note) → Asks v back
-    → Asks (moved v (by_kind k true l) t) (note.Enter (record { 0 = t }) (kind_number k) ∷ back)
+    → Asks (moved_by v (by_kind k true l) t) (note.Enter (record { 0 = t }) (kind_number k) ∷ back)
 asks_entry kind.Pwm l v t back a = record { entered = refl; asked = refl }
 asks_entry kind.Comm l v t back a = record { entered = a.entered; asked = a.asked }
 asks_entry k l v t back a = record { entered = a.entered; asked = a.asked }
 
 asks_step : (loaded : Loaded) (cost : ℕ) (trace : List Event) (before : List Turned) (k : Kind) (en : Bool) (t : ℕ) (ns : List Note)
     → StepFits loaded Full cost trace before (record { tick = t; kind = k; enters = en; notes = ns }) → Asks (view before) (reverse (journal loaded before))
-    → Asks (fold noted (moved (view before) (by_kind k en (leaves ns)) t) ns) (reverse (journal loaded before ++ ns))
+    → Asks (fold told_by (moved_by (view before) (by_kind k en (has_leave ns)) t) ns) (reverse (journal loaded before ++ ns))
 asks_step loaded cost trace before k true t ns f a =
-    subst (λ (l : List Note). Asks (fold noted (moved (view before) (by_kind k true (leaves ns)) t) l) (reverse (journal loaded before ++ l)))
+    subst (λ (l : List Note). Asks (fold told_by (moved_by (view before) (by_kind k true (has_leave ns)) t) l) (reverse (journal loaded before ++ l)))
     (sym (f.entry refl))
-    (subst (λ (l : List Note). Asks (moved (view before) (by_kind k true (leaves ns)) t) l)
+    (subst (λ (l : List Note). Asks (moved_by (view before) (by_kind k true (has_leave ns)) t) l)
     (sym (reverse-append (journal loaded before) (note.Enter (record { 0 = t }) (kind_number k) ∷ [])))
-    (asks_entry k (leaves ns) (view before) t (reverse (journal loaded before)) a))
+    (asks_entry k (has_leave ns) (view before) t (reverse (journal loaded before)) a))
 asks_step loaded cost trace before k false t ns f a =
-    asks_notes (moved (view before) (by_kind k false (leaves ns)) t) (journal loaded before) ns (f.no_entry refl)
-    (asks_own k (leaves ns) (view before) t (reverse (journal loaded before)) a)
+    asks_notes (moved_by (view before) (by_kind k false (has_leave ns)) t) (journal loaded before) ns (f.no_entry refl)
+    (asks_own k (has_leave ns) (view before) t (reverse (journal loaded before)) a)
 
 pub asks_next : (loaded : Loaded) (cost : ℕ) (trace : List Event) (before : List Turned) (e : Turned) → StepFits loaded Full cost trace before e
     → Asks (view before) (reverse (journal loaded before)) → Asks (view (before ++ e ∷ [])) (reverse (journal loaded (before ++ e ∷ [])))

@@ -20,12 +20,6 @@ past_low t (event.Edge at level) a b h m l = l
 past_low t (event.Comp at level) a b h m l = l
 past_low t (event.Serial at byte) a b h m l = l
 
-past_later : (t : ℕ) (e : Event) → t ≤ past_stall t e
-past_later t (event.Stall at n) = grind (arith, nat_tests)
-past_later t (event.Edge at level) = omega arith
-past_later t (event.Comp at level) = omega arith
-past_later t (event.Serial at byte) = omega arith
-
 same_from : (trace : List Event) (a b t : ℕ) → NoStall a b trace → a ≤ t → t ≤ b → fold past_stall t trace ≡ t
 same_from [] a b t n l m = refl
 same_from (s ∷ trace) a b t n l m = ap (λ (x : ℕ). fold past_stall x trace) (past_same t s a b n.0 l m) ∙ same_from trace a b t n.1 l m
@@ -34,10 +28,6 @@ low_from : (trace : List Event) (a b t : ℕ) → NoStall a b trace → a ≤ b 
 low_from [] a b t n m l = l
 low_from (s ∷ trace) a b t n m l = low_from trace a b (past_stall t s) n.1 m (past_low t s a b n.0 m l)
 
-later_from : (trace : List Event) (t : ℕ) → t ≤ fold past_stall t trace
-later_from [] t = omega arith
-later_from (s ∷ trace) t = let a = past_later t s in let b = later_from trace (past_stall t s) in omega arith
-
 pub free_same : (trace : List Event) (a b t : ℕ) → NoStall a b trace → a ≤ t → t ≤ b → free trace t ≡ t
 unfolding free
 free_same trace a b t n l m = same_from trace a b t n l m
@@ -45,7 +35,3 @@ free_same trace a b t n l m = same_from trace a b t n l m
 pub free_low : (trace : List Event) (a b t : ℕ) → NoStall a b trace → a ≤ b → t ≤ a → free trace t ≤ a
 unfolding free
 free_low trace a b t n m l = low_from trace a b t n m l
-
-pub free_later : (trace : List Event) (t : ℕ) → t ≤ free trace t
-unfolding free
-free_later trace t = later_from trace t

@@ -1,18 +1,20 @@
 -- PWM's write of what it read since an edge stands within 48 steps of it.
-use Rattle.std.proofs.Common.{◌≡◌, ◌≤◌, ◌<◌, ◌+◌, ◌-◌, ◌*◌, ◌%◌, ◌⊎◌, inl, inr, ℕ, Bool, true, false, not, ◌||◌, ◌==◌, if◌then◌else◌, nat_lt, refl, sym, ◌∙◌, subst, arith}
+use Rattle.std.proofs.Common.{◌≡◌, ◌≤◌, ◌<◌, ◌+◌, ◌-◌, ◌*◌, ◌%◌, ◌⊎◌, inl, inr, ℕ, Bool, true, false, not, ◌==◌, if◌then◌else◌, refl, sym, ◌∙◌, subst, arith}
 use Rattle.std.proofs.lemmas.Nat.{mul-le}
 use Rattle.std.proofs.lemmas.Bool.{cases_lt}
 use Rattle.std.proofs.lemmas.Bool.Decides.{nat_tests}
 use Rattle.esc_base.specs.Legs.{is_on}
 use Rattle.commutation.specs.Sectors.{high_of}
-use Rattle.esc_laws.specs.ChopView.{By, View, moved, pwm_called, wait_next, is_comm}
+use Rattle.esc_laws.specs.ChopView.{By, View, moved_by, pwm_called, wait_next, is_comm}
 use Rattle.esc_base.specs.Periods.{edges}
 use Rattle.esc_laws.specs.ChopView.By.{CommEnters, CommSteps, PwmEnters, PwmSteps, Lower}
-use Rattle.esc_laws.specs.ChopLog.{Rests}
+use Rattle.esc_laws.specs.ChopLog.{BothIdle}
 use Rattle.esc_laws.specs.ChopLaws.{IsTurn, Chops, may_chop, is_quiet}
 use Rattle.esc_laws.specs.ChopPlaced.{Placed}
 use Rattle.esc_laws.specs.ChopFresh.{IsEdge, Stale, Early, Fresh}
 use Rattle.esc_laws.proofs.ChopPlaced.{Same, own_cases, OwnFirst, OwnWrites, OwnOther}
+use Rattle.std.proofs.lemmas.Bool.{lt-ltb}
+use Rattle.std.proofs.lemmas.Bool.{or_right}
 
 -- ---- an edge calls PWM
 
@@ -20,22 +22,15 @@ edge_counts : (m d edge u t : ℕ) → d ≤ 1900 → IsEdge m d edge → u < ed
 edge_counts m d edge u t small (inl e) l le = omega arith
 edge_counts m d edge u t small (inr e) l le = omega arith
 
-lt_is : (m n : ℕ) → m < n → nat_lt m n ≡ true
-lt_is m n l = grind (arith, nat_tests)
-
-or_true : (f : Bool) → (f || true) ≡ true
-or_true true = refl
-or_true false = refl
-
 pub edge_calls : (m d edge t : ℕ) (v : View) → 0 < d → d ≤ 1900 → IsEdge m d edge → v.demand ≡ d → v.pwm ≡ false → v.entered < edge → edge ≤ t
     → pwm_called v t ≡ true
 edge_calls m d edge t v some small is e shut l le =
     let g : edges v.demand v.entered < edges v.demand t = rw e (edge_counts m d edge v.entered t small is l le) in
-    rw (lt_is 0 v.demand (omega arith), lt_is (edges v.demand v.entered) (edges v.demand t) g, shut, or_true v.asked) refl
+    rw (lt-ltb 0 v.demand (omega arith), lt-ltb (edges v.demand v.entered) (edges v.demand t) g, shut, or_right v.asked true refl) refl
 
 -- ---- one step less
 
-less : (cost n m : ℕ) → n + 1 ≤ m → n * cost + cost ≤ m * cost
+pub less : (cost n m : ℕ) → n + 1 ≤ m → n * cost + cost ≤ m * cost
 less cost n m le = let l : (n + 1) * cost ≤ m * cost = mul-le (n + 1) cost m cost le (omega arith) in omega (arith, l)
 
 some_left : (cost n : ℕ) → 1 ≤ n → cost ≤ n * cost
@@ -71,7 +66,7 @@ left_some cost edge x y v p s = by_open v.pwm refl
     ]
 
 -- what isn't written yet calls PWM, or one of the two is open
-pub not_resting : (cost m d edge x t : ℕ) (v : View) → 0 < d → d ≤ 1900 → IsEdge m d edge → v.demand ≡ d → Stale cost edge x v → edge ≤ t → Rests v t → ⊥
+pub not_resting : (cost m d edge x t : ℕ) (v : View) → 0 < d → d ≤ 1900 → IsEdge m d edge → v.demand ≡ d → Stale cost edge x v → edge ≤ t → BothIdle v t → ⊥
 not_resting cost m d edge x t v some small is e s le r =
     let c = edge_calls m d edge t v some small is e r.pwm (s.entered r.pwm) le in
     let f = r.pwm_called in cc
@@ -90,7 +85,7 @@ pub record Within (cost x x' m d s t : ℕ) (v : View) (by : By) (tick : ℕ) (w
   pub allowed : may_chop v tick ≡ true
   pub none_enters : by ≡ CommEnters → ⊥
   pub turn : IsTurn v by
-  pub same : Same (moved v by tick) w
+  pub same : Same (moved_by v by tick) w
   pub waits : w.pwm_waits ≡ wait_next (pwm_called v tick) (pwm_called w tick) (not (is_comm by)) v.pwm_waits
   pub patient : w.pwm_waits ≤ 8
   pub quiet : is_quiet v by ≡ true → w.hi ≡ v.hi
@@ -136,9 +131,9 @@ fresh_on cost x x' m d s t edge tick v w (PwmSteps l) is one p i f = by_own (own
     quiet n e = let q = i.quiet n in
         record { comm = i.same.comm ∙ f.comm; wrote = rw e f.wrote; past = rw e f.past; on = rw (e, q) f.on; off = rw (e, q) f.off }
 
-    by_own : OwnFirst v.pwm_own tick v.sampled v.wrote (moved v (PwmSteps l) tick).sampled (moved v (PwmSteps l) tick).wrote
-        ⊎ (OwnWrites v.pwm_own tick v.sampled v.wrote (moved v (PwmSteps l) tick).sampled (moved v (PwmSteps l) tick).wrote
-        ⊎ OwnOther v.pwm_own tick v.sampled v.wrote (moved v (PwmSteps l) tick).sampled (moved v (PwmSteps l) tick).wrote) → Fresh edge m d s t w
+    by_own : OwnFirst v.pwm_own tick v.sampled v.wrote (moved_by v (PwmSteps l) tick).sampled (moved_by v (PwmSteps l) tick).wrote
+        ⊎ (OwnWrites v.pwm_own tick v.sampled v.wrote (moved_by v (PwmSteps l) tick).sampled (moved_by v (PwmSteps l) tick).wrote
+        ⊎ OwnOther v.pwm_own tick v.sampled v.wrote (moved_by v (PwmSteps l) tick).sampled (moved_by v (PwmSteps l) tick).wrote) → Fresh edge m d s t w
     by_own (inl h) = quiet (let a = h.is in grind (arith, nat_tests)) (i.same.wrote ∙ h.wrote)
     by_own (inr (inr h)) = quiet (let a = h.fourth in grind (arith, nat_tests)) (i.same.wrote ∙ h.wrote)
     by_own (inr (inl h)) =

@@ -3,7 +3,6 @@ use Rattle.std.proofs.Common.{◌≡◌, ◌≤◌, ◌<◌, ◌+◌, ◌-◌, �
 use Rattle.std.proofs.lemmas.List.{reverse-append}
 use Rattle.std.proofs.lemmas.List.Elements.{All-head, All-tail, All-nil, All-cons, All-append, All-weaker}
 use Rattle.std.proofs.lemmas.Bool.{cases_lt}
-use Rattle.std.proofs.lemmas.Bool.Decides.{nat_tests}
 use Rattle.esc_base.specs.declared.event.Event.{Event}
 use Rattle.esc_base.specs.declared.note.Note.{Note}
 use Rattle.esc_base.specs.declared.note.Note.TheVariants as note
@@ -16,12 +15,7 @@ use Rattle.commutation.specs.Commutated.{sector_at}
 use Rattle.esc_laws.specs.Steps.{Turned, opening, load_number, notes_in, journal, Below, EachStep, StepFits}
 use Rattle.esc_laws.specs.Chopped.{upto, by_tick, disturbs, Undisturbed, Chopped}
 use Rattle.esc_laws.proofs.Notes.{all_front}
-
-le_is : (m n : ℕ) → m ≤ n → nat_le m n ≡ true
-le_is m n l = grind (arith, nat_tests)
-
-le_isnt : (m n : ℕ) → n < m → nat_le m n ≡ false
-le_isnt m n l = grind (arith, nat_tests)
+use Rattle.std.proofs.lemmas.Bool.{le-leb, lt-leb}
 
 -- ---- a front of one more step's notes
 
@@ -30,7 +24,7 @@ below_front : (t u : ℕ) (notes front : List Note) → t < u → All (λ n. tim
 below_front t u [] [] l a = refl
 below_front t u [] (n ∷ front) l a =
     let e : time_of n ≡ u = All-head (λ x. time_of x ≡ u) n front a in
-    rw (le_isnt (time_of n) t (omega arith)) refl
+    rw (lt-leb (time_of n) t (omega arith)) refl
 below_front t u (n ∷ notes) front l a =
     ap (λ (x : List Note). if nat_le (time_of n) t then n ∷ x else []) (below_front t u notes front l a)
 
@@ -38,7 +32,7 @@ below_front t u (n ∷ notes) front l a =
 pub all_upto : (t : ℕ) (notes : List Note) → All (λ n. time_of n ≤ t) notes → upto t notes ≡ notes
 all_upto t [] a = refl
 all_upto t (n ∷ notes) a =
-    rw (le_is (time_of n) t (All-head (λ x. time_of x ≤ t) n notes a))
+    rw (le-leb (time_of n) t (All-head (λ x. time_of x ≤ t) n notes a))
     (ap (λ (x : List Note). n ∷ x) (all_upto t notes (All-tail (λ x. time_of x ≤ t) n notes a)))
 
 front_tick : (t u : ℕ) (notes front : List Note) → t < u → All (λ n. time_of n ≡ u) front → by_tick t (notes ++ front) ≡ by_tick t notes

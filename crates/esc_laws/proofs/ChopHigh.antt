@@ -4,19 +4,20 @@ use Rattle.std.proofs.lemmas.Nat.{mul-le}
 use Rattle.std.proofs.lemmas.Bool.{cases_lt}
 use Rattle.esc_base.specs.declared.event.Event.{Event}
 use Rattle.esc_laws.specs.Steps.{free, Turned, after, EachStep}
-use Rattle.esc_laws.specs.ChopView.{By, View, view, moved, by_of, pwm_called, wait_next, is_comm}
+use Rattle.esc_laws.specs.ChopView.{By, View, view, moved_by, by_of, pwm_called, wait_next, is_comm}
 use Rattle.esc_laws.specs.ChopView.By.{CommEnters, CommSteps, PwmEnters, PwmSteps, Lower}
-use Rattle.esc_laws.specs.ChopLog.{made, at_tick, NonePassed}
-use Rattle.esc_laws.specs.ChopLaws.{StepFits, DriveFits, may_chop}
+use Rattle.esc_laws.specs.ChopLog.{steps_by, at_tick, NonePassed}
+use Rattle.esc_laws.specs.ChopLaws.{StepMade, DriveFits, may_chop}
 use Rattle.esc_laws.specs.ChopPeriods.{NoComm}
 use Rattle.esc_laws.specs.ChopCalm.{Calm}
 use Rattle.esc_laws.specs.ChopPlaced.{Placed}
 use Rattle.esc_laws.specs.ChopFresh.{IsEdge, Stale, Early, Fresh}
-use Rattle.esc_laws.proofs.ChopCalm.{free_same, free_low, free_later}
+use Rattle.esc_laws.proofs.ChopCalm.{free_same, free_low}
 use Rattle.esc_laws.proofs.ChopPushes.{view-push, AllBy, FirstAbove, made-split, by-push}
 use Rattle.esc_laws.proofs.Pushes.{after-push}
 use Rattle.esc_laws.proofs.ChopPlaced.{Same, next_same, next_placed}
 use Rattle.esc_laws.proofs.ChopFresh.{Within, left_some, not_resting, fresh_on, stale_on, early_stale}
+use Rattle.esc_laws.proofs.Stalls.{free_later}
 
 -- all steps stand below the next one
 abbrev pub Past : ℕ → List Event → List Turned → Type 0
@@ -31,10 +32,10 @@ past_on cost trace before e one le p w h =
 
 -- the view at a tick between two steps
 pub at_split : (t : ℕ) (log before rest : List Turned) → log ≡ before ++ rest → AllBy t before → FirstAbove t rest → at_tick t log ≡ view before
-at_split t log before rest e b f = ap (λ (l : List Turned). view (made t l)) e ∙ ap view (made-split t before rest b f)
+at_split t log before rest e b f = ap (λ (l : List Turned). view (steps_by t l)) e ∙ ap view (made-split t before rest b f)
 
 pub first_above : (cost : ℕ) (trace : List Event) (before rest : List Turned) (t : ℕ) → t < after cost trace before
-    → EachStep (StepFits cost trace) before rest → FirstAbove t rest
+    → EachStep (StepMade cost trace) before rest → FirstAbove t rest
 first_above cost trace before [] t l f = tt
 first_above cost trace before (e ∷ rest) t l f = let a = f.0.later in omega arith
 
@@ -42,8 +43,8 @@ pub split_on : (log before rest : List Turned) (e : Turned) → log ≡ before +
 split_on log before rest e h = h ∙ sym (append_assoc before (e ∷ []) rest)
 
 -- the view after a step
-pub same_after : (before : List Turned) (e : Turned) → Same (moved (view before) (by_of e) e.tick) (view (before ++ e ∷ []))
-same_after before e = subst (λ (w : View). Same (moved (view before) (by_of e) e.tick) w) (sym (view-push before e)) (next_same (view before) e)
+pub same_after : (before : List Turned) (e : Turned) → Same (moved_by (view before) (by_of e) e.tick) (view (before ++ e ∷ []))
+same_after before e = subst (λ (w : View). Same (moved_by (view before) (by_of e) e.tick) w) (sym (view-push before e)) (next_same (view before) e)
 
 pub waits_after : (before : List Turned) (e : Turned)
     → (view (before ++ e ∷ [])).pwm_waits ≡ wait_next (pwm_called (view before) e.tick) (pwm_called (view (before
@@ -51,7 +52,7 @@ pub waits_after : (before : List Turned) (e : Turned)
 waits_after before e = subst (λ (w : View). w.pwm_waits ≡ wait_next (pwm_called (view before) e.tick) (pwm_called w e.tick) (not (is_comm (by_of e)))
     (view before).pwm_waits) (sym (view-push before e)) refl
 
-pub placed_on : (cost : ℕ) (trace : List Event) (before : List Turned) (e : Turned) → StepFits cost trace before e
+pub placed_on : (cost : ℕ) (trace : List Event) (before : List Turned) (e : Turned) → StepMade cost trace before e
     → Placed cost (after cost trace before) (view before) → Placed cost (after cost trace (before ++ e ∷ [])) (view (before ++ e ∷ []))
 placed_on cost trace before e f p =
     let l = free_later trace (e.tick + cost) in
@@ -61,8 +62,8 @@ placed_on cost trace before e f p =
     (subst (λ (w : View). w.pwm_waits ≤ 8) (view-push before e) f.pwm_patient) (subst (λ (w : View). w.comm_waits ≤ 8) (view-push before e) f.comm_patient) p)
 
 -- before the edge
-moved_early : (v : View) (t edge : ℕ) (by : By) → v.entered < edge → v.sampled < edge → t < edge → ((moved v by t).entered < edge)
-    × ((moved v by t).sampled < edge)
+moved_early : (v : View) (t edge : ℕ) (by : By) → v.entered < edge → v.sampled < edge → t < edge → ((moved_by v by t).entered < edge)
+    × ((moved_by v by t).sampled < edge)
 moved_early v t edge CommEnters a b c = (a, b)
 moved_early v t edge (CommSteps l) a b c = (a, b)
 moved_early v t edge PwmEnters a b c = (c, b)
@@ -146,7 +147,7 @@ module _ (cost : ℕ) (trace : List Event) (log : List Turned) (m d s until t ed
       → (view before).demand ≡ d
   demand_at w before rest e b f lo hi = subst (λ (v : View). v.demand ≡ d) (at_split w log before rest e b f) (u.demand w lo hi)
 
-  within : (before rest : List Turned) (e : Turned) → log ≡ before ++ (e ∷ rest) → EachStep (StepFits cost trace) before (e ∷ rest) → DriveFits before e
+  within : (before rest : List Turned) (e : Turned) → log ≡ before ++ (e ∷ rest) → EachStep (StepMade cost trace) before (e ∷ rest) → DriveFits before e
       → NoComm (2000 * m) before e → Past cost trace before → edge ≤ e.tick → e.tick ≤ t
       → Within cost (after cost trace before) (e.tick + cost) m d s t (view before) (by_of e) e.tick (view (before ++ e ∷ []))
   within before rest e h f g none past ge le =
@@ -210,7 +211,7 @@ module _ (cost : ℕ) (trace : List Event) (log : List Turned) (m d s until t ed
         same = λ l. rw (after-push cost trace before e) (free_in (e.tick + cost) (omega arith) l);
       }
 
-  stale_step : (before rest : List Turned) (e : Turned) → log ≡ before ++ (e ∷ rest) → EachStep (StepFits cost trace) before (e ∷ rest) → DriveFits before e
+  stale_step : (before rest : List Turned) (e : Turned) → log ≡ before ++ (e ∷ rest) → EachStep (StepMade cost trace) before (e ∷ rest) → DriveFits before e
       → NoComm (2000 * m) before e → Past cost trace before
       → Placed cost (after cost trace before) (view before) → edge ≤ e.tick → e.tick ≤ t → IsStale before → IsStale (before ++ e ∷ [])
       ⊎ Written (before ++ e ∷ [])
@@ -230,10 +231,10 @@ module _ (cost : ℕ) (trace : List Event) (log : List Turned) (m d s until t ed
         | inr b ↦ inr (record { fresh = b })
       ]
 
-  pub run : (before rest : List Turned) → log ≡ before ++ rest → EachStep (StepFits cost trace) before rest → EachStep DriveFits before rest
+  pub run : (before rest : List Turned) → log ≡ before ++ rest → EachStep (StepMade cost trace) before rest → EachStep DriveFits before rest
       → EachStep (NoComm (2000 * m)) before rest → NonePassed cost trace log until → Past cost trace before
       → Placed cost (after cost trace before) (view before) → AllBy t before → State before → Fresh edge m d s t (at_tick t log)
-  run before [] h f g none made past p all st = subst (λ (v : View). Fresh edge m d s t v) (sym (at_split t log before [] h all tt)) (ends st)
+  run before [] h f g none all_made past p all st = subst (λ (v : View). Fresh edge m d s t v) (sym (at_split t log before [] h all tt)) (ends st)
     where
       whole : log ≡ before
       whole = h ∙ append-nil before
@@ -242,12 +243,13 @@ module _ (cost : ℕ) (trace : List Event) (log : List Turned) (m d s until t ed
       dem = let q = edge_in is in let a : 2000 * m ≤ edge = q.0 in demand_at t before [] h all tt (omega arith) in_period
 
       ends : State before → Fresh edge m d s t (view before)
-      ends (inl y) = absurd (stale_ends before until (subst (λ (l : List Turned). NonePassed cost trace l until) whole made) dem p below (early_is before p y))
-      ends (inr (a, inl y)) = absurd (stale_ends before until (subst (λ (l : List Turned). NonePassed cost trace l until) whole made) dem p below y)
+      ends (inl y) =
+          absurd (stale_ends before until (subst (λ (l : List Turned). NonePassed cost trace l until) whole all_made) dem p below (early_is before p y))
+      ends (inr (a, inl y)) = absurd (stale_ends before until (subst (λ (l : List Turned). NonePassed cost trace l until) whole all_made) dem p below y)
       ends (inr (a, inr y)) = y.fresh
-  run before (e ∷ rest) h f g none made past p all st = elim (cases_lt t e.tick) [
+  run before (e ∷ rest) h f g none all_made past p all st = elim (cases_lt t e.tick) [
     | inl lt ↦ subst (λ (v : View). Fresh edge m d s t v) (sym (at_split t log before (e ∷ rest) h all lt)) (ends lt st)
-    | inr le ↦ run (before ++ e ∷ []) rest (split_on log before rest e h) f.1 g.1 none.1 made (past_on cost trace before e one f.0.later past)
+    | inr le ↦ run (before ++ e ∷ []) rest (split_on log before rest e h) f.1 g.1 none.1 all_made (past_on cost trace before e one f.0.later past)
         (placed_on cost trace before e f.0 p) (by-push t before e all le) (goes le st)
   ]
     where

@@ -1,7 +1,6 @@
 -- From the laws of a log to `Chopped` of its journal.
-use Rattle.std.proofs.Common.{◌≡◌, ◌≢◌, ◌≤◌, ◌<◌, ◌+◌, ℕ, Bool, true, false, not, ◌==◌, if◌then◌else◌, nat_le, List, [], ◌∷◌, ◌++◌, reverse, refl, sym, ◌∙◌, ap, subst, arith, append-nil, All}
+use Rattle.std.proofs.Common.{◌≡◌, ◌≢◌, ◌≤◌, ◌<◌, ◌+◌, ℕ, Bool, true, false, not, ◌==◌, if◌then◌else◌, List, [], ◌∷◌, ◌++◌, reverse, refl, sym, ◌∙◌, ap, subst, arith, append-nil, All}
 use Rattle.std.specs.List.{fold}
-use Rattle.std.proofs.lemmas.List.{reverse-append}
 use Rattle.std.proofs.lemmas.List.Elements.{All-head, All-tail}
 use Rattle.std.proofs.lemmas.Bool.{and_parts, or_right}
 use Rattle.std.proofs.lemmas.Bool.Decides.{nat_tests}
@@ -27,7 +26,7 @@ use Rattle.esc_laws.specs.Calls.{calls_turn, calls_low}
 use Rattle.esc_laws.specs.Steps.{Turned, opening, notes_in, journal, own_steps, ReturnsLast, EachStep, StepFits, Awaits}
 use Rattle.esc_laws.specs.World.{Made, made_next, made}
 use Rattle.esc_laws.specs.ChopSteps.{told, ChopFits}
-use Rattle.esc_laws.specs.ChopView.{View, view, noted, moved, by_of, by_kind, leaves}
+use Rattle.esc_laws.specs.ChopView.{View, view, told_by, moved_by, by_of, by_kind, has_leave}
 use Rattle.esc_laws.specs.ChopView.By.{PwmSteps}
 use Rattle.esc_laws.specs.ChopLaws.{is_quiet, is_comm_step, DriveFits}
 use Rattle.esc_laws.specs.ChopPairs.{NoteFits, InPair, EachNote, PairFits}
@@ -40,6 +39,9 @@ use Rattle.esc_laws.proofs.ChopPushes.{view-push, view-none}
 use Rattle.esc_laws.proofs.ChopHigh.{same_after}
 use Rattle.esc_laws.proofs.ChopBack.{Says, says_all, says_note, says_moved}
 use Rattle.esc_laws.proofs.ChopBridge.{chopped_of}
+use Rattle.std.proofs.lemmas.Bool.{leb-true}
+use Rattle.arming.proofs.InOrder.{reverse-push}
+use Rattle.std.proofs.lemmas.Bool.{not-true}
 
 -- ---- PWM's own steps
 
@@ -53,7 +55,7 @@ step_of k en t ns = record { tick = t; kind = k; enters = en; notes = ns }
 
 -- what a step makes of both
 moves : (v : View) (m : Made) (own : ℕ) (k : Kind) (en l : Bool) (t : ℕ) → Agrees v m own
-    → Agrees (moved v (by_kind k en l) t) (made_next k en t m) (if kind_number kind.Pwm == kind_number k then (if en then 0 else own + 1) else own)
+    → Agrees (moved_by v (by_kind k en l) t) (made_next k en t m) (if kind_number kind.Pwm == kind_number k then (if en then 0 else own + 1) else own)
 moves v m own kind.Pwm true l t a = record { own_is = refl; sampled_is = a.sampled_is; counted = refl }
 moves v m own kind.Pwm false l t a =
     record { own_is = ap (λ (x : ℕ). x + 1) a.own_is; sampled_is = rw (a.own_is, a.sampled_is) refl; counted = ap (λ (x : ℕ). x + 1) a.counted }
@@ -66,7 +68,7 @@ moves v m own k en l t a = record { own_is = a.own_is; sampled_is = a.sampled_is
 agrees_on : (before : List Turned) (e : Turned) → Agrees (view before) (made before) (own_steps kind.Pwm before)
     → Agrees (view (before ++ e ∷ [])) (made (before ++ e ∷ [])) (own_steps kind.Pwm (before ++ e ∷ []))
 agrees_on before e a =
-    let n = moves (view before) (made before) (own_steps kind.Pwm before) e.kind e.enters (leaves e.notes) e.tick a in
+    let n = moves (view before) (made before) (own_steps kind.Pwm before) e.kind e.enters (has_leave e.notes) e.tick a in
     let s = same_after before e in
     record {
       own_is = s.pwm_own ∙ n.own_is ∙ sym (ap (λ (m : Made). m.pwm_own) (made-push before e));
@@ -109,13 +111,6 @@ pwm_steps kind.Cmp en l r e = absurd (cc)
 some_sector : (s : ℕ) → not (s == 0) ≡ true → 0 < s
 some_sector s e = grind (arith, nat_tests)
 
-not_on : (v : Bool) → not v ≡ true → v ≡ false
-not_on true e = cc
-not_on false e = refl
-
-is_le : (m n : ℕ) → nat_le m n ≡ true → m ≤ n
-is_le m n e = grind (arith, nat_tests)
-
 none_on : (x : Leg) → is_on 0 x ≡ false
 none_on leg.A = refl
 none_on leg.B = refl
@@ -128,12 +123,12 @@ drive_fits loaded before e a c =
     let s' : Says (view (before ++ e ∷ [])) (told loaded (before ++ e ∷ [])) = says_all loaded (before ++ e ∷ []) in
     record {
       quiet_high = λ d q. s'.hi
-          ∙ c.high (quiet_comm (view before) e.kind e.enters (leaves e.notes) q)
-          (λ is own four. quiet_pwm (view before) e.kind e.enters (leaves e.notes) q is own (a.own_is ∙ four)) (rw (← s.demand) d)
+          ∙ c.high (quiet_comm (view before) e.kind e.enters (has_leave e.notes) q)
+          (λ is own four. quiet_pwm (view before) e.kind e.enters (has_leave e.notes) q is own (a.own_is ∙ four)) (rw (← s.demand) d)
           ∙ sym s.hi;
-      quiet_low = λ d q. s'.lo ∙ c.low (low_comm e.kind e.enters (leaves e.notes) q) (rw (← s.demand) d) ∙ sym s.lo;
+      quiet_low = λ d q. s'.lo ∙ c.low (low_comm e.kind e.enters (has_leave e.notes) q) (rw (← s.demand) d) ∙ sym s.lo;
       chops = λ returns is four.
-          let p = pwm_steps e.kind e.enters (leaves e.notes) returns is in
+          let p = pwm_steps e.kind e.enters (has_leave e.notes) returns is in
           let w = c.chops p.0 p.1 (sym a.own_is ∙ four) in
           record {
             on = λ d may.
@@ -141,9 +136,9 @@ drive_fits loaded before e a c =
                 let y = and_parts (not (is_on (view before).lo (high_of (view before).sector))) _ x.1 in
                 rw (s'.hi, s.sector)
                 (w.on (rw (← a.sampled_is, ← s.demand) d) (rw (← s.sector) (some_sector (view before).sector x.0))
-                (rw (← s.lo, ← s.sector) (not_on (is_on (view before).lo (high_of (view before).sector)) y.0))
+                (rw (← s.lo, ← s.sector) (not-true (is_on (view before).lo (high_of (view before).sector)) y.0))
                 (rw (← s.sector, ← s.lo_free (high_of (view before).sector))
-                (is_le (at_leg (view before).lo_free (high_of (view before).sector)) e.tick y.1)));
+                (leb-true (at_leg (view before).lo_free (high_of (view before).sector)) e.tick y.1)));
             off = λ d x. rw (s'.hi, w.off (rw (← a.sampled_is, ← s.demand) d)) (none_on x);
           };
     }
@@ -153,7 +148,7 @@ drive_fits loaded before e a c =
 record Back (t k : ℕ) (notes : List Note) : Type 0 where
   front : List Note
   back : Bool
-  none : leaves front ≡ false
+  none : has_leave front ≡ false
   notes_are : notes ≡ front ++ (if back then note.Leave (record { 0 = t }) k ∷ [] else [])
 
 back_of : (t : ℕ) (k : Kind) (notes : List Note) → ReturnsLast k notes → All (λ n. time_of n ≡ t) notes → Back t (kind_number k) notes
@@ -167,7 +162,7 @@ back_of t k (n ∷ notes) r a =
 
 one_back : (loaded : Loaded) (cost : ℕ) (trace : List Event) (before : List Turned) (t : ℕ) (k : Kind) (en : Bool) (ns : List Note)
     → StepFits loaded Full cost trace before (step_of k en t ns) → OneBack (step_of k en t ns)
-one_back loaded cost trace before t k true ns f = record { front = ns; back = false; none = ap leaves (f.entry refl); notes_are = sym (append-nil ns) }
+one_back loaded cost trace before t k true ns f = record { front = ns; back = false; none = ap has_leave (f.entry refl); notes_are = sym (append-nil ns) }
 one_back loaded cost trace before t k false ns f =
     let b = back_of t k ns (f.returns refl) f.at_tick in
     record { front = b.front; back = b.back; none = b.none; notes_are = b.notes_are }
@@ -189,7 +184,7 @@ bridge_fits loaded cost trace before e a f c = record {
 -- the switches that are on after a step's notes, and each rule of them
 record Paired (v : View) (notes : List Note) : Type 0 where
   each : EachNote v notes
-  after : InPair (fold noted v notes)
+  after : InPair (fold told_by v notes)
 
 abbrev DrivenRule : List Note → Note → Type 0
 DrivenRule before n = IsDriven (reverse before) n
@@ -199,7 +194,7 @@ WaitsRule before n = TurnWaits (reverse before) n
 
 record NotePaired (v : View) (n : Note) : Type 0 where
   fits : NoteFits v n
-  after : InPair (noted v n)
+  after : InPair (told_by v n)
 
 note_paired : (v : View) (back : List Note) (n : Note) → Says v back → IsDriven back n → TurnWaits back n → InRange n → InPair v → NotePaired v n
 note_paired v back (note.Gate t hi lo) s d w r p =
@@ -211,20 +206,17 @@ note_paired v back (note.Step t x) s d w r p = record {
 note_paired v back (note.Control t n m d') s d w r p = record { fits = tt; after = record { high = p.high; low = p.low; sector = p.sector } }
 note_paired v back n s d w r p = record { fits = tt; after = p }
 
-reverse_push : (xs : List Note) (x : Note) → reverse (xs ++ x ∷ []) ≡ x ∷ reverse xs
-reverse_push xs x = reverse-append xs (x ∷ [])
-
 paired : (v : View) (before notes : List Note) → Says v (reverse before) → Each DrivenRule before notes → Each WaitsRule before notes → All InRange notes
     → InPair v → Paired v notes
 paired v before [] s d w r p = record { each = tt; after = p }
 paired v before (n ∷ notes) s d w r p =
     let one = note_paired v (reverse before) n s d.0 w.0 (All-head InRange n notes r) p in
-    let s' : Says (noted v n) (reverse (before ++ n ∷ [])) =
-    subst (λ (l : List Note). Says (noted v n) l) (sym (reverse_push before n)) (says_note v (reverse before) n s) in
-    let more = paired (noted v n) (before ++ n ∷ []) notes s' d.1 w.1 (All-tail InRange n notes r) one.after in
+    let s' : Says (told_by v n) (reverse (before ++ n ∷ [])) =
+    subst (λ (l : List Note). Says (told_by v n) l) (sym (reverse-push before n)) (says_note v (reverse before) n s) in
+    let more = paired (told_by v n) (before ++ n ∷ []) notes s' d.1 w.1 (All-tail InRange n notes r) one.after in
     record { each = (one.fits, one.after, more.each); after = more.after }
 
-pair_moved : (v : View) (k : Kind) (en l : Bool) (t : ℕ) → InPair v → InPair (moved v (by_kind k en l) t)
+pair_moved : (v : View) (k : Kind) (en l : Bool) (t : ℕ) → InPair v → InPair (moved_by v (by_kind k en l) t)
 pair_moved v kind.Comm true l t p = record { high = p.high; low = p.low; sector = p.sector }
 pair_moved v kind.Comm false l t p = record { high = p.high; low = p.low; sector = p.sector }
 pair_moved v kind.Pwm true l t p = record { high = p.high; low = p.low; sector = p.sector }
@@ -239,10 +231,10 @@ pairs_from : (loaded : Loaded) (before rest : List Turned) → Each DrivenRule (
     → Each WaitsRule (journal loaded before) (notes_in rest) → All InRange (notes_in rest) → InPair (view before) → EachStep PairFits before rest
 pairs_from loaded before [] d w r p = tt
 pairs_from loaded before (e ∷ rest) d w r p =
-    let one = paired (moved (view before) (by_of e) e.tick) (journal loaded before) e.notes
+    let one = paired (moved_by (view before) (by_of e) e.tick) (journal loaded before) e.notes
     (says_moved (view before) (by_of e) e.tick (told loaded before) (says_all loaded before))
     (each_front DrivenRule (journal loaded before) e.notes (notes_in rest) d) (each_front WaitsRule (journal loaded before) e.notes (notes_in rest) w)
-    (all_front InRange e.notes (notes_in rest) r) (pair_moved (view before) e.kind e.enters (leaves e.notes) e.tick p) in
+    (all_front InRange e.notes (notes_in rest) r) (pair_moved (view before) e.kind e.enters (has_leave e.notes) e.tick p) in
     let next : InPair (view (before ++ e ∷ [])) =
     subst InPair (sym (view-push before e)) (record { high = one.after.high; low = one.after.low; sector = one.after.sector }) in (
       one.each,

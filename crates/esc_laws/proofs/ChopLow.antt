@@ -1,36 +1,32 @@
 -- In an undisturbed period the low switch is on from 48 steps after its start on.
-use Rattle.std.proofs.Common.{◌≡◌, ◌≤◌, ◌<◌, ◌+◌, ◌-◌, ◌*◌, ◌⊎◌, inl, inr, ℕ, Bool, true, false, nat_lt, nat_le, List, [], ◌∷◌, ◌++◌, refl, sym, ◌∙◌, subst, arith, append-nil}
+use Rattle.std.proofs.Common.{◌≡◌, ◌≤◌, ◌<◌, ◌+◌, ◌-◌, ◌*◌, ◌⊎◌, inl, inr, ℕ, Bool, true, false, List, [], ◌∷◌, ◌++◌, refl, sym, ◌∙◌, subst, arith, append-nil}
 use Rattle.std.proofs.lemmas.Nat.{mul-le}
 use Rattle.std.proofs.lemmas.Bool.{cases_lt}
-use Rattle.std.proofs.lemmas.Bool.Decides.{nat_tests}
 use Rattle.esc_base.specs.Legs.{is_on}
 use Rattle.commutation.specs.Sectors.{low_of}
 use Rattle.esc_base.specs.declared.event.Event.{Event}
 use Rattle.esc_laws.specs.Steps.{free, Turned, after, EachStep}
-use Rattle.esc_laws.specs.ChopView.{By, View, view, moved, by_of, comm_called, wait_next}
+use Rattle.esc_laws.specs.ChopView.{By, View, view, moved_by, by_of, comm_called, wait_next}
 use Rattle.gate_driver.specs.Gated.{at_leg}
 use Rattle.esc_laws.specs.ChopView.By.{CommEnters, CommSteps, PwmEnters, PwmSteps, Lower}
 use Rattle.esc_laws.specs.ChopLog.{at_tick, NonePassed}
-use Rattle.esc_laws.specs.ChopLaws.{IsTurn, StepFits, DriveFits, is_comm_step}
+use Rattle.esc_laws.specs.ChopLaws.{IsTurn, StepMade, DriveFits, is_comm_step}
 use Rattle.esc_laws.specs.ChopPeriods.{NoComm}
 use Rattle.esc_laws.specs.ChopCalm.{Calm}
 use Rattle.esc_laws.specs.ChopPlaced.{Placed}
-use Rattle.esc_laws.proofs.ChopCalm.{free_same, free_low, free_later}
+use Rattle.esc_laws.proofs.ChopCalm.{free_same, free_low}
 use Rattle.esc_laws.proofs.ChopPushes.{view-push, AllBy, FirstAbove, by-push}
 use Rattle.esc_laws.proofs.Pushes.{after-push}
 use Rattle.esc_laws.proofs.ChopHigh.{Past, past_on, at_split, first_above, split_on, same_after, placed_on}
-
-lt_is : (m n : ℕ) → m < n → nat_lt m n ≡ true
-lt_is m n l = grind (arith, nat_tests)
-
-le_is : (m n : ℕ) → m ≤ n → nat_le m n ≡ true
-le_is m n l = grind (arith, nat_tests)
+use Rattle.std.proofs.lemmas.Bool.{le-leb, lt-ltb}
+use Rattle.esc_laws.proofs.ChopFresh.{less}
+use Rattle.esc_laws.proofs.Stalls.{free_later}
 
 -- an off low switch calls COMM
 low_calls : (d s f t : ℕ) (v : View) → 0 < d → v.demand ≡ d → v.sector ≡ s → is_on v.lo (low_of s) ≡ false → at_leg v.hi_free (low_of s) ≤ f → f ≤ t
     → v.comm ≡ false → comm_called v t ≡ true
 low_calls d s f t v some e h off free le shut =
-    rw (lt_is 0 v.demand (omega arith), h, off, le_is (at_leg v.hi_free (low_of s)) t (omega arith), shut) refl
+    rw (lt-ltb 0 v.demand (omega arith), h, off, le-leb (at_leg v.hi_free (low_of s)) t (omega arith), shut) refl
 
 both_called : (b a : Bool) (w : ℕ) → b ≡ true → a ≡ true → wait_next b a true w ≡ w + 1
 both_called b a w e f = rw (e, f) refl
@@ -40,15 +36,12 @@ waits_after : (before : List Turned) (e : Turned) → (view (before ++ e ∷ [])
 waits_after before e = subst (λ (w : View). w.comm_waits ≡ wait_next (comm_called (view before) e.tick) (comm_called w e.tick) true (view before).comm_waits)
     (sym (view-push before e)) refl
 
-less : (cost n m : ℕ) → n + 1 ≤ m → n * cost + cost ≤ m * cost
-less cost n m le = let l : (n + 1) * cost ≤ m * cost = mul-le (n + 1) cost m cost le (omega arith) in omega (arith, l)
-
 -- what a step leaves of COMM where it isn't its entry
 record CommLeft (v w : View) : Type 0 where
   shut : v.comm ≡ false → w.comm ≡ false
   more : v.comm ≡ true → (w.comm_own ≡ v.comm_own + 1) × (v.comm_own + 1 ≤ 24)
 
-moved_comm : (v : View) (t : ℕ) (by : By) → IsTurn v by → (by ≡ CommEnters → ⊥) → CommLeft v (moved v by t)
+moved_comm : (v : View) (t : ℕ) (by : By) → IsTurn v by → (by ≡ CommEnters → ⊥) → CommLeft v (moved_by v by t)
 moved_comm v t CommEnters turn none = absurd (none refl)
 moved_comm v t (CommSteps l) turn none = record { shut = λ e. absurd (let o = turn.is_open in cc); more = λ e. (refl, turn.few) }
 moved_comm v t PwmEnters turn none = record { shut = λ e. e; more = λ e. absurd (let o = turn.comm in cc) }
@@ -177,7 +170,7 @@ module _ (cost : ℕ) (trace : List Event) (log : List Turned) (m d s until t : 
     pub inside_after : Inside e.tick (before ++ e ∷ [])
     pub none_enters : by_of e ≡ CommEnters → ⊥
 
-  steps : (before rest : List Turned) (e : Turned) → log ≡ before ++ (e ∷ rest) → EachStep (StepFits cost trace) before (e ∷ rest)
+  steps : (before rest : List Turned) (e : Turned) → log ≡ before ++ (e ∷ rest) → EachStep (StepMade cost trace) before (e ∷ rest)
       → NoComm (2000 * m) before e → Past cost trace before → 2000 * m ≤ e.tick → e.tick ≤ t → Steps before e
   steps before rest e h f none past ge le =
       let later = f.0.later in
@@ -200,7 +193,7 @@ module _ (cost : ℕ) (trace : List Event) (log : List Turned) (m d s until t : 
       record { shut = λ a. same.comm ∙ c.shut a; more = λ a. (let b = c.more a in (same.comm_own ∙ b.0, b.1)) }
 
   -- a step before p + 39 cost
-  early_step : (before rest : List Turned) (e : Turned) → log ≡ before ++ (e ∷ rest) → EachStep (StepFits cost trace) before (e ∷ rest)
+  early_step : (before rest : List Turned) (e : Turned) → log ≡ before ++ (e ∷ rest) → EachStep (StepMade cost trace) before (e ∷ rest)
       → NoComm (2000 * m) before e → Past cost trace before → e.tick < 2000 * m + 39 * cost → e.tick ≤ t → Before before → Before (before ++ e ∷ [])
   early_step before rest e h f none past lt le b = elim (cases_lt e.tick (2000 * m)) [
     | inl l ↦ (
@@ -258,7 +251,7 @@ module _ (cost : ℕ) (trace : List Event) (log : List Turned) (m d s until t : 
       goes tick l (inr a) q z x = omega arith
 
   -- a step from p + 39 cost on
-  late_step : (before rest : List Turned) (e : Turned) → log ≡ before ++ (e ∷ rest) → EachStep (StepFits cost trace) before (e ∷ rest) → DriveFits before e
+  late_step : (before rest : List Turned) (e : Turned) → log ≡ before ++ (e ∷ rest) → EachStep (StepMade cost trace) before (e ∷ rest) → DriveFits before e
       → NoComm (2000 * m) before e → Past cost trace before → 2000 * m + 39 * cost ≤ e.tick → e.tick ≤ t
       → Placed cost (after cost trace before) (view before) → Waiting before ⊎ Done before → Waiting (before ++ e ∷ []) ⊎ Done (before ++ e ∷ [])
   late_step before rest e h f g none past ge le p st =
@@ -301,7 +294,7 @@ module _ (cost : ℕ) (trace : List Event) (log : List Turned) (m d s until t : 
           goes tick x r r' l (inl a) q z = omega arith
           goes tick x r r' l (inr a) q z = omega arith
 
-  pub low_run : (before rest : List Turned) → log ≡ before ++ rest → EachStep (StepFits cost trace) before rest → EachStep DriveFits before rest
+  pub low_run : (before rest : List Turned) → log ≡ before ++ rest → EachStep (StepMade cost trace) before rest → EachStep DriveFits before rest
       → EachStep (NoComm (2000 * m)) before rest → NonePassed cost trace log until → Past cost trace before
       → Placed cost (after cost trace before) (view before) → AllBy t before → State before → is_on (at_tick t log).lo (low_of s) ≡ true
   low_run before [] h f g none made past p all st =

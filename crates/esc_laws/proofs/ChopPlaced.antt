@@ -5,7 +5,7 @@ use Rattle.std.proofs.lemmas.Bool.Decides.{nat_tests}
 use Rattle.esc_base.specs.declared.note.Note.{Note}
 use Rattle.esc_base.specs.declared.note.Note.TheVariants as note
 use Rattle.esc_laws.specs.Steps.{Turned}
-use Rattle.esc_laws.specs.ChopView.{By, View, start, view_next, moved, noted, by_of}
+use Rattle.esc_laws.specs.ChopView.{By, View, unmoved, view_next, moved_by, told_by, by_of}
 use Rattle.esc_laws.specs.ChopView.By.{CommEnters, CommSteps, PwmEnters, PwmSteps, Lower}
 use Rattle.esc_laws.specs.ChopLaws.{IsTurn}
 use Rattle.esc_laws.specs.ChopPlaced.{Placed}
@@ -20,7 +20,7 @@ pub record Same (v w : View) : Type 0 where
   pub sampled : w.sampled ≡ v.sampled
   pub wrote : w.wrote ≡ v.wrote
 
-one_same : (v : View) (n : Note) → Same v (noted v n)
+one_same : (v : View) (n : Note) → Same v (told_by v n)
 one_same v (note.Gate t hi lo) = record { comm = refl; comm_own = refl; pwm = refl; pwm_own = refl; entered = refl; sampled = refl; wrote = refl }
 one_same v n = record { comm = refl; comm_own = refl; pwm = refl; pwm_own = refl; entered = refl; sampled = refl; wrote = refl }
 
@@ -35,13 +35,13 @@ same_on u v w a b = record {
   wrote = b.wrote ∙ a.wrote;
 }
 
-notes_same : (v : View) (notes : List Note) → Same v (fold noted v notes)
+notes_same : (v : View) (notes : List Note) → Same v (fold told_by v notes)
 notes_same v [] = record { comm = refl; comm_own = refl; pwm = refl; pwm_own = refl; entered = refl; sampled = refl; wrote = refl }
-notes_same v (n ∷ notes) = same_on v (noted v n) (fold noted (noted v n) notes) (one_same v n) (notes_same (noted v n) notes)
+notes_same v (n ∷ notes) = same_on v (told_by v n) (fold told_by (told_by v n) notes) (one_same v n) (notes_same (told_by v n) notes)
 
--- after a step the places are those that its kind moved to
-pub next_same : (v : View) (e : Turned) → Same (moved v (by_of e) e.tick) (view_next v e)
-next_same v e = let s = notes_same (moved v (by_of e) e.tick) e.notes in
+-- after a step the places are those that its kind moved_by to
+pub next_same : (v : View) (e : Turned) → Same (moved_by v (by_of e) e.tick) (view_next v e)
+next_same v e = let s = notes_same (moved_by v (by_of e) e.tick) e.notes in
     record { comm = s.comm; comm_own = s.comm_own; pwm = s.pwm; pwm_own = s.pwm_own; entered = s.entered; sampled = s.sampled; wrote = s.wrote }
 
 -- without the counts
@@ -152,7 +152,7 @@ still_stands cost x x' v w le st s = record {
   shut = rw (s.pwm, s.entered, s.wrote) st.shut;
 }
 
-moved_stands : (cost x x' t : ℕ) (v : View) (by : By) → x ≤ t → t + cost ≤ x' → IsTurn v by → Stands cost x v → Stands cost x' (moved v by t)
+moved_stands : (cost x x' t : ℕ) (v : View) (by : By) → x ≤ t → t + cost ≤ x' → IsTurn v by → Stands cost x v → Stands cost x' (moved_by v by t)
 moved_stands cost x x' t v CommEnters le nx turn st = record {
   entered = let a = st.entered in omega arith;
   sampled = let a = st.sampled in omega arith;
@@ -181,7 +181,7 @@ moved_stands cost x x' t v PwmEnters le nx turn st = record {
   shut = λ p. cc;
 }
 moved_stands cost x x' t v (PwmSteps l) le nx turn st =
-    own_stands cost x x' t l v (moved v (PwmSteps l) t) le nx st turn.is_open turn.all (record { pwm = refl; own = refl; entered = refl })
+    own_stands cost x x' t l v (moved_by v (PwmSteps l) t) le nx st turn.is_open turn.all (record { pwm = refl; own = refl; entered = refl })
     (own_cases v.pwm_own t v.sampled v.wrote)
 moved_stands cost x x' t v Lower le nx turn st = record {
   entered = let a = st.entered in omega arith;
@@ -205,7 +205,7 @@ stands_of cost x v p = record {
   shut = p.shut;
 }
 
-moved_few : (v : View) (t : ℕ) (by : By) → IsTurn v by → v.pwm_own ≤ 12 → (moved v by t).pwm_own ≤ 12
+moved_few : (v : View) (t : ℕ) (by : By) → IsTurn v by → v.pwm_own ≤ 12 → (moved_by v by t).pwm_own ≤ 12
 moved_few v t CommEnters turn le = le
 moved_few v t (CommSteps l) turn le = le
 moved_few v t PwmEnters turn le = omega arith
@@ -218,7 +218,7 @@ next_few cost v e turn p = let s = next_same v e in rw (s.pwm_own) (moved_few v 
 pub next_placed : (cost x x' : ℕ) (v : View) (e : Turned) → x ≤ e.tick → e.tick + cost ≤ x' → IsTurn v (by_of e) → (view_next v e).pwm_waits ≤ 8
     → (view_next v e).comm_waits ≤ 8 → Placed cost x v → Placed cost x' (view_next v e)
 next_placed cost x x' v e le nx turn a b p =
-    let st = still_stands cost x' x' (moved v (by_of e) e.tick) (view_next v e) (omega arith)
+    let st = still_stands cost x' x' (moved_by v (by_of e) e.tick) (view_next v e) (omega arith)
     (moved_stands cost x x' e.tick v (by_of e) le nx turn (stands_of cost x v p)) (next_same v e) in
     record {
       entered = st.entered;
@@ -234,7 +234,7 @@ next_placed cost x x' v e le nx turn a b p =
       comm_patient = b;
     }
 
-pub start_placed : (cost x : ℕ) → Placed cost x start
+pub start_placed : (cost x : ℕ) → Placed cost x unmoved
 start_placed cost x = record {
   entered = omega arith;
   sampled = omega arith;

@@ -1,16 +1,16 @@
 -- One more step.
-use Rattle.std.proofs.Common.{◌≡◌, ◌≤◌, ◌<◌, ℕ, true, false, List, [], ◌∷◌, ◌++◌, refl, ap, arith, nat_le}
+use Rattle.std.proofs.Common.{◌≡◌, ◌≤◌, ◌<◌, ℕ, List, [], ◌∷◌, ◌++◌, refl, ap, arith}
 use Rattle.std.proofs.lemmas.List.Sums.{fold_push}
-use Rattle.std.proofs.lemmas.Bool.Decides.{nat_tests}
 use Rattle.esc_laws.specs.Steps.{Turned}
-use Rattle.esc_laws.specs.ChopView.{start, view, view_next}
-use Rattle.esc_laws.specs.ChopLog.{made}
+use Rattle.esc_laws.specs.ChopView.{unmoved, view, view_next}
+use Rattle.esc_laws.specs.ChopLog.{steps_by}
+use Rattle.std.proofs.lemmas.Bool.{le-leb, lt-leb}
 
 pub view-push : (log : List Turned) (e : Turned) → view (log ++ e ∷ []) ≡ view_next (view log) e
 unfolding view
-view-push log e = fold_push view_next start log e
+view-push log e = fold_push view_next unmoved log e
 
-pub view-none : view [] ≡ start
+pub view-none : view [] ≡ unmoved
 unfolding view
 view-none = refl
 
@@ -24,16 +24,10 @@ abbrev pub FirstAbove : ℕ → List Turned → Type 0
 FirstAbove t [] = Unit {0}
 FirstAbove t (e ∷ log) = t < e.tick
 
-le_is : (m n : ℕ) → m ≤ n → nat_le m n ≡ true
-le_is m n l = grind (arith, nat_tests)
-
-le_isnt : (m n : ℕ) → n < m → nat_le m n ≡ false
-le_isnt m n l = grind (arith, nat_tests)
-
-pub made-split : (t : ℕ) (before rest : List Turned) → AllBy t before → FirstAbove t rest → made t (before ++ rest) ≡ before
+pub made-split : (t : ℕ) (before rest : List Turned) → AllBy t before → FirstAbove t rest → steps_by t (before ++ rest) ≡ before
 made-split t [] [] b f = refl
-made-split t [] (e ∷ rest) b f = rw (le_isnt e.tick t f) refl
-made-split t (e ∷ before) rest b f = rw (le_is e.tick t b.0) (ap (λ (l : List Turned). e ∷ l) (made-split t before rest b.1 f))
+made-split t [] (e ∷ rest) b f = rw (lt-leb e.tick t f) refl
+made-split t (e ∷ before) rest b f = rw (le-leb e.tick t b.0) (ap (λ (l : List Turned). e ∷ l) (made-split t before rest b.1 f))
 
 pub by-push : (t : ℕ) (log : List Turned) (e : Turned) → AllBy t log → e.tick ≤ t → AllBy t (log ++ e ∷ [])
 by-push t [] e b l = (l, tt)

@@ -23,11 +23,11 @@ use Rattle.esc_laws.specs.Steps.{Turned, journal, open_in}
 use Rattle.esc_laws.specs.Tied.{WordTold}
 use Rattle.esc_laws.specs.World.{world, counted, enters, all_notes}
 use Rattle.esc_laws.specs.Rooms.{DriveKeeps}
-use Rattle.esc_laws.specs.ChopView.{leaves}
+use Rattle.esc_laws.specs.ChopView.{has_leave}
 use Rattle.esc_laws.specs.ChopSteps.{told, ChopFits}
 use Rattle.esc_laws.proofs.Pushes.{journal-push}
 
--- an entry's I leaves the word
+-- an entry's I has_leave the word
 entry_told : (loaded : Loaded) (log : List Turned) (t : ℕ) (k : Kind)
     → told loaded (log ++ record { tick = t; kind = k; enters = true; notes = enters k t ∷ [] } ∷ []) ≡ enters k t ∷ told loaded log
 entry_told loaded log t k =
@@ -47,23 +47,23 @@ entry_chops loaded log t k above = record {
 may_wait : (other free : ℕ) (x : Leg) (t : ℕ) → is_on other x ≡ false → free ≤ t → wait_of other free x t ≡ None
 may_wait other free x t off le = rw (off, le-ltb t free le) refl
 
--- only a return leaves PWM
-gate_leaves : (v : Bool) (t hi lo : ℕ) (rest : List Note) → leaves ((if v then [] else note.Gate (record { 0 = t }) hi lo ∷ []) ++ rest) ≡ leaves rest
+-- only a return has_leave PWM
+gate_leaves : (v : Bool) (t hi lo : ℕ) (rest : List Note) → has_leave ((if v then [] else note.Gate (record { 0 = t }) hi lo ∷ []) ++ rest) ≡ has_leave rest
 gate_leaves true t hi lo rest = refl
 gate_leaves false t hi lo rest = refl
 
-over_leaves : (over : Bool) (t k : ℕ) → leaves (if over then note.Leave (as_tick t) k ∷ [] else []) ≡ true → over ≡ true
+over_leaves : (over : Bool) (t k : ℕ) → has_leave (if over then note.Leave (as_tick t) k ∷ [] else []) ≡ true → over ≡ true
 over_leaves true t k e = refl
 over_leaves false t k e = cc
 
-silent_over : (b : Bank) (k : Kind) (s : Stepped) → s.notes ≡ [] → leaves (all_notes b k s) ≡ true → s.over ≡ true
+silent_over : (b : Bank) (k : Kind) (s : Stepped) → s.notes ≡ [] → has_leave (all_notes b k s) ≡ true → s.over ≡ true
 silent_over b k s silent e =
     let after : Bank = accessed b s.access in
-    let own : leaves (s.notes ++ (if s.over then note.Leave (as_tick b.time) (kind_number k) ∷ [] else [])) ≡ true =
+    let own : has_leave (s.notes ++ (if s.over then note.Leave (as_tick b.time) (kind_number k) ∷ [] else [])) ≡ true =
     sym (gate_leaves ((after.hi == b.hi) && (after.lo == b.lo)) after.time after.hi after.lo
     (s.notes ++ (if s.over then note.Leave (as_tick b.time) (kind_number k) ∷ [] else []))) ∙ e in
     over_leaves s.over b.time (kind_number k)
-    (subst (λ (ns : List Note). leaves (ns ++ (if s.over then note.Leave (as_tick b.time) (kind_number k) ∷ [] else [])) ≡ true) silent own)
+    (subst (λ (ns : List Note). has_leave (ns ++ (if s.over then note.Leave (as_tick b.time) (kind_number k) ∷ [] else [])) ≡ true) silent own)
 
 pub own_chops : (loaded : Loaded) (nest : Nest) (trace : List Event) (c : Brain) (b : Bank) (s : Stepped) (log : List Turned) (k : Kind)
     → WordTold c b (told loaded log)

@@ -6,7 +6,7 @@ use Rattle.esc_laws.specs.ChopView.{View, view}
 use Rattle.esc_laws.specs.ChopLog.{at_tick}
 use Rattle.esc_base.specs.Legs.{is_on}
 use Rattle.commutation.specs.Sectors.{high_of, low_of}
-use Rattle.esc_laws.specs.ChopPeriods.{Undisturbed, Legal, ChoppedLog}
+use Rattle.esc_laws.specs.ChopPeriods.{UndisturbedLog, LogFits, ChoppedLog}
 use Rattle.esc_laws.specs.ChopCalm.{Calm}
 use Rattle.esc_laws.specs.ChopPlaced.{Placed}
 use Rattle.esc_laws.specs.ChopFresh.{IsEdge, Fresh, Early}
@@ -18,8 +18,8 @@ use Rattle.esc_laws.proofs.ChopHigh.{run}
 use Rattle.esc_laws.proofs.ChopLow.{low_run}
 use Rattle.esc_laws.proofs.ChopSettled.{Held, Static, carried, start_static, may_turn, low_off}
 
-module _ (cost : ℕ) (trace : List Event) (log : List Turned) (m d s until : ℕ) (one : 1 ≤ cost) (few : cost ≤ 16) (legal : Legal cost trace until log)
-    (y : Undisturbed cost trace log m d s) where
+module _ (cost : ℕ) (trace : List Event) (log : List Turned) (m d s until : ℕ) (one : 1 ≤ cost) (few : cost ≤ 16) (legal : LogFits cost trace until log)
+    (y : UndisturbedLog cost trace log m d s) where
   held : (v : ℕ) → 2000 * m ≤ v + 1 → v < 2000 * m + 2000 → Held (2000 * m) s (at_tick v log)
   held v lo hi = let a = y.later in
       carried cost trace log (2000 * m) s v one (omega arith) y.some_sector lo hi y.sector y.high_free [] log refl legal.fits legal.pairs legal.times

@@ -1,6 +1,6 @@
 -- Time, an event of the comparator, and CMP's entry: what they make of the search for a crossing.
-use Rattle.std.proofs.Common.{◌≡◌, ◌≢◌, ◌≤◌, ◌<◌, ◌+◌, ◌⊎◌, inl, inr, ℕ, Bool, true, false, not, ◌&&◌, ◌||◌, min, nat_lt, nat_le, if◌then◌else◌, Option, Some, None, refl, sym, ◌∙◌, ap, subst, arith}
-use Rattle.std.proofs.lemmas.Bool.{and_parts, not-true}
+use Rattle.std.proofs.Common.{◌≡◌, ◌≤◌, ◌<◌, ◌+◌, inl, inr, ℕ, Bool, true, false, not, ◌&&◌, ◌||◌, nat_le, if◌then◌else◌, Option, Some, None, refl, subst, arith}
+use Rattle.std.proofs.lemmas.Bool.{and_parts}
 use Rattle.std.proofs.lemmas.Bool.Decides.{nat_tests}
 use Rattle.esc_base.specs.Numbers.{as_tick}
 use Rattle.esc_base.specs.Times.{is_reached}
@@ -8,16 +8,16 @@ use Rattle.esc_base.specs.Trace.{differ}
 use Rattle.zero_cross.specs.declared.phase.Phase.{Phase}
 use Rattle.zero_cross.specs.declared.phase.Phase.TheVariants as phase
 use Rattle.zero_cross.specs.Comparator.{Held, is_steady}
-use Rattle.zero_cross.specs.Kept.{Kept, is_expected, MayFilter}
+use Rattle.zero_cross.specs.Kept.{is_expected, MayFilter}
 use Rattle.commutation.specs.Commutated.{Turn}
 use Rattle.esc_core.specs.declared.state.CmpAt.{CmpAt}
 use Rattle.esc_core.specs.declared.state.CmpAt.TheVariants as cmp
 use Rattle.esc_laws.specs.Searched.{Sight, Away, Begun, Awaits, First, Settles, Second, sight_entered, calls_cmp}
-use Rattle.esc_laws.specs.CrossTied.{CrossView, CrossTied, PhaseTied, RegsTied, Armed, Called, Filters, FirstTied, SecondTied, SightTied, Passes, IsBlanked, LateTied, future, to_come, to_come_after, is_some, is_shut, is_begun, begins_search, ends_drive}
+use Rattle.esc_laws.specs.CrossTied.{CrossView, CrossTied, PhaseTied, RegsTied, Armed, Called, FirstTied, SecondTied, SightTied, Passes, IsBlanked, LateTied, future, to_come, to_come_after, is_some, is_begun}
 use Rattle.esc_laws.proofs.CmpFacts.{Stands, Free, phase_more, passes_more}
-
-is_false : (v : Bool) → v ≡ false → v ≡ true → ⊥
-is_false v e f = let z = sym e ∙ f in cc
+use Rattle.std.proofs.lemmas.Bool.{leb-true}
+use Rattle.std.proofs.lemmas.Bool.{le-leb}
+use Rattle.esc_laws.proofs.CrossFacts.{is_false}
 
 -- ---- time
 
@@ -237,14 +237,8 @@ cross_changes v level l t = record {
 
 -- ---- what the notes call is due
 
-le_by : (m n : ℕ) → nat_le m n ≡ true → m ≤ n
-le_by m n e = grind (arith, nat_tests)
-
 or_due : (end time : ℕ) (timer : Option ℕ) (w : Bool) → timer ≡ Some end → end ≤ time → (is_reached timer time || w) ≡ true
-or_due end time timer w c l = rw (c, le_is end time l) refl
-  where
-    le_is : (m n : ℕ) → m ≤ n → nat_le m n ≡ true
-    le_is m n l = grind (arith, nat_tests)
+or_due end time timer w c l = rw (c, le-leb end time l) refl
 
 passes_is_due : (p : Phase) (i u time : ℕ) (timer : Option ℕ) (enabled w : Bool) → Armed p timer enabled → Passes p i u → u ≤ time
     → (is_reached timer time || w) ≡ true
@@ -261,11 +255,11 @@ seen_due Away p h expects changed blanked time past timer enabled e a s = cc
 seen_due Begun p h expects changed blanked time past timer enabled e a s = cc
 seen_due (Awaits u) p h expects changed blanked time past timer enabled e a s =
     let b : Armed (phase.Blank (as_tick blanked)) timer enabled = subst (λ (x : Phase). Armed x timer enabled) s.1 a in
-    or_due blanked time timer (enabled && changed) b.0 (let l = le_by u time e in let f = s.2 in omega arith)
+    or_due blanked time timer (enabled && changed) b.0 (let l = leb-true u time e in let f = s.2 in omega arith)
 seen_due (First i) p h expects changed blanked time past timer enabled e a s = cc
 seen_due (Settles i u) p h expects changed blanked time past timer enabled e a s =
     let both = and_parts (nat_le u time) (is_steady h expects i) e in
-    passes_is_due p i u time timer enabled (enabled && changed) a (s.2 both.1) (le_by u time both.0)
+    passes_is_due p i u time timer enabled (enabled && changed) a (s.2 both.1) (leb-true u time both.0)
 seen_due (Second i z) p h expects changed blanked time past timer enabled e a s = cc
 
 -- ---- CMP is entered
@@ -275,7 +269,7 @@ pub reached_at : (timer : Option ℕ) (enabled changed : Bool) (end time : ℕ) 
 reached_at timer enabled changed end time c h d = by_test (nat_le end time) refl (rw (c, h) at d)
   where
     by_test : (v : Bool) → nat_le end time ≡ v → (nat_le end time || (false && changed)) ≡ true → end ≤ time
-    by_test true e f = le_by end time e
+    by_test true e f = leb-true end time e
     by_test false e f = absurd (let z : false ≡ true = subst (λ (x : Bool). (x || (false && changed)) ≡ true) e f in cc)
 
 none_due : (timer : Option ℕ) (enabled changed : Bool) (time : ℕ) → timer ≡ None → enabled ≡ false → (is_reached timer time || (enabled && changed)) ≡ true → ⊥

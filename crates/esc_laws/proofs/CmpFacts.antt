@@ -1,22 +1,24 @@
 -- What CMP's steps make of the search for a crossing.
-use Rattle.std.proofs.Common.{◌≡◌, ◌≢◌, ◌≤◌, ◌<◌, ◌+◌, ◌-◌, ◌⊎◌, inl, inr, ℕ, Bool, true, false, not, ◌&&◌, ◌||◌, ◌==◌, min, nat_lt, nat_le, if◌then◌else◌, Option, Some, None, refl, sym, ◌∙◌, ap, subst, arith}
-use Rattle.std.proofs.lemmas.Bool.{and_parts, not-true}
+use Rattle.std.proofs.Common.{◌≡◌, ◌≤◌, ◌<◌, ◌+◌, ◌⊎◌, inl, inr, ℕ, Bool, true, false, not, ◌&&◌, ◌||◌, nat_le, if◌then◌else◌, Option, Some, None, refl, sym, ◌∙◌, ap, subst, arith}
+use Rattle.std.proofs.lemmas.Bool.{and_parts}
 use Rattle.std.proofs.lemmas.Bool.Decides.{nat_tests}
 use Rattle.esc_base.specs.Numbers.{as_tick}
 use Rattle.esc_base.specs.Trace.{differ}
 use Rattle.zero_cross.specs.declared.phase.Phase.{Phase}
 use Rattle.zero_cross.specs.declared.phase.Phase.TheVariants as phase
 use Rattle.zero_cross.specs.Comparator.{Held, is_steady}
-use Rattle.zero_cross.specs.Kept.{Kept, is_expected, after_changed, MayFilter}
+use Rattle.zero_cross.specs.Kept.{Kept, is_expected, MayFilter}
 use Rattle.commutation.specs.Commutated.{Turn, Idle, Started, Turned, Crossed, crossed_by}
 use Rattle.commutation.specs.Pace.{Pace}
 use Rattle.esc_core.specs.declared.state.CmpAt.{CmpAt}
 use Rattle.esc_core.specs.declared.state.CmpAt.TheVariants as cmp
-use Rattle.esc_core.specs.declared.state.CommAt.{CommAt}
 use Rattle.esc_core.specs.declared.state.CommAt.TheVariants as comm
 use Rattle.esc_laws.specs.Searched.{Sight, Away, Begun, Awaits, First, Settles, Second, sight_left, sight_crossed}
-use Rattle.esc_laws.specs.CrossTied.{CrossView, CrossTied, PhaseTied, RegsTied, Armed, Called, Waits, Filters, FirstTied, SecondTied, SightTied, Passes, IsBlanked, LateTied, HasQ, HasZ, future, to_come, is_some, is_shut, is_begun, begins_search, ends_drive}
+use Rattle.esc_laws.specs.CrossTied.{CrossView, CrossTied, PhaseTied, RegsTied, Armed, Filters, FirstTied, SecondTied, SightTied, Passes, LateTied, HasQ, HasZ, future, to_come, is_some, is_shut, is_begun, begins_search, ends_drive}
 use Rattle.esc_laws.proofs.Comparator.{bit_acked}
+use Rattle.std.proofs.lemmas.Bool.{leb-true}
+use Rattle.esc_laws.proofs.CrossFacts.{is_false}
+use Rattle.std.proofs.lemmas.Bool.{or_right}
 
 -- ---- what stands before a step of CMP
 
@@ -58,9 +60,6 @@ pub record Moves (v : CrossView) (at : CmpAt) (search : Kept) (changed enabled :
   pub few : v.quiet v.held.since + future at search.phase (is_some timer) changed (is_expected search v.level) ≤ 3
   pub seen : SightTied v.sight at search.phase v.held v.expects v.blanked v.time (v.time + 1)
   pub late : LateTied at search.phase v.postponed
-
-is_false : (v : Bool) → v ≡ false → v ≡ true → ⊥
-is_false v e f = let z = sym e ∙ f in cc
 
 pub cmp_moves : (v : CrossView) (at : CmpAt) (search : Kept) (changed enabled : Bool) (timer : Option ℕ) → is_shut v.cmp_at ≡ false → Free v → CrossTied v
     → Moves v at search changed enabled timer → CrossTied (cmp_view v at search changed enabled timer)
@@ -185,9 +184,6 @@ few_reject q true true e l = l
 few_reject q false true e l = cc
 few_reject q changed false e l = l
 
-le_by : (m n : ℕ) → nat_le m n ≡ true → m ≤ n
-le_by m n e = grind (arith, nat_tests)
-
 gt_by : (m n : ℕ) → nat_le m n ≡ false → n < m
 gt_by m n e = grind (arith, nat_tests)
 
@@ -243,7 +239,7 @@ pub looked_ready : (v : CrossView) (end : ℕ) → nat_le end v.time ≡ true �
 looked_ready v end over well free s = record {
   open_still = refl;
   phase_is = s.phase_is;
-  regs = le_by end v.time over;
+  regs = leb-true end v.time over;
   few = few_ready (v.quiet v.held.since) (is_some v.timer) (is_expected v.search v.level) well s.few;
   seen = seen_moves v.sight cmp.Look cmp.Ack (phase.Blank (as_tick end)) (phase.Blank (as_tick end)) v.held v.expects v.blanked v.time v.past (v.time + 1)
       (let l = free.past in omega arith) refl (λ i l f. tt) (λ i z l f e. absurd (f e)) s.seen;
@@ -258,7 +254,7 @@ pub looked_unready : (v : CrossView) (end : ℕ) → nat_le end v.time ≡ true 
     → Stands v cmp.Look (phase.Blank (as_tick end)) → Goes v cmp.Enable phase.Watch v.changed v.enabled v.timer
 looked_unready v end over ill free t s = record {
   open_still = refl;
-  phase_is = (s.phase_is.0, (let a = s.phase_is.1 in let b = le_by end v.time over in omega arith));
+  phase_is = (s.phase_is.0, (let a = s.phase_is.1 in let b = leb-true end v.time over in omega arith));
   regs = refl;
   few = few_unready (v.quiet v.held.since) (is_some v.timer) (is_expected v.search v.level) ill s.few;
   seen = seen_moves v.sight cmp.Look cmp.Enable (phase.Blank (as_tick end)) phase.Watch v.held v.expects v.blanked v.time v.past (v.time + 1)
@@ -299,7 +295,7 @@ looked_reject v end over ill free t s =
     let f = s.phase_is.1 in
     record {
       open_still = refl;
-      phase_is = (s.phase_is.0, (let a = f.after in let b : end ≡ f.begun + 24 = f.end_is in let c = le_by end v.time over in omega arith));
+      phase_is = (s.phase_is.0, (let a = f.after in let b : end ≡ f.begun + 24 = f.end_is in let c = leb-true end v.time over in omega arith));
       regs = tt;
       few = few_reject (v.quiet v.held.since) v.changed (is_expected v.search v.level) ill s.few;
       seen = seen_moves v.sight cmp.Look cmp.Arm (phase.Filter (as_tick end)) (phase.Blank (as_tick (v.time + 400))) v.held v.expects v.blanked v.time v.past
@@ -372,15 +368,11 @@ few_watch q true changed well l = l
 few_watch q false true well l = l
 few_watch q false false well l = l
 
-or_true : (a : Bool) → (a || true) ≡ true
-or_true true = refl
-or_true false = refl
-
 pub enabled : (v : CrossView) → Free v → Stands v cmp.Enable phase.Watch → Goes v cmp.Lower phase.Watch (v.changed && false) (v.enabled || true) v.timer
 enabled v free s = record {
   open_still = refl;
   phase_is = s.phase_is;
-  regs = or_true v.enabled;
+  regs = or_right v.enabled true refl;
   few = few_watch (v.quiet v.held.since) (is_some v.timer) v.changed (is_expected v.search v.level) s.few;
   seen = seen_moves v.sight cmp.Enable cmp.Lower phase.Watch phase.Watch v.held v.expects v.blanked v.time v.past (v.time + 1)
       (let l = free.past in omega arith) refl (λ i l f e. absurd (is_false _ f e)) (λ i z l f. f) s.seen;

@@ -13,6 +13,7 @@ use Rattle.timer_regs.specs.Bank.{Bank}
 use Rattle.timer_regs.specs.Effects.{after_comp}
 use Rattle.esc_laws.specs.Rooms.{IsInTime}
 use Rattle.zero_cross.specs.Comparator.{Held, held_to, held_next, held, HasLevel, Steady, is_steady}
+use Rattle.std.proofs.lemmas.Bool.{le-leb}
 
 -- at the start
 abbrev pub low : Held
@@ -240,11 +241,8 @@ unfolding held
 steady_by trace v a b le f s = heard trace low v a b 0 le (omega arith) f s
 
 -- with no later event the state stays
-le_is : (m n : ℕ) → m ≤ n → nat_le m n ≡ true
-le_is m n l = grind (arith, nat_tests)
-
 same_next : (h : Held) (e : Event) (t u : ℕ) → t ≤ u → tick_of e ≤ t → held_next u h e ≡ held_next t h e
-same_next h (event.Comp at level) t u le l = rw (le_is at.0 u (omega arith), le_is at.0 t l) refl
+same_next h (event.Comp at level) t u le l = rw (le-leb at.0 u (omega arith), le-leb at.0 t l) refl
 same_next h (event.Edge at level) t u le l = refl
 same_next h (event.Serial at byte) t u le l = refl
 same_next h (event.Stall at n) t u le l = refl
@@ -272,7 +270,7 @@ in_time_push (x ∷ trace) e t l i all = (
 -- ---- an event of the comparator at now
 
 pub counted_now : (h : Held) (t u : ℕ) (level : Bool) → t ≡ u → held_to (nat_le t u) t h level ≡ held_to true t h level
-counted_now h t u level e = rw (le_is t u (omega arith)) refl
+counted_now h t u level e = rw (le-leb t u (omega arith)) refl
 
 pub held_now : (trace : List Event) (at : Tick) (level : Bool) (u : ℕ) → at.0 ≡ u
     → held (trace ++ event.Comp at level ∷ []) u ≡ held_to true at.0 (held trace u) level

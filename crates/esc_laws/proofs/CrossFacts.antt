@@ -1,11 +1,10 @@
 -- What COMM's and TICK's steps leave of the search for a crossing.
-use Rattle.std.proofs.Common.{◌≡◌, ◌≢◌, ◌≤◌, ◌<◌, ◌+◌, ◌⊎◌, inl, inr, ℕ, Bool, true, false, not, ◌&&◌, ◌||◌, ◌==◌, nat_lt, nat_le, max, if◌then◌else◌, Option, Some, None, refl, sym, ◌∙◌, ap, subst, arith}
-use Rattle.std.proofs.lemmas.Bool.Decides.{nat_tests}
+use Rattle.std.proofs.Common.{◌≡◌, ◌≢◌, ◌≤◌, ◌<◌, ◌+◌, inl, ℕ, Bool, true, false, not, ◌&&◌, if◌then◌else◌, Some, None, refl, sym, ◌∙◌, subst, arith}
 use Rattle.esc_base.specs.Numbers.{as_tick}
 use Rattle.zero_cross.specs.declared.phase.Phase.{Phase}
 use Rattle.zero_cross.specs.declared.phase.Phase.TheVariants as phase
-use Rattle.zero_cross.specs.Comparator.{Held, is_steady}
-use Rattle.zero_cross.specs.Kept.{Kept, is_expected, MayFilter}
+use Rattle.zero_cross.specs.Comparator.{Held}
+use Rattle.zero_cross.specs.Kept.{Kept, is_expected}
 use Rattle.commutation.specs.Commutated.{Turn, Idle, Started, Turned, Crossed}
 use Rattle.commutation.specs.Pace.{Pace, first_pace}
 use Rattle.gate_driver.specs.declared.all_off.AllOff.TheVariants as off
@@ -20,7 +19,7 @@ use Rattle.esc_core.specs.Drive.{search_after}
 use Rattle.esc_core.specs.Firmware.{cmp_left, cmp_need, tick_need}
 use Rattle.esc_laws.specs.Searched.{Sight, Away, Begun, Awaits, First, Settles, Second, sight_begun}
 use Rattle.esc_laws.specs.DriveTied.{commutes}
-use Rattle.esc_laws.specs.CrossTied.{CrossView, CrossTied, PhaseTied, RegsTied, Armed, Begins, Ends, IsEarly, SightTied, LateTied, HasNoQ, HasQ, HasZ, future, to_come, is_some, is_shut, is_begun, begins_search, ends_drive}
+use Rattle.esc_laws.specs.CrossTied.{CrossView, CrossTied, PhaseTied, RegsTied, IsEarly, SightTied, LateTied, HasNoQ, future, is_some, is_shut, is_begun, begins_search, ends_drive}
 
 -- ---- places outside of the mask
 
@@ -65,7 +64,7 @@ pub cmp_shut : (at : CmpAt) → cmp_left at ≡ 0 → at ≡ cmp.Shut
 cmp_shut cmp.Shut e = refl
 cmp_shut at e = absurd (omega arith)
 
-is_false : (v : Bool) → v ≡ false → v ≡ true → ⊥
+pub is_false : (v : Bool) → v ≡ false → v ≡ true → ⊥
 is_false v e f = let z = sym e ∙ f in cc
 
 -- ---- TICK at another place

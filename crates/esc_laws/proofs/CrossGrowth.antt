@@ -1,5 +1,5 @@
 -- Later events change nothing of the crossings and of the search for them before.
-use Rattle.std.proofs.Common.{◌≡◌, ◌<◌, ◌≤◌, ◌-◌, ℕ, Bool, true, false, not, ◌&&◌, ◌||◌, ◌==◌, if◌then◌else◌, List, [], ◌∷◌, ◌++◌, All, reverse, refl, sym, ◌∙◌, ap, subst, arith}
+use Rattle.std.proofs.Common.{◌≡◌, ◌<◌, ◌-◌, ℕ, Bool, true, false, ◌==◌, if◌then◌else◌, List, [], ◌∷◌, ◌++◌, All, reverse, arith}
 use Rattle.std.proofs.lemmas.List.Elements.{All-nil, All-cons, All-head, All-tail}
 use Rattle.esc_base.specs.declared.event.Event.{Event}
 use Rattle.esc_base.specs.declared.note.Note.{Note}
@@ -7,12 +7,11 @@ use Rattle.esc_base.specs.declared.note.Note.TheVariants as note
 use Rattle.esc_base.specs.Journal.{Each, time_of}
 use Rattle.esc_base.specs.Trace.{tick_of}
 use Rattle.settings_block.specs.declared.stored.Loaded.{Loaded}
-use Rattle.zero_cross.specs.Comparator.{Held, held}
 use Rattle.commutation.specs.Commutated.{Turn, Idle, Started, Turned, Crossed, turn_at}
 use Rattle.interrupt_machine.specs.declared.nest.Nest.{Nest}
 use Rattle.arming.proofs.InOrder.{reverse-push}
 use Rattle.esc_laws.specs.Crossed.{blanked_at, expects_at, MayCross, CrossRule, Crossed as CrossedAll}
-use Rattle.esc_laws.specs.Searched.{Sight, Away, Begun, Awaits, First, Settles, Second, sight_at, sight_entered, sight_left, sight_begun, sight_crossed, cmp_open_at, quiet_at, HasCrossed, SearchRule, Searched}
+use Rattle.esc_laws.specs.Searched.{Sight, Away, Begun, Awaits, First, Settles, Second, sight_at, sight_entered, sight_left, sight_begun, sight_crossed, cmp_open_at, HasCrossed, SearchRule, Searched}
 use Rattle.esc_laws.specs.Steps.{Turned as Step, opening, notes_in, EachStep, StepFits, Below}
 use Rattle.esc_laws.proofs.Comparator.{held_before, steady_grows, steady_was}
 

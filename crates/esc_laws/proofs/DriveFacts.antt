@@ -17,7 +17,7 @@ use Rattle.esc_core.specs.declared.state.TickAt.TheVariants as tick
 use Rattle.esc_core.specs.Drive.{low_free}
 use Rattle.esc_core.specs.Firmware.{comm_left, pwm_left, tick_left, tick_need}
 use Rattle.esc_laws.specs.Driven.{InPair}
-use Rattle.esc_laws.specs.DriveTied.{DriveView, DriveTied, CommTied, IsStarted, TimerKept, LowTied, RestAt, Still, Decides, OnOrLate, low_on, writes_duty}
+use Rattle.esc_laws.specs.DriveTied.{DriveView, DriveTied, CommTied, IsStarted, TimerKept, LowTied, RestAt, Still, writes_duty}
 
 -- ---- places
 

@@ -35,12 +35,16 @@ pub mod ChopFront
 pub mod ChopLegal
 pub mod Law
 pub mod MainRoom
+pub mod TickControl
 pub mod TickRoom
 pub mod CapRoom
 pub mod PwmRoom
+pub mod CommTurns
+pub mod CommSwitches
 pub mod CommRoom
 pub mod CmpFacts
 pub mod CmpEvents
+pub mod CmpLooks
 pub mod CmpRoom
 pub mod Laws
 pub mod Stages

@@ -93,10 +93,6 @@ window_fits loaded trace notes after n whole =
 abbrev rise : Edge
 rise = record { t = as_tick 100; level = true }
 
-line-none : line [] ≡ record { level = false; edges = [] }
-unfolding line
-line-none = refl
-
 none_closes : (at : ℕ) → close (line []).edges 0 (mode_of 0) ≡ Some at → ⊥
 unfolding line burst
 none_closes at e = cc

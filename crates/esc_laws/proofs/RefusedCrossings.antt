@@ -1,13 +1,11 @@
 -- The wrong journals break the laws of crossings.
-use Rattle.std.proofs.Common.{◌≡◌, ◌<◌, ◌≤◌, ◌+◌, ◌-◌, ◌⊎◌, inl, inr, ℕ, Bool, true, false, min, nat_le, List, [], ◌∷◌, ◌++◌, reverse, Some, refl, sym, ◌∙◌, ap, arith}
+use Rattle.std.proofs.Common.{◌≡◌, ◌<◌, ◌≤◌, ◌+◌, ◌⊎◌, inl, inr, ℕ, true, false, List, [], ◌∷◌, ◌++◌, reverse, refl, sym, ◌∙◌, arith}
 use Rattle.std.proofs.lemmas.Bool.{le-leb}
 use Rattle.std.proofs.lemmas.List.Elements.{All-nil, All-cons, All-head, All-tail}
-use Rattle.esc_base.specs.declared.kind.Kind.{Kind}
 use Rattle.esc_base.specs.declared.kind.Kind.TheVariants as kind
 use Rattle.esc_base.specs.declared.event.Event.{Event}
 use Rattle.esc_base.specs.declared.event.Event.TheVariants as event
 use Rattle.esc_base.specs.declared.note.Note.{Note}
-use Rattle.esc_base.specs.Journal.{Each}
 use Rattle.esc_base.specs.Numbers.{as_tick}
 use Rattle.settings_block.specs.declared.stored.Loaded.{Loaded}
 use Rattle.interrupt_machine.specs.declared.nest.Nest.{Nest}
@@ -20,7 +18,7 @@ use Rattle.esc_laws.specs.Crossed.{Crossed, CrossRule}
 use Rattle.esc_laws.specs.Searched.{Searched, SearchRule}
 use Rattle.esc_laws.specs.Saves.{advance_of}
 use Rattle.esc_laws.specs.Calls.{HasTurned, HasCaughtUp, turns_in, turn_was_due}
-use Rattle.esc_laws.specs.Steps.{Turned, opening, journal, open_in, free, after, StepFits}
+use Rattle.esc_laws.specs.Steps.{journal, open_in, free, after, StepFits}
 use Rattle.esc_laws.specs.Refused.{enters, leaves, ticks, turns, crosses, first_two, entry}
 use Rattle.esc_laws.specs.RefusedCrossings.{forwards, first_turn, up_from, commutes, looks, first_sector, CrossingsRefuse, CrossedTurnsRefuse, SearchesRefuse, ActivationsRefuse}
 use Rattle.arming.proofs.InOrder.{each_at}

@@ -21,7 +21,7 @@ use Rattle.esc_laws.specs.Refused.{enters, leaves, ticks, entry, own, two_edges,
 use Rattle.esc_laws.proofs.Pushes.{journal-push, after-push, after-none, free-none, own-push}
 use Rattle.esc_laws.proofs.Stalls.{free_later}
 
-none_open : (loaded : Loaded) → open_in loaded [] ≡ []
+pub none_open : (loaded : Loaded) → open_in loaded [] ≡ []
 unfolding place
 none_open loaded = refl
 
@@ -129,7 +129,7 @@ calls_cap_now : (loaded : Loaded) → sees loaded two_edges (opening loaded ++ t
 unfolding place line burst
 calls_cap_now loaded = refl
 
-no_stall_there : (t : ℕ) → free two_edges t ≡ t
+pub no_stall_there : (t : ℕ) → free two_edges t ≡ t
 unfolding free
 no_stall_there t = refl
 

@@ -13,12 +13,10 @@ use Rattle.esc_core.specs.declared.state.CommAt.{CommAt}
 use Rattle.esc_core.specs.declared.state.CommAt.TheVariants as comm
 use Rattle.esc_core.specs.declared.state.TickAt.{TickAt}
 use Rattle.esc_core.specs.declared.state.TickAt.TheVariants as tick
-use Rattle.esc_core.specs.declared.drive.Drive.{Drive}
-use Rattle.esc_core.specs.Drive.{is_stuck}
 use Rattle.esc_core.specs.Drive.{search_after}
 use Rattle.esc_core.specs.Tick.{drive_after}
-use Rattle.esc_laws.specs.Driven.{InPair}
-use Rattle.esc_laws.specs.DriveTied.{DriveView, DriveTied, CommTied, TurnTied, HasActed, OnOrHeld, Resumed, LowTied, IsStarted, commutes, ChangeTied, TimerKept, FlagTied, writes_duty}
+use Rattle.esc_laws.specs.DriveTied.{DriveView, DriveTied, CommTied, TurnTied, HasActed, OnOrHeld, Resumed, LowTied, commutes, ChangeTied, TimerKept, FlagTied, writes_duty}
+use Rattle.std.proofs.lemmas.Bool.{eqb-true}
 
 -- ---- PWM's flag
 
@@ -42,10 +40,7 @@ none_flag at flag asked demand entered time e z past = record {
 -- a K
 pub asked_flag : (zero start : Bool) (flag : Bool) (d entered time : ℕ) → (d == 0) ≡ zero → entered ≤ time
     → FlagTied (if zero then tick.Off off.High else tick.DutyOn start) flag (not (d == 0)) d entered time
-asked_flag true start flag d entered time e past = none_flag (tick.Off off.High) flag (not (d == 0)) d entered time refl (is_zero d e) past
-  where
-    is_zero : (n : ℕ) → (n == 0) ≡ true → n ≡ 0
-    is_zero n e = grind (arith, nat_tests)
+asked_flag true start flag d entered time e past = none_flag (tick.Off off.High) flag (not (d == 0)) d entered time refl (eqb-true d 0 e) past
 asked_flag false start flag d entered time e past =
     let asks : not (d == 0) ≡ true = rw e refl in
     record { new = λ w. asks; asks = λ l a. inl refl; counted = λ l a c. (let z : true ≡ false = sym asks ∙ a in cc); only = λ l a. inl asks; past = past }
@@ -251,9 +246,6 @@ asked_view v zero was some start d wait = record v {
   told_stuck = not zero && v.told_stuck;
 }
 
-is_zero : (n : ℕ) → (n == 0) ≡ true → n ≡ 0
-is_zero n e = grind (arith, nat_tests)
-
 is_some : (n : ℕ) → (n == 0) ≡ false → 0 < n
 is_some n e = grind (arith, nat_tests)
 
@@ -287,18 +279,18 @@ asked_drive true was false start v d wait y e f g h i t = subst (λ (s : Bool). 
   to_is = t.to_is;
   at_low = t.at_low;
   idle = λ z. refl;
-  due = λ l. absurd (let z = is_zero d e in omega arith);
-  first = λ s l. absurd (let z = is_zero d e in omega arith);
-  turned = λ l. absurd (let z = is_zero d e in omega arith);
+  due = λ l. absurd (let z = eqb-true d 0 e in omega arith);
+  first = λ s l. absurd (let z = eqb-true d 0 e in omega arith);
+  turned = λ l. absurd (let z = eqb-true d 0 e in omega arith);
   forced = t.forced;
   unforced = λ z. absurd z;
   rest_unmarked = λ z. refl;
-  stuck = λ l. absurd (let z = is_zero d e in omega arith);
-  marked = λ l. absurd (let z = is_zero d e in omega arith);
+  stuck = λ l. absurd (let z = eqb-true d 0 e in omega arith);
+  marked = λ l. absurd (let z = eqb-true d 0 e in omega arith);
   place = subst (λ (x : CommAt). CommTied x (asked_view v true was false false d wait)) (sym i.shut) tt;
   low = λ s l m. tt;
   crossed = t.crossed;
-  postponed = λ s l. absurd (let z = is_zero d e in omega arith);
+  postponed = λ s l. absurd (let z = eqb-true d 0 e in omega arith);
 })
 asked_drive false was false start v d wait y e f g h i t = absurd (let z : false ≡ true = sym g ∙ some_lt d e in cc)
 asked_drive false true true start v d wait y e f g h i t = subst (λ (s : Bool). DriveTied (asked_view v false true true s d wait)) (sym h) (record {
@@ -320,12 +312,12 @@ asked_drive false true true start v d wait y e f g h i t = subst (λ (s : Bool).
   forced = refl;
   unforced = λ z. refl;
   rest_unmarked = λ z. absurd (let l = is_some d e in omega arith);
-  stuck = λ l. rw (t.rest_unmarked (is_zero v.demand f), i.unmarked (is_zero v.demand f)) refl;
+  stuck = λ l. rw (t.rest_unmarked (eqb-true v.demand 0 f), i.unmarked (eqb-true v.demand 0 f)) refl;
   marked = λ l m s. cc;
   place = subst (λ (x : CommAt). CommTied x (asked_view v false true true true d wait)) (sym i.shut) tt;
   low = λ s l m. inl (refl, record { started = refl; due = omega arith });
   crossed = t.crossed;
-  postponed = λ s l p. (let z : false ≡ true = sym (i.prompt (is_zero v.demand f)) ∙ p in cc);
+  postponed = λ s l p. (let z : false ≡ true = sym (i.prompt (eqb-true v.demand 0 f)) ∙ p in cc);
 })
 asked_drive false false true start v d wait y e f g h i t = subst (λ (s : Bool). DriveTied (asked_view v false false true s d wait)) (sym h) (record {
   sector_is = t.sector_is;

@@ -1,5 +1,5 @@
 -- Machinery, and no law: how a run is proved to be legal. Nothing that `Legal` means rests on this.
--- What an undisturbed period says at each of its ticks, as the two halves use it.
+-- What an undisturbed period gives at each of its ticks, for the high switch and for the low one.
 use Rattle.std.specs.Prelude.{◌≡◌, ◌≤◌, ◌<◌, ◌+◌, ◌-◌, ◌*◌, ℕ, true, List, []}
 use Rattle.commutation.specs.Sectors.{low_of}
 use Rattle.esc_base.specs.declared.event.Event.{Event}
@@ -10,6 +10,7 @@ use Rattle.esc_laws.specs.ChopLog.{at_tick}
 use Rattle.esc_laws.specs.ChopLaws.{may_chop}
 use Rattle.esc_laws.specs.ChopPeriods.{NoComm}
 
+-- the period at 2000 m has demand d and sector s, and nothing disturbs it
 pub record Calm (cost : ℕ) (trace : List Event) (log : List Turned) (m d s : ℕ) : Type 0 where
   pub drives : 0 < d
   pub duty : d ≤ 1900

@@ -1,5 +1,5 @@
 -- Machinery, and no law: how a run is proved to be legal. Nothing that `Legal` means rests on this.
--- How many steps are left until PWM has written what it read since an edge.
+-- How many machine steps may pass until PWM has written a position that it read at or after an edge of the period.
 use Rattle.std.specs.Prelude.{◌≡◌, ◌≤◌, ◌<◌, ◌+◌, ◌*◌, ◌⊎◌, ℕ, true, false}
 use Rattle.esc_base.specs.declared.gate.Leg.{Leg}
 use Rattle.esc_base.specs.Legs.{is_on}
@@ -10,7 +10,7 @@ use Rattle.esc_laws.specs.ChopView.{View}
 abbrev pub IsEdge : ℕ → ℕ → ℕ → Type 0
 IsEdge m d edge = (edge ≡ 2000 * m) ⊎ (edge ≡ 2000 * m + d)
 
--- c steps of COMM and k others are enough
+-- at most c own steps of COMM and k other steps are left until then
 pub record IsLeft (edge : ℕ) (v : View) (c k : ℕ) : Type 0 where
   pub comm : v.comm ≡ true → 24 ≤ v.comm_own + c
   -- PWM isn't open: at most 8 counted steps, the entry, and five steps
@@ -22,7 +22,7 @@ pub record IsLeft (edge : ℕ) (v : View) (c k : ℕ) : Type 0 where
   -- it has read before: it returns, and goes through the first case
   pub old : v.pwm ≡ true → 2 ≤ v.pwm_own → v.sampled < edge → 26 ≤ v.pwm_own + k
 
--- nothing that was read since the edge has been written, and the write stands before edge + 48 cost
+-- no position from the edge on has been written yet; but the step that writes one will stand before edge + 48 cost
 pub record Stale (cost edge x : ℕ) (v : View) : Type 0 where
   pub c : ℕ
   pub k : ℕ

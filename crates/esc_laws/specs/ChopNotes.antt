@@ -1,5 +1,5 @@
 -- Machinery, and no law: how a run is proved to be legal. Nothing that `Legal` means rests on this.
--- A step's notes stand at its tick, and an entry is its I.
+-- All notes of a step stand at its tick, and an entry notes its I alone.
 use Rattle.std.specs.Prelude.{◌≡◌, true, List, [], ◌∷◌, All}
 use Rattle.esc_base.specs.declared.note.Note.TheVariants as note
 use Rattle.esc_base.specs.Journal.{time_of}

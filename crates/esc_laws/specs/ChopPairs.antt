@@ -1,5 +1,5 @@
 -- Machinery, and no law: how a run is proved to be legal. Nothing that `Legal` means rests on this.
--- The pair sentence of `Driven`, and what it says of off times.
+-- Only switches of the newest sector's pair are on (as `Driven` says), and at a change of sector the new pair's low leg is nearly free.
 use Rattle.std.specs.Prelude.{◌≡◌, ◌≤◌, ◌<◌, ◌+◌, ℕ, true, List, [], ◌∷◌}
 use Rattle.esc_base.specs.declared.gate.Leg.{Leg}
 use Rattle.esc_base.specs.declared.note.Note.{Note}
@@ -7,7 +7,7 @@ use Rattle.esc_base.specs.Legs.{is_on}
 use Rattle.commutation.specs.Sectors.{high_of, low_of}
 use Rattle.esc_base.specs.declared.note.Note.TheVariants as note
 use Rattle.esc_laws.specs.Steps.{Turned}
-use Rattle.esc_laws.specs.ChopView.{View, view, noted, moved, by_of}
+use Rattle.esc_laws.specs.ChopView.{View, view, told_by, moved_by, by_of}
 use Rattle.gate_driver.specs.Gated.{at_leg}
 
 -- the switches that are on are in the pair of the newest Q; before any Q none is on
@@ -21,13 +21,13 @@ abbrev pub NoteFits : View → Note → Type 0
 NoteFits v (note.Step t s) = (at_leg v.hi_free (low_of s) ≤ t.0 + 40) × (0 < s)
 NoteFits v n = Unit {0}
 
--- at each place
+-- at each note of a step
 abbrev pub EachNote : View → List Note → Type 0
 EachNote v [] = Unit {0}
-EachNote v (n ∷ notes) = NoteFits v n × InPair (noted v n) × EachNote (noted v n) notes
+EachNote v (n ∷ notes) = NoteFits v n × InPair (told_by v n) × EachNote (told_by v n) notes
 
 abbrev pub PairFits : List Turned → Turned → Type 0
-PairFits before e = EachNote (moved (view before) (by_of e) e.tick) e.notes
+PairFits before e = EachNote (moved_by (view before) (by_of e) e.tick) e.notes
 
 -- a step's notes stand at its tick
 abbrev pub AllAt : ℕ → List Note → Type 0

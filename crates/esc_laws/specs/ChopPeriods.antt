@@ -1,5 +1,5 @@
--- Machinery, and no law: how a run is proved to be legal. Nothing that `Legal` means rests on this.
--- The high switch is on in the first part of each undisturbed period, and the low one throughout.
+-- Machinery, and no law: how a run is proved to be legal. Nothing that `LogFits` means rests on this.
+-- `Chopped`, as it is said of the machine steps of a run: its premises, what a run gives for them, and what follows.
 use Rattle.std.specs.Prelude.{◌≡◌, ◌≤◌, ◌<◌, ◌+◌, ◌-◌, ◌*◌, ℕ, true, false, List, []}
 use Rattle.esc_base.specs.Legs.{is_on}
 use Rattle.commutation.specs.Sectors.{high_of, low_of}
@@ -10,15 +10,15 @@ use Rattle.esc_laws.specs.ChopView.{by_of}
 use Rattle.gate_driver.specs.Gated.{at_leg}
 use Rattle.esc_laws.specs.ChopView.By.{CommEnters}
 use Rattle.esc_laws.specs.ChopLog.{at_tick, NonePassed}
-use Rattle.esc_laws.specs.ChopLaws.{StepFits, DriveFits}
+use Rattle.esc_laws.specs.ChopLaws.{StepMade, DriveFits}
 use Rattle.esc_laws.specs.ChopPairs.{PairFits, TimesFit, NoStep}
 
--- a step that isn't COMM's entry if it stands from p to p + 1999
+-- COMM isn't entered from p to p + 1999
 abbrev pub NoComm : ℕ → List Turned → Turned → Type 0
 NoComm p before e = p ≤ e.tick → e.tick < p + 2000 → by_of e ≡ CommEnters → ⊥
 
--- the period at p = 2000 m, with sector s
-pub record Undisturbed (cost : ℕ) (trace : List Event) (log : List Turned) (m d s : ℕ) : Type 0 where
+-- nothing disturbs the period at p = 2000 m: its demand is d and its sector s
+pub record UndisturbedLog (cost : ℕ) (trace : List Event) (log : List Turned) (m d s : ℕ) : Type 0 where
   pub drives : 0 < d
   pub duty : d ≤ 1900
   pub later : 0 < m
@@ -33,14 +33,15 @@ pub record Undisturbed (cost : ℕ) (trace : List Event) (log : List Turned) (m 
   -- the low switch of the pair's high leg has never been on, or last went off at or before p - 48
   pub high_free : at_leg (at_tick (2000 * m - 1) log).lo_free (high_of s) ≤ 2000 * m
 
--- all steps below T are made, and fit
-pub record Legal (cost : ℕ) (trace : List Event) (until : ℕ) (log : List Turned) : Type 0 where
-  pub fits : EachStep (StepFits cost trace) [] log
+-- each step is as a run makes it, and all steps below the tick `until` are made
+pub record LogFits (cost : ℕ) (trace : List Event) (until : ℕ) (log : List Turned) : Type 0 where
+  pub fits : EachStep (StepMade cost trace) [] log
   pub times : EachStep TimesFit [] log
   pub pairs : EachStep PairFits [] log
   pub drives : EachStep DriveFits [] log
   pub all_made : NonePassed cost trace log until
 
+-- what `Chopped` asks of the period, as the gates stand after the steps up to each tick
 pub record ChoppedLog (cost until : ℕ) (log : List Turned) (m d s : ℕ) : Type 0 where
   pub high_on : (t : ℕ) → t < until → 2000 * m + 48 * cost ≤ t → t ≤ 2000 * m + d → is_on (at_tick t log).hi (high_of s) ≡ true
   pub high_off : (t : ℕ) → t < until → 2000 * m + d + 48 * cost ≤ t → t < 2000 * m + 2000 → is_on (at_tick t log).hi (high_of s) ≡ false

@@ -1,9 +1,9 @@
 -- Machinery, and no law: how a run is proved to be legal. Nothing that `Legal` means rests on this.
--- Where PWM's sample and write stand.
+-- At which ticks PWM was entered, read the position and wrote what it asks for.
 use Rattle.std.specs.Prelude.{◌≡◌, ◌≤◌, ◌+◌, ℕ, true, false}
 use Rattle.esc_laws.specs.ChopView.{View}
 
--- before the step that stands at x or later
+-- as it stands before a step at tick x or later
 pub record Placed (cost x : ℕ) (v : View) : Type 0 where
   pub entered : v.entered ≤ x
   pub sampled : v.sampled ≤ x

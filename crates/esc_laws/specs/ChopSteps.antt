@@ -1,5 +1,5 @@
 -- Machinery, and no law: how a run is proved to be legal. Nothing that `Legal` means rests on this.
--- What each step of a run does to the gates, by the notes before and after it.
+-- What each machine step of a run does to the gates, by the journal before and after it.
 use Rattle.std.specs.Prelude.{◌≡◌, ◌≢◌, ◌<◌, ◌≤◌, ◌%◌, ℕ, true, false, List, [], ◌∷◌, ◌++◌, reverse, All}
 use Rattle.esc_base.specs.declared.kind.Kind.TheVariants as kind
 use Rattle.esc_base.specs.declared.note.Note.{Note}
@@ -11,7 +11,7 @@ use Rattle.commutation.specs.Sectors.{high_of}
 use Rattle.commutation.specs.Commutated.{sector_at}
 use Rattle.gate_driver.specs.DeadSafe.{high_at, low_at, low_free_at}
 use Rattle.esc_laws.specs.Steps.{Turned, journal, open_in}
-use Rattle.esc_laws.specs.ChopView.{leaves}
+use Rattle.esc_laws.specs.ChopView.{has_leave}
 use Rattle.esc_laws.specs.World.{made}
 
 -- the notes of these steps, the newest first
@@ -24,6 +24,7 @@ pub record Writes (sampled t : ℕ) (back after : List Note) : Type 0 where
       → low_free_at (high_of (sector_at back)) back ≤ t → is_on (high_at after) (high_of (sector_at back)) ≡ true
   pub off : demand_at back ≤ sampled % 2000 → high_at after ≡ 0
 
+-- what a room shows of each step of its handler
 pub record ChopFits (loaded : Loaded) (before : List Turned) (e : Turned) : Type 0 where
   -- an entry is above each open kind
   pub above : e.enters ≡ true → All (λ j. kind_number j < kind_number e.kind) (open_in loaded before)
@@ -34,4 +35,4 @@ pub record ChopFits (loaded : Loaded) (before : List Turned) (e : Turned) : Type
   pub chops : e.kind ≡ kind.Pwm → e.enters ≡ false → (made before).pwm_own ≡ 4
       → Writes (made before).sampled e.tick (told loaded before) (told loaded (before ++ e ∷ []))
   -- PWM doesn't return before that step
-  pub back : e.kind ≡ kind.Pwm → e.enters ≡ false → leaves e.notes ≡ true → 4 ≤ (made before).pwm_own
+  pub back : e.kind ≡ kind.Pwm → e.enters ≡ false → has_leave e.notes ≡ true → 4 ≤ (made before).pwm_own

@@ -1,5 +1,5 @@
 -- Machinery, and no law: how a run is proved to be legal. Nothing that `Legal` means rests on this.
--- What a log of steps says of the drive: a fold. Nothing here knows a register.
+-- What a list of machine steps says of the drive, by their notes and by whose steps they are. Nothing here knows a register.
 use Rattle.std.specs.Prelude.{ℕ, ◌+◌, Bool, true, false, not, ◌&&◌, ◌||◌, ◌==◌, if◌then◌else◌, nat_lt, nat_le, List, [], ◌∷◌}
 use Rattle.std.specs.List.{fold}
 use Rattle.esc_base.specs.declared.kind.Kind.{Kind}
@@ -12,13 +12,13 @@ use Rattle.gate_driver.specs.Gated.{Legs, at_leg, offs, no_legs}
 use Rattle.esc_laws.specs.Steps.{Turned}
 use Rattle.esc_base.specs.declared.note.Note.TheVariants as note
 
--- it has an O
-abbrev pub leaves : List Note → Bool
-leaves [] = false
-leaves (note.Leave t k ∷ notes) = true
-leaves (n ∷ notes) = leaves notes
+-- the step ends its activation: an O stands among its notes
+abbrev pub has_leave : List Note → Bool
+has_leave [] = false
+has_leave (note.Leave t k ∷ notes) = true
+has_leave (n ∷ notes) = has_leave notes
 
--- whose step it is, as far as the drive is concerned; a Bool says that it is the return
+-- whose step it is, as far as the drive is concerned; a Bool says that the step ends its activation
 pub data By : Type 0 where
   CommEnters : By
   CommSteps : Bool → By
@@ -34,15 +34,16 @@ by_kind kind.Pwm false l = PwmSteps l
 by_kind k e l = Lower
 
 abbrev pub by_of : Turned → By
-by_of e = by_kind e.kind e.enters (leaves e.notes)
+by_of e = by_kind e.kind e.enters (has_leave e.notes)
 
+-- the gates, what was asked of the drive, and how far COMM and PWM have come
 pub record View : Type 0 where
   -- the gate word, and from when on the other switch of each leg may turn on
   pub hi : ℕ
   pub lo : ℕ
   pub hi_free : Legs
   pub lo_free : Legs
-  -- that of the newest K, and that of the newest Q with its tick
+  -- the newest K's demand, and the newest Q's sector and tick
   pub demand : ℕ
   pub sector : ℕ
   pub stepped : ℕ
@@ -63,8 +64,8 @@ pub record View : Type 0 where
   pub pwm_waits : ℕ
   pub comm_waits : ℕ
 
-abbrev pub start : View
-start = record {
+abbrev pub unmoved : View
+unmoved = record {
   hi = 0;
   lo = 0;
   hi_free = no_legs;
@@ -84,29 +85,31 @@ start = record {
   comm_waits = 0;
 }
 
-abbrev pub noted : View → Note → View
-noted v (note.Gate t hi lo) = record v { hi = hi; lo = lo; hi_free = offs v.hi_free v.hi hi t.0; lo_free = offs v.lo_free v.lo lo t.0 }
-noted v (note.Control t number marks d) = record v { demand = d; asked = not (d == 0) }
-noted v (note.Step t s) = record v { sector = s; stepped = t.0 }
-noted v n = v
+-- after a note
+abbrev pub told_by : View → Note → View
+told_by v (note.Gate t hi lo) = record v { hi = hi; lo = lo; hi_free = offs v.hi_free v.hi hi t.0; lo_free = offs v.lo_free v.lo lo t.0 }
+told_by v (note.Control t number marks d) = record v { demand = d; asked = not (d == 0) }
+told_by v (note.Step t s) = record v { sector = s; stepped = t.0 }
+told_by v n = v
 
-abbrev pub moved : View → By → ℕ → View
-moved v CommEnters t = record v { comm = true; comm_own = 0 }
-moved v (CommSteps l) t = record v { comm = not l; comm_own = v.comm_own + 1 }
-moved v PwmEnters t = record v { pwm = true; pwm_own = 0; entered = t; asked = false }
-moved v (PwmSteps l) t = record v {
+-- after a step at t, before its notes are counted
+abbrev pub moved_by : View → By → ℕ → View
+moved_by v CommEnters t = record v { comm = true; comm_own = 0 }
+moved_by v (CommSteps l) t = record v { comm = not l; comm_own = v.comm_own + 1 }
+moved_by v PwmEnters t = record v { pwm = true; pwm_own = 0; entered = t; asked = false }
+moved_by v (PwmSteps l) t = record v {
   pwm = not l;
   pwm_own = v.pwm_own + 1;
   sampled = if v.pwm_own == 1 then t else v.sampled;
   wrote = if v.pwm_own == 4 then v.sampled else v.wrote;
 }
-moved v Lower t = v
+moved_by v Lower t = v
 
 -- PWM is called: an edge or a K stands since its newest entry
 abbrev pub pwm_called : View → ℕ → Bool
 pwm_called v t = (nat_lt 0 v.demand && (v.asked || nat_lt (edges v.demand v.entered) (edges v.demand t))) && not v.pwm
 
--- COMM is called: the low switch of the newest sector's pair is off, and may turn on. (A start, a crossing and the forced limit
+-- COMM is called: the low switch of the newest sector's pair is off, and may turn on. (A unmoved, a crossing and the forced limit
 -- call it too.)
 abbrev pub comm_called : View → ℕ → Bool
 comm_called v t = (nat_lt 0 v.demand && (not (is_on v.lo (low_of v.sector)) && nat_le (at_leg v.hi_free (low_of v.sector)) t)) && not v.comm
@@ -118,18 +121,20 @@ is_comm PwmEnters = false
 is_comm (PwmSteps l) = false
 is_comm Lower = false
 
+-- how long a kind has been called: one step more if this step is counted and the kind was called before it and is so after it
 abbrev pub wait_next : Bool → Bool → Bool → ℕ → ℕ
 wait_next before after counted w = if before && after then (if counted then w + 1 else w) else 0
 
--- all but the counts
-abbrev pub turned : View → Turned → View
-turned v e = fold noted (moved v (by_of e) e.tick) e.notes
+-- after a step and its notes, but for the counts of waiting steps
+abbrev pub view_turned : View → Turned → View
+view_turned v e = fold told_by (moved_by v (by_of e) e.tick) e.notes
 
 abbrev pub view_next : View → Turned → View
-view_next v e = record (turned v e) {
-  pwm_waits = wait_next (pwm_called v e.tick) (pwm_called (turned v e) e.tick) (not (is_comm (by_of e))) v.pwm_waits;
-  comm_waits = wait_next (comm_called v e.tick) (comm_called (turned v e) e.tick) true v.comm_waits;
+view_next v e = record (view_turned v e) {
+  pwm_waits = wait_next (pwm_called v e.tick) (pwm_called (view_turned v e) e.tick) (not (is_comm (by_of e))) v.pwm_waits;
+  comm_waits = wait_next (comm_called v e.tick) (comm_called (view_turned v e) e.tick) true v.comm_waits;
 }
 
+-- what these steps say
 unfoldable pub view : List Turned → View
-view log = fold view_next start log
+view log = fold view_next unmoved log

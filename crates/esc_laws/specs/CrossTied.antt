@@ -10,7 +10,6 @@ use Rattle.zero_cross.specs.Kept.{Kept, is_expected, MayFilter}
 use Rattle.commutation.specs.Commutated.{Turn, Idle, Started, Turned, Crossed}
 use Rattle.commutation.specs.Pace.{Pace}
 use Rattle.gate_driver.specs.declared.to_sector.ChangeAt.{ChangeAt}
-use Rattle.gate_driver.specs.declared.to_sector.ChangeAt.TheVariants as change
 use Rattle.esc_core.specs.declared.state.CmpAt.{CmpAt}
 use Rattle.esc_core.specs.declared.state.CmpAt.TheVariants as cmp
 use Rattle.esc_core.specs.declared.state.CommAt.{CommAt}

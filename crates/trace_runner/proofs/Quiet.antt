@@ -104,7 +104,8 @@ quiet_edge stack w b level until cap to q none le more below =
     let after : Bank = after_line b level in
     let now : after.time ≡ b.time = line_time b level in
     let e : is_due b kind.Cap ≡ false = highest_none (due_now w b) kind.Cap (none_highest stack (due_now w b) q.idle) in
-    let f : is_due after kind.Cap ≡ false = subst (λ (x : Bank). is_due x kind.Cap ≡ false) (sym (advanced-now after)) (none after.time (omega arith) (omega arith)) in
+    let f : is_due after kind.Cap ≡ false =
+    subst (λ (x : Bank). is_due x kind.Cap ≡ false) (sym (advanced-now after)) (none after.time (omega arith) (omega arith)) in
     record {
       idle = sym (idle_same stack (due_now w b) (due_now w after) (λ k. line_now w b level k e f)) ∙ q.idle;
       none = λ k t from under. line_becomes b level k t f (none t (omega arith) (omega arith)) (q.none k t (omega arith) (omega arith));
@@ -118,7 +119,8 @@ comp_now w b level kind.Main e f = refl
 comp_now w b level k e f = sym (comp_due b level k e f)
 
 -- a quiet core stays quiet at such a change
-pub quiet_comp : (stack : List Kind) (w : Bool) (b : Bank) (level : Bool) (until to : ℕ) → IsQuiet stack w b until → is_due (after_comp b level) kind.Cmp ≡ false
+pub quiet_comp : (stack : List Kind) (w : Bool) (b : Bank) (level : Bool) (until to : ℕ) → IsQuiet stack w b until
+    → is_due (after_comp b level) kind.Cmp ≡ false
     → to ≤ until → IsQuiet stack w (after_comp b level) to
 quiet_comp stack w b level until to q f le =
     let after : Bank = after_comp b level in
