@@ -3,12 +3,13 @@ use Rattle.std.proofs.Common.{◌≡◌, ◌≢◌, ◌<◌, ◌≤◌, ℕ, Boo
 use Rattle.std.specs.List.{find}
 use Rattle.std.proofs.lemmas.Bool.Decides.{nat_tests}
 use Rattle.std.proofs.lemmas.List.{reverse-append}
+use Rattle.std.proofs.lemmas.List.Folds.{find-append}
 use Rattle.esc_base.specs.declared.kind.Kind.{Kind}
 use Rattle.esc_base.specs.declared.kind.Kind.TheVariants as kind
 use Rattle.esc_base.specs.Numbers.{kind_number}
 use Rattle.interrupt_machine.specs.declared.nest.Nest.{Nest}
 use Rattle.interrupt_machine.specs.declared.nest.Nest.TheVariants.{One, Full}
-use Rattle.interrupt_machine.specs.Open.{innermost, is_open, by_priority, highest, may_enter, enters_above, next_entry, is_idle, IsStack, IsAbove, outer_ones, kind_of}
+use Rattle.interrupt_machine.specs.Open.{innermost, is_open, above_cap, up_to_cap, by_priority, highest, may_enter, enters_above, next_entry, is_idle, IsStack, IsAbove, outer_ones, kind_of}
 use Rattle.interrupt_machine.specs.Turn.{IsHeld}
 
 -- the highest kind of two sets that agree
@@ -18,6 +19,29 @@ highest_same p q h = same_in by_priority
     same_in : (kinds : List Kind) → find p kinds ≡ find q kinds
     same_in [] = refl
     same_in (k ∷ rest) = rw (h k, same_in rest) refl
+
+-- the highest due kind: one above CAP, or else one of CAP and those below
+pub highest_above : (due : Kind → Bool) (k : Kind) → find due above_cap ≡ Some k → highest due ≡ Some k
+highest_above due k e = find-append due above_cap up_to_cap ∙ rw e refl
+
+pub highest_below : (due : Kind → Bool) → find due above_cap ≡ None → highest due ≡ find due up_to_cap
+highest_below due e = find-append due above_cap up_to_cap ∙ rw e refl
+
+-- above CAP none of those enters
+pub none_above_cap : (nest : Nest) (due : Kind → Bool) → enters_above nest (Some kind.Cap) (find due up_to_cap) ≡ None
+none_above_cap nest due = by_due nest (due kind.Cap) (due kind.Tick) (due kind.Uart) (due kind.Main) refl refl refl refl
+  where
+    by_due : (nest : Nest) (c t u m : Bool) → due kind.Cap ≡ c → due kind.Tick ≡ t → due kind.Uart ≡ u → due kind.Main ≡ m
+        → enters_above nest (Some kind.Cap) (find due up_to_cap) ≡ None
+    by_due One true t u m c d e f = rw c refl
+    by_due Full true t u m c d e f = rw c refl
+    by_due One false true u m c d e f = rw (c, d) refl
+    by_due Full false true u m c d e f = rw (c, d) refl
+    by_due One false false true m c d e f = rw (c, d, e) refl
+    by_due Full false false true m c d e f = rw (c, d, e) refl
+    by_due One false false false true c d e f = rw (c, d, e, f) refl
+    by_due Full false false false true c d e f = rw (c, d, e, f) refl
+    by_due nest false false false false c d e f = rw (c, d, e, f) refl
 
 pub number_most : (k : Kind) → kind_number k ≤ 6
 number_most kind.Main = lit≤ tt

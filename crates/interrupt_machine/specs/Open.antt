@@ -1,5 +1,5 @@
 -- The interrupt kinds with an open handler, the innermost first, and which due kind enters.
-use Rattle.std.specs.Prelude.{ℕ, Bool, true, false, not, ◌&&◌, ◌==◌, nat_lt, ◌<◌, if◌then◌else◌, List, [], ◌∷◌, Option, Some, None, is_none}
+use Rattle.std.specs.Prelude.{ℕ, Bool, true, false, not, ◌&&◌, ◌==◌, nat_lt, ◌<◌, if◌then◌else◌, List, [], ◌∷◌, ◌++◌, Option, Some, None, is_none}
 use Rattle.std.specs.List.{find, list_any}
 use Rattle.esc_base.specs.declared.kind.Kind.{Kind}
 use Rattle.esc_base.specs.declared.kind.Kind.TheVariants as kind
@@ -24,9 +24,16 @@ abbrev pub IsAbove : Option Kind → Kind → Type 0
 IsAbove None k = Unit {0}
 IsAbove (Some inner) k = kind_number inner < kind_number k
 
--- the kinds by their priority, the highest first
+-- the kinds above CAP, and CAP and those below it, the highest first
+abbrev pub above_cap : List Kind
+above_cap = kind.Comm ∷ kind.Pwm ∷ kind.Cmp ∷ []
+
+abbrev pub up_to_cap : List Kind
+up_to_cap = kind.Cap ∷ kind.Tick ∷ kind.Uart ∷ kind.Main ∷ []
+
+-- all kinds by their priority
 abbrev pub by_priority : List Kind
-by_priority = kind.Comm ∷ kind.Pwm ∷ kind.Cmp ∷ kind.Cap ∷ kind.Tick ∷ kind.Uart ∷ kind.Main ∷ []
+by_priority = above_cap ++ up_to_cap
 
 -- the kind with a number
 abbrev pub kind_in : List Kind → ℕ → Kind

@@ -3,7 +3,8 @@ ghost use Rattle.esc_base.specs.declared.kind.Kind.{Kind};
 ghost use Rattle.esc_base.specs.Range.{InRange};
 ghost use Rattle.esc_base.specs.Flash.{Told};
 ghost use Rattle.interrupt_machine.specs.Did.{notes_in, notes_of};
-ghost use Rattle.interrupt_machine.specs.Open.{innermost, is_open, due_now, highest, next_entry, is_idle};
+ghost use Rattle.std.specs.List.{find};
+ghost use Rattle.interrupt_machine.specs.Open.{innermost, is_open, due_now, highest, above_cap, up_to_cap, enters_above, next_entry, is_idle};
 ghost use Rattle.interrupt_machine.specs.Response.{Moment, Passed, Responds};
 ghost use Rattle.timer_regs.specs.Bank.{Bank};
 ghost use Rattle.timer_regs.specs.Effects.{advanced};
@@ -73,19 +74,20 @@ impl<F: Firmware> Machine<F> {
         self.stack.depth()
     }
 
-    /// The highest due kind. A run asks this millions of times, so each kind has a line of its own and no loop goes over them.
+    /// The highest due kind.
     fn due(&self, regs: &Regs) -> Option<Kind>
         ensures { result ≡ highest (due_now (F.waits self.now.firmware) regs.now) }
     {
-        if regs.is_due(Kind::Comm) {
-            return Some(Kind::Comm);
+        match due_above_cap(regs) {
+            Some(kind) => Some(kind),
+            None => self.due_up_to_cap(regs),
         }
-        if regs.is_due(Kind::Pwm) {
-            return Some(Kind::Pwm);
-        }
-        if regs.is_due(Kind::Cmp) {
-            return Some(Kind::Cmp);
-        }
+    }
+
+    /// The highest due kind of CAP and those below it.
+    fn due_up_to_cap(&self, regs: &Regs) -> Option<Kind>
+        ensures { result ≡ find (due_now (F.waits self.now.firmware) regs.now) up_to_cap }
+    {
         if regs.is_due(Kind::Cap) {
             return Some(Kind::Cap);
         }
@@ -188,11 +190,31 @@ impl<F: Firmware> Machine<F> {
         if regs.masked() {
             return None;
         }
-        let kind = self.due(regs)?;
+        match due_above_cap(regs) {
+            Some(kind) => self.entry_of(kind),
+            None => self.entry_up_to_cap(regs),
+        }
+    }
+
+    /// This kind, if it may enter.
+    fn entry_of(&self, kind: Kind) -> Option<Kind>
+        ensures { result ≡ enters_above self.now.nest (innermost self.now.open_kinds) (Some kind) }
+    {
         if self.nest.lets_in(self.stack.innermost(), kind) {
             Some(kind)
         } else {
             None
+        }
+    }
+
+    /// The kind that enters where none above CAP is due. Most steps of a run are CAP's own, and none of the kinds that are left
+    /// enters above CAP: so they aren't asked for then.
+    fn entry_up_to_cap(&self, regs: &Regs) -> Option<Kind>
+        ensures { result ≡ enters_above self.now.nest (innermost self.now.open_kinds) (find (due_now (F.waits self.now.firmware) regs.now) up_to_cap) }
+    {
+        match self.stack.innermost() {
+            Some(Kind::Cap) => None,
+            _ => self.entry_of(self.due_up_to_cap(regs)?),
         }
     }
 
@@ -232,6 +254,23 @@ impl<F: Firmware> Machine<F> {
             self.stack.pop();
         }
     }
+}
+
+/// The highest due kind of those above CAP. A run asks this millions of times, so each kind has a line of its own, and no loop
+/// goes over them.
+fn due_above_cap(regs: &Regs) -> Option<Kind>
+    ensures { (waits : Bool) → result ≡ find (due_now waits regs.now) above_cap }
+{
+    if regs.is_due(Kind::Comm) {
+        return Some(Kind::Comm);
+    }
+    if regs.is_due(Kind::Pwm) {
+        return Some(Kind::Pwm);
+    }
+    if regs.is_due(Kind::Cmp) {
+        return Some(Kind::Cmp);
+    }
+    None
 }
 
 /// A G note, if the gate word isn't the one before.
