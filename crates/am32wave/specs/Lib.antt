@@ -10,3 +10,6 @@ pub mod After
 pub mod Status
 pub mod Shown
 pub mod Laws
+pub mod Moments
+pub mod Levels
+pub mod TracedWave

@@ -5,6 +5,8 @@ mod dump;
 mod explain;
 mod journal;
 mod laws;
+mod levels;
+mod moment;
 mod picture;
 mod pieces;
 mod pipe;
@@ -15,6 +17,7 @@ mod status;
 mod tally;
 #[cfg(test)]
 mod tests;
+mod traced;
 mod usage;
 mod wire;
 
