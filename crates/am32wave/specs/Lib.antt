@@ -13,3 +13,5 @@ pub mod Laws
 pub mod Moments
 pub mod Levels
 pub mod TracedWave
+pub mod Next
+pub mod Merged

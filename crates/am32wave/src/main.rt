@@ -1,12 +1,15 @@
 //! `am32wave`: a journal of `am32sim` as a wave, or in words.
 #![tactic(auto)]
 
+mod ahead;
 mod dump;
 mod explain;
 mod journal;
 mod laws;
 mod levels;
+mod merge;
 mod moment;
+mod next;
 mod picture;
 mod pieces;
 mod pipe;

@@ -1,6 +1,5 @@
-use Rattle.std.proofs.Common.{◌≡◌, List, [], ◌∷◌, ◌++◌, sym, ◌∙◌, ap, subst}
+use Rattle.std.proofs.Common.{[], ◌∷◌, ◌++◌, sym, ◌∙◌, ap}
 use Rattle.am32wave.specs.declared.moment.Moment.{Moment}
-use Rattle.am32wave.specs.declared.moment.Moment.TheVariants as moment
 use Rattle.am32wave.specs.Levels.{levels}
 use Rattle.am32wave.specs.Moments.{time, notes_of, events_of}
 use Rattle.am32wave.specs.Picture.{picture}
