@@ -1,5 +1,5 @@
 -- A journal and its trace are read moment by moment.
-use Rattle.std.proofs.Common.{◌≡◌, ◌≤◌, ◌<◌, ℕ, ◌+◌, List, [], ◌∷◌, ◌++◌, length, Option, Some, None, Result, Ok, Err, refl, sym, ◌∙◌, ap, subst, append_assoc, append-nil, length-append, arith}
+use Rattle.std.proofs.Common.{◌≡◌, ◌≤◌, ℕ, List, [], ◌∷◌, ◌++◌, Option, Some, None, Ok, sym, ◌∙◌, ap, subst, append_assoc, append-nil, length-append, arith}
 use Rattle.std.specs.List.{All}
 use Rattle.std.specs.Io.KnownBytes.{prepend_known, IsAtEnd}
 use Rattle.std.proofs.lemmas.List.Concat.{flat_map-append}
@@ -7,7 +7,7 @@ use Rattle.std.proofs.lemmas.List.Elements.{All-push, All-weaker, All-head, All-
 use Rattle.esc_base.specs.declared.event.Event.{Event}
 use Rattle.esc_base.specs.declared.note.Note.{Note}
 use Rattle.esc_base.specs.declared.tick.Tick.{Tick}
-use Rattle.esc_base.specs.Journal.{time_of, Each, IsLater, Journal}
+use Rattle.esc_base.specs.Journal.{time_of, Each, IsLater}
 use Rattle.esc_base.specs.Range.{InRange}
 use Rattle.esc_base.specs.Trace.{tick_of}
 use Rattle.trace_text.specs.declared.item.Refusal.{Refusal as TraceRefusal}
@@ -19,7 +19,6 @@ use Rattle.trace_text.specs.Text.{note_bytes, Text}
 use Rattle.trace_text.proofs.Answering.{taken_held}
 use Rattle.trace_text.proofs.Taking.{prepend_both}
 use Rattle.am32wave.specs.declared.ahead.Merge.{Merge}
-use Rattle.am32wave.specs.declared.journal.Refusal.{Refusal}
 use Rattle.am32wave.specs.declared.moment.Moment.{Moment}
 use Rattle.am32wave.specs.declared.moment.Moment.TheVariants as moment
 use Rattle.am32wave.specs.declared.next.NextEvent.{NextEvent}
@@ -31,9 +30,7 @@ use Rattle.am32wave.specs.declared.status.Status.{Status}
 use Rattle.am32wave.specs.declared.status.Status.TheVariants as status
 use Rattle.am32wave.specs.Merged.{NotesRead, NotesEnd, IsNextNote, EventsRead, EventAhead, EventsEnd, FirstEvents, IsNextEvent, NotesStop, EventsStop, Merged, Ends, Gives, MergeSays, NotesWhy, EventsWhy, IsOfNotes, IsOfEvents}
 use Rattle.am32wave.specs.Moments.{time, notes_of, events_of, newest_time, InOrder}
-use Rattle.am32wave.specs.Next.{lines_if_on, IsNoteKnown, IsEventKnown}
-use Rattle.am32wave.specs.Picture.{last_time}
-use Rattle.am32wave.specs.Reading.{HasRead, PassesLine, OnlyPart, Refuses}
+use Rattle.am32wave.specs.Reading.{HasRead, PassesLine}
 use Rattle.am32wave.proofs.Look.{last_time_more}
 use Rattle.am32wave.proofs.Shows.{read_more}
 use Rattle.am32wave.proofs.Traces.{newest_more, notes_with_note, notes_with_event, events_with_note, events_with_event}

@@ -1,5 +1,5 @@
 -- What a status says, as a text and as a number.
-use Rattle.std.specs.Prelude.{ℕ, List, [], ◌∷◌, ◌++◌, codes}
+use Rattle.std.specs.Prelude.{ℕ, List, [], ◌++◌, codes}
 use Rattle.std.specs.Fmt.{decimal}
 use Rattle.am32wave.specs.declared.journal.Refusal.{Refusal}
 use Rattle.am32wave.specs.declared.journal.Refusal.TheVariants as refusal
