@@ -135,7 +135,11 @@ impl Merge {
     }
 
     /// The next moment, `None` where both journal and trace are at their ends, or why one of them isn't read further.
-    pub fn next<S: Source, T: Source>(&mut self, src: &mut S, trace: &mut T) -> Result<Option<Moment>, Status>
+    pub fn next<S: Source, T: Source>(
+        &mut self,
+        src: &mut S,
+        trace: &mut T,
+    ) -> Result<Option<Moment>, Status>
         ensures says { (notes_first events_first : Option (List ℕ)) (moments : List AMoment) →
             Merged self.old notes_first (S.left src.old) events_first (T.left trace.old) moments →
             MergeSays result self.new notes_first (S.left src.new) events_first (T.left trace.new) moments }

@@ -141,7 +141,11 @@ pub fn wave_main<S: Source, K: Sink>(asked: Option<Form>, src: &mut S, out: &mut
 }
 
 /// Reads a journal and its trace and writes the wave of both. An `Err` is the sink's.
-fn show_traced<S: Source, T: Source, K: Sink>(src: &mut S, trace: &mut T, out: &mut K) -> Result<Status, Failed>
+fn show_traced<S: Source, T: Source, K: Sink>(
+    src: &mut S,
+    trace: &mut T,
+    out: &mut K,
+) -> Result<Status, Failed>
     ensures ok { IfOk result (λ s. TracedShown s (S.left src.old) (S.left src.new) (T.left trace.old) (T.left trace.new) (K.given out.old) (K.given out.new)) }
     ensures read_fault { IfOk result (λ s. OnReadFault s (Rose (S.faults src.old) (S.faults src.new))) }
     ensures trace_fault { IfOk result (λ s. OnTraceFault s (Rose (T.faults trace.old) (T.faults trace.new))) }

@@ -14,9 +14,15 @@ pub enum Status {
     /// The whole journal was read and shown.
     Done,
     /// The journal's first faulty line, counted from 1, and what is wrong with it.
-    Refused { line: u64, kind: Refusal },
+    Refused {
+        line: u64,
+        kind: Refusal,
+    },
     /// The trace's first faulty line, counted from 1, and what is wrong with it.
-    TraceRefused { line: u64, kind: trace_text::Refusal },
+    TraceRefused {
+        line: u64,
+        kind: trace_text::Refusal,
+    },
     /// The words aren't the program's.
     Usage,
     /// The journal's source failed.

@@ -23,6 +23,7 @@ $var wire 1 F comparator $end
 
 /// The identifiers of these two, behind those of the journal's 36 wires.
 const LINE_ID: u8 = b'E';
+
 const COMPARATOR_ID: u8 = b'F';
 
 fn push_level_values(levels: &Levels, page: &mut Page)

@@ -57,9 +57,9 @@ returns-in_err-put_pieces-in-Ok-Some-clause-err g c =
     (g.T.Source.left c.loop-moment.trace) (g.T.Source.left c.next.new.trace) (g.K.Sink.given c.args.out.now) (g.K.Sink.given c.loop-moment.out)
     (g.K.Sink.given c.put_pieces-in-Ok-Some.new.out) c.in-Ok-Some.moment (text c.as_slice-in-Ok-Some.result.now) c.loop-moment.invariant.so_far
     (λ moments h.
-          says_some c.in-Ok-Some.field-0 c.in-Ok-Some.moment c.next.new.self (g.S.Source.left c.args.src.now) (g.S.Source.left c.next.new.src)
-          (g.T.Source.left c.args.trace.now) (g.T.Source.left c.next.new.trace) moments c.in-Ok-Some.field-0-is
-          (c.in-Ok-Some.ensures.says (g.S.Source.left c.args.src.now) (g.T.Source.left c.args.trace.now) moments h))
+    says_some c.in-Ok-Some.field-0 c.in-Ok-Some.moment c.next.new.self (g.S.Source.left c.args.src.now) (g.S.Source.left c.next.new.src)
+    (g.T.Source.left c.args.trace.now) (g.T.Source.left c.next.new.trace) moments c.in-Ok-Some.field-0-is
+    (c.in-Ok-Some.ensures.says (g.S.Source.left c.args.src.now) (g.T.Source.left c.args.trace.now) moments h))
     (λ moments is. ap text c.as_slice-in-Ok-Some.ensures.value ∙ c.add.ensures.part moments is) c.in_err-put_pieces-in-Ok-Some.ensures.front)
 
 pub returns-in-Ok-None-clause-ok : goal.returns-in-Ok-None-clause-ok
