@@ -1,16 +1,24 @@
--- Gates change where a gate word stands.
+-- Gates change where a gate word stands, and the levels outside where an event says so.
 use Rattle.std.proofs.Common.{◌≡◌, List, Option, Some, None, unwrap_or, refl, ◌∙◌, ap}
 use Rattle.std.specs.Option.{option_map}
 use Rattle.esc_base.specs.declared.gate.Leg.{Leg}
 use Rattle.esc_base.specs.declared.note.Note.{Note}
 use Rattle.esc_base.specs.Legs.{is_on}
 use Rattle.esc_base.specs.Numbers.{bit_of}
+use Rattle.esc_base.specs.declared.event.Event.{Event}
+use Rattle.esc_base.specs.declared.event.Event.TheVariants as event
+use Rattle.am32wave.specs.declared.levels.Levels.{Levels}
+use Rattle.am32wave.specs.declared.moment.Moment.{Moment}
+use Rattle.am32wave.specs.declared.moment.Moment.TheVariants as moment
 use Rattle.am32wave.specs.declared.picture.Picture.{Picture}
 use Rattle.am32wave.specs.declared.wire.Wire.TheVariants as wire
 use Rattle.am32wave.specs.Picture.{picture, high_told, low_told}
 use Rattle.am32wave.specs.Wires.{value}
-use Rattle.am32wave.specs.Laws.{GatesFollow}
+use Rattle.am32wave.specs.Laws.{GatesFollow, LevelsFollow}
+use Rattle.am32wave.specs.Levels.{levels}
+use Rattle.am32wave.specs.Moments.{events_of}
 use Rattle.am32wave.proofs.Look.{picture_more}
+use Rattle.am32wave.proofs.Traces.{levels_more, events_with_note, events_with_event}
 
 told : {A B : Type 0} (f : A → B) (o : Option A) (d : A) → f (unwrap_or o d) ≡ unwrap_or (option_map f o) (f d)
 told f None d = refl
@@ -21,3 +29,21 @@ gates_follow before n x = record {
   high = ap (λ (p : Picture). value (wire.High x) p) (picture_more before n) ∙ told (λ hi. bit_of (is_on hi x)) (high_told n) (picture before).drive.high;
   low = ap (λ (p : Picture). value (wire.Low x) p) (picture_more before n) ∙ told (λ lo. bit_of (is_on lo x)) (low_told n) (picture before).drive.low;
 }
+
+pub levels_follow : (before : List Moment) (m : Moment) → LevelsFollow before m
+levels_follow before (moment.Note n) = record {
+  line = ap (λ (es : List Event). (levels es).line) (events_with_note before n);
+  comparator = ap (λ (es : List Event). (levels es).comparator) (events_with_note before n);
+}
+levels_follow before (moment.Event (event.Edge t level)) =
+    let e = ap levels (events_with_event before (event.Edge t level)) ∙ levels_more (events_of before) (event.Edge t level) in
+    record { line = ap (λ (l : Levels). l.line) e; comparator = ap (λ (l : Levels). l.comparator) e }
+levels_follow before (moment.Event (event.Comp t level)) =
+    let e = ap levels (events_with_event before (event.Comp t level)) ∙ levels_more (events_of before) (event.Comp t level) in
+    record { line = ap (λ (l : Levels). l.line) e; comparator = ap (λ (l : Levels). l.comparator) e }
+levels_follow before (moment.Event (event.Serial t byte)) =
+    let e = ap levels (events_with_event before (event.Serial t byte)) ∙ levels_more (events_of before) (event.Serial t byte) in
+    record { line = ap (λ (l : Levels). l.line) e; comparator = ap (λ (l : Levels). l.comparator) e }
+levels_follow before (moment.Event (event.Stall t n)) =
+    let e = ap levels (events_with_event before (event.Stall t n)) ∙ levels_more (events_of before) (event.Stall t n) in
+    record { line = ap (λ (l : Levels). l.line) e; comparator = ap (λ (l : Levels). l.comparator) e }

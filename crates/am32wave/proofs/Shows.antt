@@ -78,7 +78,7 @@ pub record SoFar (f : Form) (j : Reader) (r : Report) (left_first left given_fir
   pub stands : IsAfter r notes
   pub given_is : given ≡ append_known given_first (begun f notes)
 
-read_more : (j j' : Reader) (left_first left left' : Option (List ℕ)) (notes : List Note) (n : Note) → HasRead left_first (ahead j.held left) notes
+pub read_more : (j j' : Reader) (left_first left left' : Option (List ℕ)) (notes : List Note) (n : Note) → HasRead left_first (ahead j.held left) notes
     → All (λ m. time_of m ≤ j.time.0) notes → PassesLine n j j' (ahead j.held left) (ahead j'.held left')
     → HasRead left_first (ahead j'.held left') (notes ++ n ∷ [])
 read_more j j' left_first left left' notes n h below p = record {
@@ -136,7 +136,7 @@ none_read : (left : Option (List ℕ)) → left ≡ prepend_known (Text []) left
 none_read None = refl
 none_read (Some rest) = refl
 
-nothing_given : (given : Option (List ℕ)) → given ≡ append_known given []
+pub nothing_given : (given : Option (List ℕ)) → given ≡ append_known given []
 nothing_given None = refl
 nothing_given (Some bytes) = ap (λ (b : List ℕ). Some b) (sym (append-nil bytes))
 
@@ -265,6 +265,8 @@ pub done_or_fault : (f : Form) (s : Status) (left left_after before after : Opti
 done_or_fault f status.Done left left_after before after text e j h = tt
 done_or_fault f (status.Refused line kind) left left_after before after text e j h =
     not_refused f line kind text before after j (subst (λ (o : Option (List ℕ)). IsRefused f line kind o before after) e h)
+done_or_fault f (status.TraceRefused line kind) left left_after before after text e j h = h
+done_or_fault f status.TraceFault left left_after before after text e j h = h
 done_or_fault f status.Usage left left_after before after text e j h = h
 done_or_fault f status.ReadFault left left_after before after text e j h = tt
 done_or_fault f status.WriteFault left left_after before after text e j h = tt

@@ -1,10 +1,15 @@
 -- What follows from the definitions alone.
-use Rattle.std.specs.Prelude.{◌≡◌, List, [], ◌∷◌, ◌++◌, unwrap_or, option_map}
+use Rattle.std.specs.Prelude.{◌≡◌, Bool, List, [], ◌∷◌, ◌++◌, Option, Some, None, unwrap_or, option_map}
 use Rattle.esc_base.specs.declared.gate.Leg.{Leg}
 use Rattle.esc_base.specs.declared.note.Note.{Note}
 use Rattle.esc_base.specs.Legs.{is_on}
 use Rattle.esc_base.specs.Numbers.{bit_of}
+use Rattle.esc_base.specs.declared.event.Event.TheVariants as event
+use Rattle.am32wave.specs.declared.moment.Moment.{Moment}
+use Rattle.am32wave.specs.declared.moment.Moment.TheVariants as moment
 use Rattle.am32wave.specs.declared.wire.Wire.TheVariants as wire
+use Rattle.am32wave.specs.Levels.{levels}
+use Rattle.am32wave.specs.Moments.{events_of}
 use Rattle.am32wave.specs.Picture.{picture, high_told, low_told}
 use Rattle.am32wave.specs.Wires.{value}
 
@@ -16,3 +21,23 @@ pub record GatesFollow (before : List Note) (n : Note) (x : Leg) : Type 0 where
   pub low :
       value (wire.Low x) (picture (before ++ n ∷ []))
       ≡ unwrap_or (option_map (λ lo. bit_of (is_on lo x)) (low_told n)) (value (wire.Low x) (picture before))
+
+-- what a moment says of the signal line, and of the comparator
+abbrev pub line_told : Moment → Option Bool
+line_told (moment.Note n) = None
+line_told (moment.Event (event.Edge t level)) = Some level
+line_told (moment.Event (event.Comp t level)) = None
+line_told (moment.Event (event.Serial t byte)) = None
+line_told (moment.Event (event.Stall t n)) = None
+
+abbrev pub comparator_told : Moment → Option Bool
+comparator_told (moment.Note n) = None
+comparator_told (moment.Event (event.Edge t level)) = None
+comparator_told (moment.Event (event.Comp t level)) = Some level
+comparator_told (moment.Event (event.Serial t byte)) = None
+comparator_told (moment.Event (event.Stall t n)) = None
+
+-- the levels are what a moment says of them, and what they were before where it says nothing
+pub record LevelsFollow (before : List Moment) (m : Moment) : Type 0 where
+  pub line : (levels (events_of (before ++ m ∷ []))).line ≡ unwrap_or (line_told m) (levels (events_of before)).line
+  pub comparator : (levels (events_of (before ++ m ∷ []))).comparator ≡ unwrap_or (comparator_told m) (levels (events_of before)).comparator

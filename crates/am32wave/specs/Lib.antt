@@ -10,3 +10,8 @@ pub mod After
 pub mod Status
 pub mod Shown
 pub mod Laws
+pub mod Moments
+pub mod Levels
+pub mod TracedWave
+pub mod Next
+pub mod Merged

@@ -98,10 +98,14 @@ Shown f status.ReadFault left_before left_after before after = IsReadFault f lef
 Shown f status.WriteFault left_before left_after before after = IsWriteFault f left_before before after
 Shown f s left_before left_after before after = ⊥
 
--- facts by the status
+-- facts by the status: where a journal's source failed, where a trace's did, and where the sink did
 abbrev pub OnReadFault : Status → Type 0 → Type 0
 OnReadFault status.ReadFault P = P
 OnReadFault s P = Unit {0}
+
+abbrev pub OnTraceFault : Status → Type 0 → Type 0
+OnTraceFault status.TraceFault P = P
+OnTraceFault s P = Unit {0}
 
 abbrev pub OnWriteFault : Status → Type 0 → Type 0
 OnWriteFault status.WriteFault P = P

@@ -14,14 +14,14 @@ use crate::wire::{WIRES, Wire};
 use esc_base::{Note, Tick};
 
 /// What stands before the declarations of the wires.
-const HEAD: &str = "\
+pub const HEAD: &str = "\
 $comment A journal of am32sim. Tick n of 48 MHz stands at n * 62500 / 3 ps, rounded down. $end
 $timescale 1 ps $end
 $scope module am32 $end
 ";
 
 /// What stands between the declarations and the first values.
-const FIRST: &str = "\
+pub const FIRST: &str = "\
 $upscope $end
 $enddefinitions $end
 #0
@@ -29,12 +29,12 @@ $dumpvars
 ";
 
 /// What stands behind the first values.
-const BEGUN: &str = "$end\n";
+pub const BEGUN: &str = "$end\n";
 
 /// The identifier of the first wire, `!`. Each further one has the next character.
 const FIRST_ID: u8 = b'!';
 
-fn push_declarations(wires: &[Wire], page: &mut Page)
+pub fn push_declarations(wires: &[Wire], page: &mut Page)
     requires few { length wires.now ≤ 36 }
     requires room { array_vec_len page.old ≤ 1 }
     requires fits { All Fits page.old.items }
@@ -50,7 +50,7 @@ fn push_declarations(wires: &[Wire], page: &mut Page)
     }
 }
 
-fn push_values(wires: &[Wire], picture: &Picture, page: &mut Page)
+pub fn push_values(wires: &[Wire], picture: &Picture, page: &mut Page)
     requires few { length wires.now ≤ 36 }
     requires room { array_vec_len page.old ≤ 40 }
     requires fits { All Fits page.old.items }
@@ -68,7 +68,7 @@ fn push_values(wires: &[Wire], picture: &Picture, page: &mut Page)
 }
 
 /// The stamp of a tick that isn't the one before.
-fn push_stamp(before: Tick, t: Tick, page: &mut Page)
+pub fn push_stamp(before: Tick, t: Tick, page: &mut Page)
     requires word { IsWord t.0 }
     requires empty { page.old.items ≡ [] }
     ensures text { text page.new.items ≡ stamp_if_new before.0 t.0 }
@@ -81,7 +81,7 @@ fn push_stamp(before: Tick, t: Tick, page: &mut Page)
 }
 
 /// A change for each wire that shows another value than before.
-fn push_changes(wires: &[Wire], before: &Picture, after: &Picture, page: &mut Page)
+pub fn push_changes(wires: &[Wire], before: &Picture, after: &Picture, page: &mut Page)
     requires few { length wires.now ≤ 36 }
     requires room { array_vec_len page.old ≤ 1 }
     requires fits { All Fits page.old.items }

@@ -1,10 +1,16 @@
 //! `am32wave`: a journal of `am32sim` as a wave, or in words.
 #![tactic(auto)]
 
+mod ahead;
 mod dump;
 mod explain;
+mod file_source;
 mod journal;
 mod laws;
+mod levels;
+mod merge;
+mod moment;
+mod next;
 mod picture;
 mod pieces;
 mod pipe;
@@ -15,45 +21,64 @@ mod status;
 mod tally;
 #[cfg(test)]
 mod tests;
+mod traced;
 mod usage;
 mod wire;
 
 use esc_base::{InSource, OutSink, Sink, Source};
-pub use laws::gates_follow_notes;
+use file_source::FileSource;
+pub use laws::{gates_follow_notes, levels_follow_events};
 use pipe::PipeEnd;
-use run::{Form, wave_main};
+use run::{traced_main, wave_main};
 use status::{Status, status_text};
 use std::cell::Cell;
 use std::process::ExitCode;
-use std::{env, io};
-use usage::usage_text;
+use std::{env, fs, io};
+use usage::{Wish, usage_text, wish_of};
 
-/// The form that one word more asks for; `None` where the words aren't the program's.
-fn with_word(form: Option<Form>, word: &str) -> Option<Form> {
-    match form {
-        Some(Form::Wave) if word == "--explain" => Some(Form::Words),
-        _ => None,
+/// What the words behind the program's name ask for. A word that isn't text is in no command.
+fn asked(rt: &HostRuntime) -> Result<Wish, Status> {
+    let args = match env::args(rt) {
+        Ok(args) => args,
+        Err(e) if e.kind() == io::ErrorKind::InvalidData => return Err(Status::Usage),
+        Err(_) => return Err(Status::NoMemory),
+    };
+    match args.collect::<Vec<String>>(rt.alloc()) {
+        Ok(words) => wish_of(rt.alloc(), words.as_slice()),
+        Err(_) => Err(Status::NoMemory),
     }
 }
 
-/// The form that the words behind the program's name ask for. A word that isn't text is none of them.
-fn form_of(rt: &HostRuntime) -> Result<Option<Form>, Status> {
-    let args = match env::args(rt) {
-        Ok(args) => args,
-        Err(e) if e.kind() == io::ErrorKind::InvalidData => return Ok(None),
-        Err(_) => return Err(Status::NoMemory),
-    };
-    let mut form = Some(Form::Wave);
-    for arg in args.skip(1) {
-        form = with_word(form, arg.as_str());
+/// The wave of a journal and of the trace in a file. A file that can't be opened is a fault of the trace.
+fn show_traced<S: Source, K: Sink>(
+    rt: &HostRuntime,
+    path: &str,
+    src: &mut S,
+    out: &mut K,
+) -> Status {
+    match fs::open(rt, path) {
+        Ok(file) => traced_main(src, &mut FileSource::new(file), out),
+        Err(_) => Status::TraceFault,
     }
-    Ok(form)
 }
 
 fn command<S: Source, K: Sink>(rt: &HostRuntime, src: &mut S, out: &mut K) -> Status {
-    match form_of(rt) {
-        Ok(form) => wave_main(form, src, out),
+    match asked(rt) {
+        Ok(Wish::Show(form)) => wave_main(Some(form), src, out),
+        Ok(Wish::Traced(path)) => show_traced(rt, path.as_str(), src, out),
+        Ok(Wish::Help) => write_help(rt),
+        Err(Status::Usage) => wave_main(None, src, out),
         Err(status) => status,
+    }
+}
+
+fn write_help(rt: &HostRuntime) -> Status {
+    match usage_text(rt.alloc()) {
+        Ok(text) => {
+            let _ = rt.print(text.as_str());
+            Status::Done
+        }
+        Err(_) => Status::NoMemory,
     }
 }
 

@@ -4,14 +4,17 @@ ghost use Rattle.esc_base.specs.Outside.{Rose};
 ghost use Rattle.esc_base.specs.Range.{InRange};
 ghost use Rattle.am32wave.specs.declared.run.Form.{Form as AForm};
 ghost use Rattle.am32wave.specs.Pieces.{text, Fits};
-ghost use Rattle.am32wave.specs.Shown.{form_of, IsAfter, head_text, part_text, end_text, Shown, IsWriteFault, OnReadFault, OnWriteFault, IsDoneOrFault, IsJournal};
+ghost use Rattle.am32wave.specs.Merged.{TracedShown};
+ghost use Rattle.am32wave.specs.Shown.{form_of, IsAfter, head_text, part_text, end_text, Shown, IsWriteFault, OnReadFault, OnTraceFault, OnWriteFault, IsDoneOrFault, IsJournal};
 
+use crate::ahead::Merge;
 use crate::dump::Dump;
 use crate::explain::Explanation;
 use crate::journal::Item;
 use crate::pieces::{Page, put_pieces};
 use crate::reader::Journal;
 use crate::status::Status;
+use crate::traced::Traced;
 use esc_base::{Failed, Note, Sink, Source};
 
 /// How a journal is shown.
@@ -132,6 +135,48 @@ pub fn wave_main<S: Source, K: Sink>(asked: Option<Form>, src: &mut S, out: &mut
         return Status::Usage;
     };
     match show(form, src, out) {
+        Ok(status) => status,
+        Err(_) => Status::WriteFault,
+    }
+}
+
+/// Reads a journal and its trace and writes the wave of both. An `Err` is the sink's.
+fn show_traced<S: Source, T: Source, K: Sink>(
+    src: &mut S,
+    trace: &mut T,
+    out: &mut K,
+) -> Result<Status, Failed>
+    ensures ok { IfOk result (λ s. TracedShown s (S.left src.old) (S.left src.new) (T.left trace.old) (T.left trace.new) (K.given out.old) (K.given out.new)) }
+    ensures read_fault { IfOk result (λ s. OnReadFault s (Rose (S.faults src.old) (S.faults src.new))) }
+    ensures trace_fault { IfOk result (λ s. OnTraceFault s (Rose (T.faults trace.old) (T.faults trace.new))) }
+    ensures no_write_fault { IfOk result (λ s. s ≢ Status.WriteFault) }
+    ensures err { OnErr result (TracedShown Status.WriteFault (S.left src.old) (S.left src.new) (T.left trace.old) (T.left trace.new) (K.given out.old) (K.given out.new)) }
+    ensures write_fault { OnErr result (Rose (K.faults out.old) (K.faults out.new)) }
+{
+    let mut merge = Merge::new();
+    let mut dump = Traced::new();
+    put_pieces(dump.head().as_slice(), out)?;
+    loop {
+        match merge.next(src, trace) {
+            Ok(Some(moment)) => put_pieces(dump.add(&moment).as_slice(), out)?,
+            Ok(None) => return Ok(Status::Done),
+            Err(status) => return Ok(status),
+        }
+    }
+}
+
+/// Reads a journal from `src` and its trace from `trace`, and writes the wave of both to `out`. It is handed no allocator, so it
+/// takes no memory.
+pub fn traced_main<S: Source, T: Source, K: Sink>(src: &mut S, trace: &mut T, out: &mut K) -> Status
+    // What was read and written, by the status, where the sources and the sink tell their bytes.
+    ensures shown { TracedShown result (S.left src.old) (S.left src.new) (T.left trace.old) (T.left trace.new) (K.given out.old) (K.given out.new) }
+
+    // Each fault is the source's or the sink's own.
+    ensures read_fault { OnReadFault result (Rose (S.faults src.old) (S.faults src.new)) }
+    ensures trace_fault { OnTraceFault result (Rose (T.faults trace.old) (T.faults trace.new)) }
+    ensures write_fault { OnWriteFault result (Rose (K.faults out.old) (K.faults out.new)) }
+{
+    match show_traced(src, trace, out) {
         Ok(status) => status,
         Err(_) => Status::WriteFault,
     }

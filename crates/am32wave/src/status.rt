@@ -1,6 +1,5 @@
-ghost use Rattle.std.specs.Prelude.{◌≡◌, ◌≤◌, length};
-ghost use Rattle.am32wave.specs.Status.{status_bytes, refusal_name, exit_number};
-ghost use Rattle.am32wave.specs.declared.status.Status.TheVariants.{Refused as IsRefused};
+ghost use Rattle.std.specs.Prelude.{◌≡◌, ◌≤◌, ◌++◌, length, codes, decimal};
+ghost use Rattle.am32wave.specs.Status.{status_bytes, refusal_name, trace_refusal_name, exit_number};
 
 use crate::journal::Refusal;
 use arrayvec::ArrayString;
@@ -15,11 +14,21 @@ pub enum Status {
     /// The whole journal was read and shown.
     Done,
     /// The journal's first faulty line, counted from 1, and what is wrong with it.
-    Refused { line: u64, kind: Refusal },
+    Refused {
+        line: u64,
+        kind: Refusal,
+    },
+    /// The trace's first faulty line, counted from 1, and what is wrong with it.
+    TraceRefused {
+        line: u64,
+        kind: trace_text::Refusal,
+    },
     /// The words aren't the program's.
     Usage,
-    /// The source failed.
+    /// The journal's source failed.
     ReadFault,
+    /// The trace's source failed.
+    TraceFault,
     /// The sink failed.
     WriteFault,
     /// Memory was refused.
@@ -33,9 +42,9 @@ impl Status {
     {
         match self {
             Status::Done => 0,
-            Status::Refused { .. } => 1,
+            Status::Refused { .. } | Status::TraceRefused { .. } => 1,
             Status::Usage => 2,
-            Status::ReadFault => 3,
+            Status::ReadFault | Status::TraceFault => 3,
             Status::WriteFault => 4,
             Status::NoMemory => 5,
         }
@@ -54,15 +63,37 @@ fn name_of(kind: Refusal) -> &'static str
     }
 }
 
-fn refusal_text(line: u64, kind: Refusal) -> Line
-    ensures { result.bytes ≡ status_bytes (IsRefused line kind) }
+fn trace_name_of(kind: trace_text::Refusal) -> &'static str
+    ensures name { result.now ≡ trace_refusal_name kind }
+    ensures short { length result.now ≤ 8 }
+{
+    match kind {
+        trace_text::Refusal::TooLong => "TooLong",
+        trace_text::Refusal::BadTime => "BadTime",
+        trace_text::Refusal::TimeBack => "TimeBack",
+        trace_text::Refusal::TooLate => "TooLate",
+        trace_text::Refusal::BadKind => "BadKind",
+        trace_text::Refusal::BadValue => "BadValue",
+        trace_text::Refusal::Trailing => "Trailing",
+        trace_text::Refusal::TooClose => "TooClose",
+        trace_text::Refusal::NoEnd => "NoEnd",
+        trace_text::Refusal::AfterEnd => "AfterEnd",
+        trace_text::Refusal::TooMany => "TooMany",
+    }
+}
+
+/// The line of a refusal in the text that `what` says, with its name.
+fn line_text(what: &str, line: u64, name: &str) -> Line
+    requires what { length what.now ≤ 22 }
+    requires name { length name.now ≤ 8 }
+    ensures { result.bytes ≡ what.now ++ decimal line ++ codes ": " ++ name.now ++ codes "\n" }
 {
     let mut digits = Buffer::new();
     let mut text = Line::new();
-    text.push_str("am32wave: line ");
+    text.push_str(what);
     text.push_str(digits.format(line));
     text.push_str(": ");
-    text.push_str(name_of(kind));
+    text.push_str(name);
     text.push_str("\n");
     text
 }
@@ -82,9 +113,13 @@ pub fn status_text(status: &Status) -> Line
 {
     match *status {
         Status::Done => Line::new(),
-        Status::Refused { line, kind } => refusal_text(line, kind),
+        Status::Refused { line, kind } => line_text("am32wave: line ", line, name_of(kind)),
+        Status::TraceRefused { line, kind } => {
+            line_text("am32wave: trace line ", line, trace_name_of(kind))
+        }
         Status::Usage => text_of("am32wave: usage\n"),
         Status::ReadFault => text_of("am32wave: read fault\n"),
+        Status::TraceFault => text_of("am32wave: trace: read fault\n"),
         Status::WriteFault => text_of("am32wave: write fault\n"),
         Status::NoMemory => text_of("am32wave: no memory\n"),
     }

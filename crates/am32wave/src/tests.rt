@@ -1,9 +1,10 @@
 use crate::journal::Refusal;
-use crate::run::{Form, wave_main};
+use crate::run::{Form, traced_main, wave_main};
 use crate::status::{Status, status_text};
 use esc_base::{MemSink, MemSource};
 use std::alloc::Global;
 use std::test::Fail;
+use trace_text::Refusal as TraceRefusal;
 
 /// How a run on this journal ends, which the source gives in pieces of so many bytes, and what it writes. The takes and puts
 /// with these numbers fail.
@@ -18,6 +19,22 @@ fn ran(
     let mut src = MemSource::new(alloc, journal.as_bytes(), piece.max(1), takes)?;
     let mut out = MemSink::new(alloc, 65536, puts)?;
     let status = wave_main(Some(form), &mut src, &mut out);
+    Ok((status, String::from_utf8_lossy(alloc, out.given())?))
+}
+
+/// The same of a run on this journal and its trace, of whose sources the takes with these numbers fail.
+fn ran_traced(
+    alloc: Global,
+    journal: &str,
+    trace: &str,
+    piece: usize,
+    fails: (&[u64], &[u64], &[u64]),
+) -> Result<(Status, String), Fail> {
+    let (takes, trace_takes, puts) = fails;
+    let mut src = MemSource::new(alloc, journal.as_bytes(), piece.max(1), takes)?;
+    let mut trace = MemSource::new(alloc, trace.as_bytes(), piece.max(1), trace_takes)?;
+    let mut out = MemSink::new(alloc, 65536, puts)?;
+    let status = traced_main(&mut src, &mut trace, &mut out);
     Ok((status, String::from_utf8_lossy(alloc, out.given())?))
 }
 
@@ -147,6 +164,95 @@ fn each_change_stands_at_its_tick(rt: HostRuntime) -> Result<(), Fail> {
     for (name, shows) in &WIRES {
         let found = changes(rt.alloc(), dump.as_str(), name)?;
         assert_eq!(rt; found.as_str(), *shows, "{name}");
+    }
+    Ok(())
+}
+
+/// A trace around DRIVE: edges before its first note and behind its last one, and events at the tick of a note.
+const OUTSIDE: &str = "\
+10 E 1
+70 E 0
+2414 C 1
+2414 E 0
+2500 J 30
+2500 C 0
+2600 C 1
+2600 C 0
+2802 S 41
+2900 E 1
+3000 END
+";
+
+#[test]
+fn each_change_outside_stands_at_its_tick(rt: HostRuntime) -> Result<(), Fail> {
+    let alloc = rt.alloc();
+    for piece in [1, 7, 4096] {
+        let (status, dump) = ran_traced(alloc, DRIVE, OUTSIDE, piece, (&[], &[], &[]))?;
+        assert_eq!(rt; status, Status::Done);
+        let line = changes(alloc, dump.as_str(), "signal_line")?;
+        assert_eq!(rt; line.as_str(), "0=0 10=1 70=0 2900=1 ");
+        let comparator = changes(alloc, dump.as_str(), "comparator")?;
+        assert_eq!(rt; comparator.as_str(), "0=0 2414=1 2500=0 2600=1 2600=0 ");
+        for (name, shows) in &WIRES {
+            let found = changes(alloc, dump.as_str(), name)?;
+            assert_eq!(rt; found.as_str(), *shows, "{name}");
+        }
+    }
+    Ok(())
+}
+
+/// Traces that are refused, the faulty line, and what is wrong with it.
+static BAD_TRACES: [(&str, u64, TraceRefusal); 12] = [
+    ("", 1, TraceRefusal::NoEnd),
+    ("10 E 1\n", 2, TraceRefusal::NoEnd),
+    ("10 E 1\n20 END", 2, TraceRefusal::NoEnd),
+    ("10 E 1\n20 END\n30 E 0\n", 3, TraceRefusal::AfterEnd),
+    ("U 0 1\n", 1, TraceRefusal::BadTime),
+    ("10 E 1\n9 E 0\n", 2, TraceRefusal::TimeBack),
+    ("1073741825 E 1\n", 1, TraceRefusal::TooLate),
+    ("10 W 0\n", 1, TraceRefusal::BadKind),
+    ("10 E 2\n", 1, TraceRefusal::BadValue),
+    ("10 C 1 0\n", 1, TraceRefusal::Trailing),
+    ("10 S 00\n20009 S 00\n", 2, TraceRefusal::TooClose),
+    (
+        "10 E 11111111111111111111111111111111111111111\n",
+        1,
+        TraceRefusal::TooLong,
+    ),
+];
+
+#[test]
+fn a_faulty_line_of_the_trace_is_named(rt: HostRuntime) -> Result<(), Fail> {
+    for (trace, line, kind) in &BAD_TRACES {
+        for piece in [1, 4096] {
+            let (status, dump) = ran_traced(rt.alloc(), DRIVE, trace, piece, (&[], &[], &[]))?;
+            let refused = Status::TraceRefused {
+                line: *line,
+                kind: *kind,
+            };
+            assert_eq!(rt; status, refused, "{trace:?}");
+            assert!(rt; !dump.as_str().is_empty(), "{trace:?}");
+        }
+    }
+    let (status, _) = ran_traced(rt.alloc(), "U 0 1\nA 9", OUTSIDE, 9, (&[], &[], &[]))?;
+    let refused = Status::Refused {
+        line: 2,
+        kind: Refusal::NoEnd,
+    };
+    assert_eq!(rt; status, refused);
+    Ok(())
+}
+
+#[test]
+fn faults_beside_a_trace_are_told(rt: HostRuntime) -> Result<(), Fail> {
+    let alloc = rt.alloc();
+    for take in [1, 2, 3] {
+        let (status, _) = ran_traced(alloc, DRIVE, OUTSIDE, 9, (&[take], &[], &[]))?;
+        assert_eq!(rt; status, Status::ReadFault, "take {take}");
+        let (status, _) = ran_traced(alloc, DRIVE, OUTSIDE, 9, (&[], &[take], &[]))?;
+        assert_eq!(rt; status, Status::TraceFault, "take {take}");
+        let (status, _) = ran_traced(alloc, DRIVE, OUTSIDE, 9, (&[], &[], &[take]))?;
+        assert_eq!(rt; status, Status::WriteFault, "put {take}");
     }
     Ok(())
 }
@@ -334,6 +440,18 @@ fn statuses_have_these_texts(rt: HostRuntime) {
     assert_eq!(rt;
         status_text(&refused).as_str(),
         "am32wave: line 12: TimeBack\n"
+    );
+    let trace_refused = Status::TraceRefused {
+        line: 7,
+        kind: TraceRefusal::BadValue,
+    };
+    assert_eq!(rt;
+        status_text(&trace_refused).as_str(),
+        "am32wave: trace line 7: BadValue\n"
+    );
+    assert_eq!(rt;
+        status_text(&Status::TraceFault).as_str(),
+        "am32wave: trace: read fault\n"
     );
     assert_eq!(rt; status_text(&Status::Done).as_str(), "");
     assert_eq!(rt; status_text(&Status::Usage).as_str(), "am32wave: usage\n");
