@@ -80,7 +80,10 @@ fn a_run_has_its_control_ticks(rt: HostRuntime) -> Result<(), Fail> {
 /// A frame of value 1046 from tick 10000 on, without its last edge: each bit is 80 ticks, a zero is high for 30 of
 /// them and a one for 60.
 const FRAME: &str =
-    "10000 E 1\n10060 E 0\n10080 E 1\n10110 E 0\n10160 E 1\n10190 E 0\n10240 E 1\n10270 E 0\n10320 E 1\n10350 E 0\n10400 E 1\n10430 E 0\n10480 E 1\n10540 E 0\n10560 E 1\n10590 E 0\n10640 E 1\n10700 E 0\n10720 E 1\n10780 E 0\n10800 E 1\n10830 E 0\n10880 E 1\n10910 E 0\n10960 E 1\n10990 E 0\n11040 E 1\n11100 E 0\n11120 E 1\n11180 E 0\n11200 E 1\n";
+    "10000 E 1\n10060 E 0\n10080 E 1\n10110 E 0\n10160 E 1\n10190 E 0\n10240 E 1\n10270 E 0\n10320 E 1\n10350 E 0\n\
+    10400 E 1\n10430 E 0\n10480 E 1\n10540 E 0\n10560 E 1\n10590 E 0\n10640 E 1\n10700 E 0\n10720 E 1\n10780 E 0\n\
+    10800 E 1\n10830 E 0\n10880 E 1\n10910 E 0\n10960 E 1\n10990 E 0\n11040 E 1\n11100 E 0\n11120 E 1\n11180 E 0\n\
+    11200 E 1\n";
 
 /// The lines of the first four control ticks.
 const TICKS: &str =
