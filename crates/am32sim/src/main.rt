@@ -6,7 +6,6 @@ mod crossing_tests;
 #[cfg(test)]
 mod drive_tests;
 mod options;
-mod pipe;
 #[cfg(test)]
 mod reply_tests;
 mod run;
@@ -21,12 +20,12 @@ mod words_tests;
 
 use esc_base::{FileFlash, InSource, OutSink, Sink, Source};
 pub use options::{Command, Options};
-use pipe::PipeEnd;
 pub use run::sim_main;
 pub use status::{Status, status_text};
 use std::cell::Cell;
 use std::process::ExitCode;
 use std::{env, io};
+use trace_tools::PipeEnd;
 use usage::usage_text;
 pub use words::{Asked, Words};
 

@@ -1,5 +1,4 @@
 //! What words ask for, and what `show` writes.
-use crate::pipe::PipeEnd;
 use crate::tests::{DIRECTION, SAVE, two_commands};
 use crate::usage::usage_text;
 use crate::{Status, Words, sim_main};
@@ -10,6 +9,7 @@ use std::cell::Cell;
 use std::fs;
 use std::io::{self, Write};
 use std::test::Fail;
+use trace_tools::PipeEnd;
 
 /// How the command of these words ends, which stand between spaces, with an empty trace, and what it writes.
 fn commanded<F: FlashDev>(

@@ -9,7 +9,6 @@ mod frame_edges;
 mod frame_out;
 mod noise;
 mod packet;
-mod pipe;
 mod run;
 mod script;
 mod serial_line;
@@ -21,12 +20,12 @@ mod usage;
 
 use esc_base::{InSource, OutSink};
 pub use expected::Expected;
-use pipe::PipeEnd;
 pub use run::trace_main;
 pub use status::Status;
 use std::cell::Cell;
 use std::process::ExitCode;
 use std::{env, io};
+use trace_tools::PipeEnd;
 use usage::usage_text;
 
 /// What the words behind the program's name ask for.

@@ -13,7 +13,6 @@ mod moment;
 mod next;
 mod picture;
 mod pieces;
-mod pipe;
 mod reader;
 mod run;
 mod sentence;
@@ -28,12 +27,12 @@ mod wire;
 use esc_base::{InSource, OutSink, Sink, Source};
 use file_source::FileSource;
 pub use laws::{gates_follow_notes, levels_follow_events};
-use pipe::PipeEnd;
 use run::{traced_main, wave_main};
 use status::{Status, status_text};
 use std::cell::Cell;
 use std::process::ExitCode;
 use std::{env, fs, io};
+use trace_tools::PipeEnd;
 use usage::{Wish, usage_text, wish_of};
 
 /// What the words behind the program's name ask for. A word that isn't text is in no command.

@@ -4,14 +4,14 @@ use std::io::{self, ErrorKind, Write};
 
 /// A writer that notes when its reader has gone, as `head` does behind a pipe.
 #[derive(Drop)]
-pub(crate) struct PipeEnd<'a, W: Write + Drop> {
+pub struct PipeEnd<'a, W: Write + Drop> {
     writer: W,
     is_gone: &'a Cell<bool>,
 }
 
 impl<'a, W: Write + Drop> PipeEnd<'a, W> {
     /// Over `writer`; `is_gone` is set to true once a write finds no reader.
-    pub(crate) fn new(writer: W, is_gone: &'a Cell<bool>) -> PipeEnd<'a, W> {
+    pub fn new(writer: W, is_gone: &'a Cell<bool>) -> PipeEnd<'a, W> {
         PipeEnd { writer, is_gone }
     }
 }
