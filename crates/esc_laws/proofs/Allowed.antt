@@ -25,6 +25,7 @@ use Rattle.arming.specs.Controlled.{Controlled}
 use Rattle.esc_laws.specs.Place.{place}
 use Rattle.esc_laws.specs.Seen.{sees}
 use Rattle.esc_laws.specs.Windowed.{verdict_note, Answers, WindowRule}
+use Rattle.esc_laws.specs.Replied.{HasReplied}
 use Rattle.esc_laws.specs.Saves.{advance_of}
 use Rattle.esc_laws.specs.Nested.{IsAboveAll, NestRule}
 use Rattle.esc_laws.specs.Steps.{Turned, opening, load_number, journal, open_in, free, after, uses, own_steps, steps_since, entered_at, called, is_entry, StepFits, OpenFew}
@@ -292,6 +293,7 @@ said_at loaded nest t u rest le s =
     record {
       in_time = s.in_time;
       windowed = s.windowed;
+      replied = s.replied;
       dead_safe = s.dead_safe;
       driven = s.driven;
       commutated = s.commutated;
@@ -357,10 +359,16 @@ rules_6 : (loaded : Loaded) (nest : Nest)
 unfolding place
 rules_6 loaded nest = (λ e. refl, (refl, inl refl))
 
+none_owed : (loaded : Loaded)
+    → HasReplied (place (opening loaded ++ (enters 2400 2 ∷ ticks 2402 1 0 0 ∷ leaves 2402 2 ∷ enters 4200 3 ∷ nothing 4202 ∷ []))).signal
+unfolding place
+none_owed loaded = tt
+
 one_said : (loaded : Loaded) (nest : Nest) → Said loaded nest two_edges 2400 (enters 2400 2 ∷ [])
 one_said loaded nest =
     said_push loaded nest two_edges 2400 [] (enters 2400 2) (start_said loaded nest two_edges 2400) refl (record {
       window = (rules_1 loaded nest).0;
+      replies = tt;
       safe =
           tt;
       driven = tt;
@@ -376,6 +384,7 @@ all_said loaded nest =
     let s2 = said_push loaded nest two_edges 2402 (enters 2400 2 ∷ []) (ticks 2402 1 0 0)
     (said_at loaded nest 2400 2402 (enters 2400 2 ∷ []) (omega arith) (one_said loaded nest)) refl (record {
       window = (rules_2 loaded nest).0;
+      replies = tt;
       safe =
           tt;
       driven = tt;
@@ -388,6 +397,7 @@ all_said loaded nest =
     let s3 = said_push loaded nest two_edges 2402 (enters 2400 2 ∷ ticks 2402 1 0 0 ∷ []) (leaves 2402 2) s2 refl
     (record {
       window = (rules_3 loaded nest).0;
+      replies = λ e. cc;
       safe = tt;
       driven = λ e d. (refl, refl);
       turns = tt;
@@ -401,6 +411,7 @@ all_said loaded nest =
     (said_at loaded nest 2402 4200 (enters 2400 2 ∷ ticks 2402 1 0 0 ∷ leaves 2402 2 ∷ []) (omega arith) s3) refl (record {
       window =
           (rules_4 loaded nest).0;
+      replies = tt;
       safe = tt;
       driven = tt;
       turns = tt;
@@ -413,6 +424,7 @@ all_said loaded nest =
     (said_at loaded nest 4200 4202 (enters 2400 2 ∷ ticks 2402 1 0 0 ∷ leaves 2402 2 ∷ enters 4200 3 ∷ []) (omega arith) s4) refl
     (record {
       window = (rules_5 loaded nest).0;
+      replies = tt;
       safe = tt;
       driven = tt;
       turns = tt;
@@ -425,6 +437,7 @@ all_said loaded nest =
     said_push loaded nest two_edges 4202 (enters 2400 2 ∷ ticks 2402 1 0 0 ∷ leaves 2402 2 ∷ enters 4200 3 ∷ nothing 4202 ∷ []) (leaves 4202 3) s5 refl
     (record {
       window = (rules_6 loaded nest).0;
+      replies = λ e. none_owed loaded;
       safe = tt;
       driven = λ e. cc;
       turns = tt;
@@ -502,6 +515,7 @@ tick_enters loaded nest =
       in_range = one_in_range loaded;
       in_time = (one_said loaded nest).in_time;
       windowed = (one_said loaded nest).windowed;
+      replied = (one_said loaded nest).replied;
       controlled = one_controlled loaded;
       dead_safe = (one_said loaded nest).dead_safe;
       driven = (one_said loaded nest).driven;
@@ -527,6 +541,7 @@ window_judged loaded nest =
       in_range = all_in_range loaded;
       in_time = (all_said loaded nest).in_time;
       windowed = (all_said loaded nest).windowed;
+      replied = (all_said loaded nest).replied;
       controlled = all_controlled loaded;
       dead_safe = (all_said loaded nest).dead_safe;
       driven = (all_said loaded nest).driven;

@@ -40,20 +40,25 @@ use Rattle.settings_block.specs.declared.settings.Settings.{Settings}
 use Rattle.settings_block.specs.Settings.{servo_of}
 use Rattle.esc_core.specs.Orders.{obeyed_if}
 use Rattle.esc_core.specs.Stepped.{goes_on}
-use Rattle.esc_core.specs.Cap.{act_in, after_edges, after_copy, command_note, judge_step, next_edge, opens, takes, cap_step}
-use Rattle.esc_core.specs.Firmware.{cap_left}
-use Rattle.esc_laws.specs.Place.{Signal, Listens, Judged, Rests}
+use Rattle.esc_core.specs.Cap.{act_in, after_edges, after_copy, after_good, command_note, judge_step, next_edge, opens, period_read, period_step, reply_from, reply_step, takes, cap_step}
+use Rattle.esc_core.specs.Firmware.{cap_left, tick_need}
+use Rattle.commutation.specs.Drive.{turns_at, rests_at, period_at}
+use Rattle.gcr_reply.specs.Reply.{reply_of}
+use Rattle.gcr_reply.proofs.Replies.{reply_of-tells}
+use Rattle.esc_laws.specs.Place.{Signal, Listens, Judged, Owes, Tells, Replies, Rests}
 use Rattle.esc_laws.specs.Windowed.{verdict_note, Answers, AnswersAt, OpensAt}
-use Rattle.esc_laws.specs.Tied.{cap_view, IsClosing, IsCopying, IsJudged, SignalTied, TimerTied, WindowSound, MainTied}
+use Rattle.esc_laws.specs.Tied.{cap_view, IsClosing, IsCopying, IsJudged, HasBurst, SignalTied, TimerTied, WindowSound, MainTied}
 use Rattle.esc_laws.specs.World.{World, so_far, at_time, after_outside}
 use Rattle.esc_core.specs.declared.state.CommAt.TheVariants as comm
 use Rattle.esc_laws.specs.Saves.{forward_at}
 use Rattle.esc_laws.proofs.DriveFacts.{comm_shut, redirected}
-use Rattle.esc_laws.specs.Rooms.{drive_seen, Ground, cap_seen, CapTie, StepKeeps}
+use Rattle.esc_laws.specs.Rooms.{drive_seen, Ground, cap_seen, PeriodTie, CapTie, StepKeeps}
 use Rattle.esc_laws.proofs.Pushes.{All-later}
 use Rattle.esc_laws.proofs.Facts.{cap_shut}
 use Rattle.esc_laws.proofs.Saves.{input_kept, servo_kept, acting_named, obeyed_tied, orders_other}
-use Rattle.esc_laws.proofs.CapTies.{start_tied, copy_goes, copy_tied, good_tied, opens_tied, pause_tied, back_tied, back_timer, timer_off, timer_grows, back_done, back_may}
+use Rattle.esc_laws.proofs.CrossFacts.{tick_unmasked}
+use Rattle.esc_laws.proofs.PeriodTies.{sum_tells}
+use Rattle.esc_laws.proofs.CapTies.{start_tied, copy_goes, copy_tied, good_tied, framed_timer, period_tied, reply_starts, reply_tied, opens_tied, pause_tied, replied_tied, back_tied, back_timer, timer_off, timer_grows, back_done, back_may, back_replied}
 use Rattle.esc_laws.proofs.Lines.{plain_follows, edge_now, edge_bank, edge_follows, rising_push, edge_sound, line_changes, line_same}
 use Rattle.esc_laws.proofs.Dues.{cap_called, cap_entered, signal_follows, time_follows}
 use Rattle.esc_laws.proofs.Rests.{set_now}
@@ -69,47 +74,50 @@ few b w = most_few b.window.mode (length b.window.edges) w.few
 
 -- ---- it reads the edges
 
-begins : (x : World) (outer : List Kind) (w m : ℕ) → Ground x → WindowSound x.bank.window x.bank.time → (so_far x).signal ≡ Listens w m
+begins : (x : World) (outer : List Kind) (w m : ℕ) → Ground x → PeriodTie x → WindowSound x.bank.window x.bank.time
+    → (so_far x).signal ≡ Listens w m
     → IsClosing (cap_seen x) w m → (so_far x).stack ≡ kind.Cap ∷ outer
     → StepKeeps kind.Cap outer x (goes_on (record x.core { burst = []; cap_at = after_edges (read_value x.bank reg.CapState) }) (Reads reg.CapState))
-begins x outer w m g sound e k on = record {
+begins x outer w m g per sound e k on = record {
   gates = quiet_gates kind.Cap x _ (λ e. cc) refl refl refl;
   fits = λ told. tt;
   ground = g;
-  tie = λ told. (start_tied x.trace x.core x.bank (so_far x) w m e (few x.bank sound) k, sound, rw e tt);
+  tie = λ told. (start_tied x.trace x.core x.bank (so_far x) w m e (few x.bank sound) k, sound, rw e tt, per);
   others = elim [ kind.Cap ↦ λ ne t. absurd (ne refl) | j ↦ λ ne t. t ];
   stack_is = on;
 }
 
-copies : (v : Bool) (x : World) (outer : List Kind) (w m left : ℕ) → v ≡ true → Ground x → WindowSound x.bank.window x.bank.time
+copies : (v : Bool) (x : World) (outer : List Kind) (w m left : ℕ) → v ≡ true → Ground x → PeriodTie x → WindowSound x.bank.window x.bank.time
     → (so_far x).signal ≡ Listens w m → IsCopying (cap_seen x) w m left → (so_far x).stack ≡ kind.Cap ∷ outer
     → StepKeeps kind.Cap outer x (goes_on (
     if v
     then record x.core { burst = x.core.burst ++ next_edge x.core x.bank ∷ []; cap_at = after_copy left }
     else record x.core { cap_at = cap.Back }) (Reads (reg.CapEdge (length x.core.burst))))
-copies true x outer w m left v g sound e k on = record {
+copies true x outer w m left v g per sound e k on = record {
   gates = quiet_gates kind.Cap x _ (λ e. cc) refl refl refl;
   fits = λ told. tt;
   ground = g;
-  tie = λ told. (copy_tied x.trace x.core x.bank (so_far x) w m left e sound g.small k, sound, rw e tt);
+  tie = λ told. (copy_tied x.trace x.core x.bank (so_far x) w m left e sound g.small k, sound, rw e tt, per);
   others = elim [ kind.Cap ↦ λ ne t. absurd (ne refl) | j ↦ λ ne t. t ];
   stack_is = on;
 }
-copies false x outer w m left v g sound e k on = cc
+copies false x outer w m left v g per sound e k on = cc
 
 -- ---- it opens a window, or sets the timer
 
-open_window : (x : World) (outer : List Kind) (s : Signal) → Ground x → (so_far x).signal ≡ s → OpensAt x.trace s (so_far x).cap_entered x.bank.time
+open_window : (x : World) (outer : List Kind) (s : Signal) → Ground x → PeriodTie x → (so_far x).signal ≡ s
+    → OpensAt x.trace s (so_far x).cap_entered x.bank.time
     → x.bank.timer ≡ None
     → ((so_far x).verdicts ≡ 1) ⊎ (((so_far x).verdicts ≡ 0) × ((so_far x).windows ≡ 0)) → (so_far x).stack ≡ kind.Cap ∷ outer
     → StepKeeps kind.Cap outer x (opens x.core x.bank)
-open_window x outer s g e may none done on = record {
+open_window x outer s g per e may none done on = record {
   gates = quiet_gates kind.Cap x _ (λ e. cc) refl refl refl;
   fits = λ told. (
     record {
       at = refl;
       owned = refl;
       window = (rw e may, g.control.ties.mode_is);
+      replies = tt;
       nest = inside (so_far x).stack kind.Cap outer on;
       driven =
           tt;
@@ -125,26 +133,104 @@ open_window x outer s g e may none done on = record {
     opens_tied x.trace x.core x.bank (so_far x) g.edges.0 none done,
     record { past = λ k d l. absurd (omega arith); order = λ a b le l. absurd (omega arith); few = omega arith },
     tt,
+    per,
   );
   others = elim [ kind.Cap ↦ λ ne t. absurd (ne refl) | j ↦ λ ne t. t ];
   stack_is = on;
 }
 
-pauses : (x : World) (outer : List Kind) (f at : ℕ) (opens_next : Bool) → Ground x → WindowSound x.bank.window x.bank.time
+pauses : (x : World) (outer : List Kind) (f at : ℕ) (opens_next : Bool) → Ground x → PeriodTie x → WindowSound x.bank.window x.bank.time
     → (so_far x).signal ≡ Judged f opens_next → IsJudged (cap_seen x) → opens_next ≡ false → at ≡ f + least_pause
     → (so_far x).stack ≡ kind.Cap ∷ outer → StepKeeps kind.Cap outer x (cap_step (cap.Pause at) x.core x.bank)
-pauses x outer f at opens_next g sound e k shut is on = record {
+pauses x outer f at opens_next g per sound e k shut is on = record {
   gates = quiet_gates kind.Cap x _ (λ e. cc) refl refl refl;
   fits = λ told. tt;
   ground = g;
   tie = λ told. (
     pause_tied x.trace x.core x.bank (so_far x) f at opens_next e k shut,
     sound,
-    rw (e, is) (set_now (line x.trace).edges f x.bank.time (rests_from x.bank.changed) g.edges.0 g.rested),
+    rw (e, is) (set_now (line x.trace).edges (f + least_pause) x.bank.time (rests_from x.bank.changed) g.edges.0 g.rested),
+    per,
   );
   others = elim [ kind.Cap ↦ λ ne t. absurd (ne refl) | j ↦ λ ne t. t ];
   stack_is = on;
 }
+
+waits : (x : World) (outer : List Kind) (end at : ℕ) → Ground x → PeriodTie x → WindowSound x.bank.window x.bank.time
+    → (so_far x).signal ≡ Replies end → IsJudged (cap_seen x) → at ≡ end
+    → (so_far x).stack ≡ kind.Cap ∷ outer → StepKeeps kind.Cap outer x (cap_step (cap.Pause at) x.core x.bank)
+waits x outer end at g per sound e k is on = record {
+  gates = quiet_gates kind.Cap x _ (λ e. cc) refl refl refl;
+  fits = λ told. tt;
+  ground = g;
+  tie = λ told. (
+    replied_tied x.trace x.core x.bank (so_far x) end at e k,
+    sound,
+    rw (e, is) (set_now (line x.trace).edges end x.bank.time (rests_from x.bank.changed) g.edges.0 g.rested),
+    per,
+  );
+  others = elim [ kind.Cap ↦ λ ne t. absurd (ne refl) | j ↦ λ ne t. t ];
+  stack_is = on;
+}
+
+-- ---- it replies
+
+reads_period : (x : World) (outer : List Kind) (w m : ℕ) → Ground x → PeriodTie x → WindowSound x.bank.window x.bank.time
+    → (so_far x).signal ≡ Owes w m → IsJudged (cap_seen x) → HasBurst (cap_seen x) w m → period_read x.bank ≡ period_at x.back
+    → (so_far x).stack ≡ kind.Cap ∷ outer → StepKeeps kind.Cap outer x (period_step x.core x.bank)
+reads_period x outer w m g per sound e k heard is on = record {
+  gates = quiet_gates kind.Cap x _ (λ e. cc) refl refl refl;
+  fits = λ told. (
+    record {
+      at = refl;
+      owned = refl;
+      window = tt;
+      replies = rw e is;
+      nest = inside (so_far x).stack kind.Cap outer on;
+      driven = tt;
+      turns = tt;
+      crossed = tt;
+      searched = tt;
+      waits = tt;
+    },
+    tt,
+  );
+  ground = ground_noted x (note.Period (as_tick x.bank.time) (period_read x.bank)) refl refl tt refl g;
+  tie = λ told. (period_tied x.trace x.core x.bank (so_far x) w m e k heard, sound, rw e tt, per);
+  others = elim [ kind.Cap ↦ λ ne t. absurd (ne refl) | j ↦ λ ne t. t ];
+  stack_is = on;
+}
+
+loads_reply : (x : World) (outer : List Kind) (w m : ℕ) (told_period period : Option ℕ) → Ground x → PeriodTie x → WindowSound x.bank.window x.bank.time
+    → (so_far x).signal ≡ Tells w m told_period → IsJudged (cap_seen x) → HasBurst (cap_seen x) w m → period ≡ told_period
+    → (so_far x).stack ≡ kind.Cap ∷ outer → StepKeeps kind.Cap outer x (reply_step period x.core x.bank)
+loads_reply x outer w m told_period period g per sound e k heard is on = record {
+  gates = quiet_gates kind.Cap x _ (λ e. cc) refl refl refl;
+  fits = λ told. (
+    record {
+      at = refl;
+      owned = refl;
+      window = tt;
+      replies = rw (e, ← is) (record { start_is = reply_starts (cap_seen x) w m x.bank.time heard; bits_are = reply_of-tells period });
+      nest = inside (so_far x).stack kind.Cap outer on;
+      driven = tt;
+      turns = tt;
+      crossed = tt;
+      searched = tt;
+      waits = tt;
+    },
+    tt,
+  );
+  ground = ground_noted x (note.Reply (as_tick x.bank.time) (as_tick (reply_from x.core x.bank)) (reply_of period)) refl refl tt refl g;
+  tie = λ told. (reply_tied x.trace x.core x.bank (so_far x) w m told_period period e k heard, sound, rw e tt, per);
+  others = elim [ kind.Cap ↦ λ ne t. absurd (ne refl) | j ↦ λ ne t. t ];
+  stack_is = on;
+}
+
+-- the register tells the period by the notes: COMM is shut, and TICK isn't under the mask
+reads_told : (x : World) → PeriodTie x → x.core.comm_at ≡ comm.Shut → 8 < tick_need x.core.tick_at → period_read x.bank ≡ period_at x.back
+reads_told x per shut need =
+    sum_tells x.bank.period (turns_at x.back) (rests_at x.back) per.falls (per.period_is (rw shut refl) (tick_unmasked x.core.tick_at need))
 
 -- ---- it judges
 
@@ -180,25 +266,26 @@ still_asked main.Work o a saves m = (obeyed_save o a m.0, m.1)
     obeyed_save o (Some (Extended is_on)) e = e
     obeyed_save o (Some (Spin side)) e = e
 
-good : (o : Option Act) (x : World) (outer : List Kind) (frame : Frame) (w m : ℕ) → Ground x → WindowSound x.bank.window x.bank.time
-    → IsClosing (cap_seen x) w m
+good : (o : Option Act) (x : World) (outer : List Kind) (frame : Frame) (w m : ℕ) → Ground x → PeriodTie x → WindowSound x.bank.window x.bank.time
+    → (so_far x).signal ≡ Listens w m → IsClosing (cap_seen x) w m → x.core.burst ≡ x.bank.window.edges
     → AnswersAt x.loaded x.trace (so_far x).signal (so_far x).cap_entered x.bank.time (verdict_note x.bank.time (Good frame))
     → (so_far x).stack ≡ kind.Cap ∷ outer → x.core.comm_at ≡ comm.Shut
     → ((act : Act) → o ≡ Some act → act_of (number_of act) ≡ Some act)
     → Stands (after_frame x.core.control frame.value) (with_frame (as_tick x.bank.time) frame.value (bit_of frame.telemetry) o x.back)
     → StepKeeps kind.Cap outer x (record {
-      core = record x.core { cap_at = cap.Open; control = after_frame x.core.control frame.value; orders = obeyed_if x.core.orders o };
+      core = record x.core { cap_at = after_good x.core.window; control = after_frame x.core.control frame.value; orders = obeyed_if x.core.orders o };
       access = NoAccess;
       notes = note.Good (as_tick x.bank.time) frame.value (bit_of frame.telemetry) ∷ command_note x.bank.time o;
       over = false;
     })
-good None x outer frame w m g sound k answers on shut named st = record {
+good None x outer frame w m g per sound e k same answers on shut named st = record {
   gates = quiet_gates kind.Cap x _ (λ e. cc) refl refl refl;
   fits = λ told. (
     record {
       at = refl;
       owned = refl;
       window = answers;
+      replies = tt;
       nest = inside (so_far x).stack kind.Cap outer on;
       driven = tt;
       turns = tt;
@@ -220,11 +307,16 @@ good None x outer frame w m g sound k answers on shut named st = record {
     comparator = g.comparator;
     small = g.small;
   };
-  tie = λ told. (good_tied None frame x.trace x.core x.bank (so_far x) w m k, sound, tt);
+  tie = λ told. (
+    good_tied None frame x.trace x.core x.bank (so_far x) w m e k same,
+    sound,
+    framed_timer x.core.window (so_far x).signal _ _ x.bank.time _,
+    per,
+  );
   others = elim [ kind.Cap ↦ λ ne t. absurd (ne refl) | j ↦ λ ne t. t ];
   stack_is = on;
 }
-good (Some act) x outer frame w m g sound k answers on shut named st =
+good (Some act) x outer frame w m g per sound e k same answers on shut named st =
     let n : Note = note.Good (as_tick x.bank.time) frame.value (bit_of frame.telemetry) in
     let here = inside (so_far x).stack kind.Cap outer on in
     record {
@@ -234,6 +326,7 @@ good (Some act) x outer frame w m g sound k answers on shut named st =
           at = refl;
           owned = refl;
           window = answers;
+          replies = tt;
           nest = here;
           driven = tt;
           turns = tt;
@@ -242,7 +335,7 @@ good (Some act) x outer frame w m g sound k answers on shut named st =
           waits =
               tt;
         },
-        (record { at = refl; owned = refl; window = tt; nest = here; driven = tt; turns = tt; crossed = tt; searched = tt; waits = tt }, tt),
+        (record { at = refl; owned = refl; window = tt; replies = tt; nest = here; driven = tt; turns = tt; crossed = tt; searched = tt; waits = tt }, tt),
       );
       ground = record {
         control = st;
@@ -256,7 +349,12 @@ good (Some act) x outer frame w m g sound k answers on shut named st =
         comparator = g.comparator;
         small = g.small;
       };
-      tie = λ told. (good_tied (Some act) frame x.trace x.core x.bank (so_far x) w m k, sound, tt);
+      tie = λ told. (
+        good_tied (Some act) frame x.trace x.core x.bank (so_far x) w m e k same,
+        sound,
+        framed_timer x.core.window (so_far x).signal _ _ x.bank.time _,
+        per,
+      );
       others = elim [
         | kind.Cap ↦ λ ne t. absurd (ne refl)
         | kind.Main ↦ λ ne t. still_asked x.core.main_at x.core.orders (Some act) (so_far x).saves t
@@ -266,22 +364,23 @@ good (Some act) x outer frame w m g sound k answers on shut named st =
       stack_is = on;
     }
 
-judges : (j : Judgement) (x : World) (outer : List Kind) (w m : ℕ) → Ground x → WindowSound x.bank.window x.bank.time
-    → IsClosing (cap_seen x) w m
+judges : (j : Judgement) (x : World) (outer : List Kind) (w m : ℕ) → Ground x → PeriodTie x → WindowSound x.bank.window x.bank.time
+    → (so_far x).signal ≡ Listens w m → IsClosing (cap_seen x) w m → x.core.burst ≡ x.bank.window.edges
     → AnswersAt x.loaded x.trace (so_far x).signal (so_far x).cap_entered x.bank.time (verdict_note x.bank.time j) → (so_far x).stack ≡ kind.Cap ∷ outer
     → x.core.comm_at ≡ comm.Shut
     → StepKeeps kind.Cap outer x (judge_step j x.core x.bank)
-judges (Good frame) x outer w m g sound k answers on shut =
-    good (act_in x.core frame) x outer frame w m g sound k answers on shut
+judges (Good frame) x outer w m g per sound e k same answers on shut =
+    good (act_in x.core frame) x outer frame w m g per sound e k same answers on shut
     (λ act e. acting_named (after_frame x.core.control frame.value).run.frames frame.value act e)
     (frame_stands x.core.control x.back (as_tick x.bank.time) frame.value (bit_of frame.telemetry) g.control)
-judges (Bad why) x outer w m g sound k answers on shut = record {
+judges (Bad why) x outer w m g per sound e k same answers on shut = record {
   gates = quiet_gates kind.Cap x _ (λ e. cc) refl refl refl;
   fits = λ told. (
     record {
       at = refl;
       owned = refl;
       window = answers;
+      replies = tt;
       nest = inside (so_far x).stack kind.Cap outer on;
       driven = tt;
       turns = tt;
@@ -297,17 +396,19 @@ judges (Bad why) x outer w m g sound k answers on shut = record {
     (record { verdict = ap (λ (n : ℕ). n + 1) k.no_verdict; taken = k.taken; running = k.hears.running; no_timer = k.hears.no_timer }, (refl, refl)),
     sound,
     tt,
+    per,
   );
   others = elim [ kind.Cap ↦ λ ne t. absurd (ne refl) | j ↦ λ ne t. t ];
   stack_is = on;
 }
-judges (Found mode) x outer w m g sound k answers on shut = record {
+judges (Found mode) x outer w m g per sound e k same answers on shut = record {
   gates = quiet_gates kind.Cap x _ (λ e. cc) refl refl refl;
   fits = λ told. (
     record {
       at = refl;
       owned = refl;
       window = answers;
+      replies = tt;
       nest = inside (so_far x).stack kind.Cap outer on;
       driven = tt;
       turns = tt;
@@ -342,17 +443,19 @@ judges (Found mode) x outer w m g sound k answers on shut = record {
     ),
     sound,
     tt,
+    per,
   );
   others = elim [ kind.Cap ↦ λ ne t. absurd (ne refl) | j ↦ λ ne t. t ];
   stack_is = on;
 }
-judges Nothing x outer w m g sound k answers on shut = record {
+judges Nothing x outer w m g per sound e k same answers on shut = record {
   gates = quiet_gates kind.Cap x _ (λ e. cc) refl refl refl;
   fits = λ told. (
     record {
       at = refl;
       owned = refl;
       window = answers;
+      replies = tt;
       nest = inside (so_far x).stack kind.Cap outer on;
       driven = tt;
       turns = tt;
@@ -368,6 +471,7 @@ judges Nothing x outer w m g sound k answers on shut = record {
     (record { verdict = ap (λ (n : ℕ). n + 1) k.no_verdict; taken = k.taken; running = k.hears.running; no_timer = k.hears.no_timer }, (refl, refl)),
     sound,
     tt,
+    per,
   );
   others = elim [ kind.Cap ↦ λ ne t. absurd (ne refl) | j ↦ λ ne t. t ];
   stack_is = on;
@@ -375,17 +479,18 @@ judges Nothing x outer w m g sound k answers on shut = record {
 
 -- ---- it returns
 
-returns : (x : World) (outer : List Kind) → Ground x → SignalTied (so_far x).signal cap.Back (cap_seen x)
+returns : (x : World) (outer : List Kind) → Ground x → PeriodTie x → SignalTied (so_far x).signal cap.Back (cap_seen x)
     → WindowSound x.bank.window x.bank.time → TimerTied (so_far x).signal cap.Back (line x.trace).edges x.made.cap_past x.bank.timer
     → x.made.cap_past ≤ x.bank.time → (so_far x).stack ≡ kind.Cap ∷ outer
     → StepKeeps kind.Cap outer x (cap_step cap.Back x.core x.bank)
-returns x outer g tied sound timer past on = record {
+returns x outer g per tied sound timer past on = record {
   gates = quiet_gates kind.Cap x _ (λ e. cc) refl refl refl;
   fits = λ told. (
     record {
       at = refl;
       owned = refl;
       window = λ e. back_may x.trace x.core x.bank (so_far x) (so_far x).signal tied;
+      replies = λ e. back_replied x.trace x.core x.bank (so_far x) (so_far x).signal tied;
       nest = (inside (so_far x).stack kind.Cap outer on, back_done x.trace x.core x.bank (so_far x) (so_far x).signal tied);
       driven = λ e. cc;
       turns = tt;
@@ -400,6 +505,7 @@ returns x outer g tied sound timer past on = record {
     back_tied x.trace x.core x.bank (so_far x) (so_far x).signal x.bank.time refl tied,
     sound,
     back_timer (so_far x).signal (cap_seen x) (line x.trace).edges x.made.cap_past x.bank.time x.bank.timer tied past timer,
+    per,
   );
   others = elim [ kind.Cap ↦ λ ne t. absurd (ne refl) | j ↦ λ ne t. t ];
   stack_is = popped (so_far x).stack kind.Cap outer on;
@@ -411,29 +517,35 @@ answered : (x : World) (s : Signal) (w m t : ℕ) (n : Note) → s ≡ Listens w
     → AnswersAt x.loaded x.trace s (so_far x).cap_entered t n
 answered x s w m t n e a = rw e a
 
-steps : (s : Signal) (at : CapAt) (x : World) (outer : List Kind) → Ground x → WindowSound x.bank.window x.bank.time → (so_far x).signal ≡ s
+steps : (s : Signal) (at : CapAt) (x : World) (outer : List Kind) → Ground x → PeriodTie x → WindowSound x.bank.window x.bank.time → (so_far x).signal ≡ s
     → SignalTied s at (cap_seen x) → TimerTied s at (line x.trace).edges x.made.cap_past x.bank.timer → x.made.cap_past ≤ x.bank.time
-    → (so_far x).stack ≡ kind.Cap ∷ outer → x.core.comm_at ≡ comm.Shut → 0 < cap_left at
+    → (so_far x).stack ≡ kind.Cap ∷ outer → x.core.comm_at ≡ comm.Shut → 8 < tick_need x.core.tick_at → 0 < cap_left at
     → StepKeeps kind.Cap outer x (cap_step at x.core x.bank)
-steps s cap.Shut x outer g sound e k timer past on shut left = absurd (omega arith)
-steps s cap.Back x outer g sound e k timer past on shut left =
-    returns x outer g (subst (λ (r : Signal). SignalTied r cap.Back (cap_seen x)) (sym e) k) sound
+steps s cap.Shut x outer g per sound e k timer past on shut need left = absurd (omega arith)
+steps s cap.Back x outer g per sound e k timer past on shut need left =
+    returns x outer g per (subst (λ (r : Signal). SignalTied r cap.Back (cap_seen x)) (sym e) k) sound
     (subst (λ (r : Signal). TimerTied r cap.Back (line x.trace).edges x.made.cap_past x.bank.timer) (sym e) timer) past on
-steps (Listens w m) cap.Start x outer g sound e k timer past on shut left = if_false x.core.paused kind.Cap outer x _ _ k.hears.running
-    (begins x outer w m g sound e k on)
-steps (Listens w m) (cap.Copy rest) x outer g sound e k timer past on shut left =
+steps (Listens w m) cap.Start x outer g per sound e k timer past on shut need left = if_false x.core.paused kind.Cap outer x _ _ k.hears.running
+    (begins x outer w m g per sound e k on)
+steps (Listens w m) (cap.Copy rest) x outer g per sound e k timer past on shut need left =
     copies (takes x.core.burst (next_edge x.core x.bank)) x outer w m rest
-    (copy_goes x.trace x.core x.bank (so_far x) w m rest (few x.bank sound) sound g.small k) g sound e k on
-steps (Listens w m) cap.Judge x outer g sound e k timer past on shut left =
-    judges (judged x.core.window x.core.burst x.core.orders.settings.input (servo_of x.core.orders.settings)) x outer w m g sound k.0
+    (copy_goes x.trace x.core x.bank (so_far x) w m rest (few x.bank sound) sound g.small k) g per sound e k on
+steps (Listens w m) cap.Judge x outer g per sound e k timer past on shut need left =
+    judges (judged x.core.window x.core.burst x.core.orders.settings.input (servo_of x.core.orders.settings)) x outer w m g per sound e k.0 k.1
     (answered x (so_far x).signal w m x.bank.time _ e (answers_is x w m g k.0 k.1)) on shut
-steps (Judged f opens_next) cap.Open x outer g sound e k timer past on shut left = open_window x outer (Judged f opens_next) g e k.1 k.0.no_timer
-    (inl k.0.verdict) on
-steps (Judged f opens_next) (cap.Pause at) x outer g sound e k timer past on shut left = pauses x outer f at opens_next g sound e k.0 k.1.0 k.1.1 on
-steps (Rests f r) cap.Start x outer g sound e k timer past on shut left =
-    if_true x.core.paused kind.Cap outer x _ _ k.paused (open_window x outer (Rests f r) g e
+steps (Judged f opens_next) cap.Open x outer g per sound e k timer past on shut need left =
+    open_window x outer (Judged f opens_next) g per e k.1 k.0.no_timer (inl k.0.verdict) on
+steps (Judged f opens_next) (cap.Pause at) x outer g per sound e k timer past on shut need left =
+    pauses x outer f at opens_next g per sound e k.0 k.1.0 k.1.1 on
+steps (Owes w m) cap.Period x outer g per sound e k timer past on shut need left =
+    reads_period x outer w m g per sound e k.0 k.1 (reads_told x per shut need) on
+steps (Tells w m told) (cap.Reply period) x outer g per sound e k timer past on shut need left =
+    loads_reply x outer w m told period g per sound e k.0 k.1.0 k.1.1 on
+steps (Replies end) (cap.Pause at) x outer g per sound e k timer past on shut need left = waits x outer end at g per sound e k.0 k.1 on
+steps (Rests from latest r) cap.Start x outer g per sound e k timer past on shut need left =
+    if_true x.core.paused kind.Cap outer x _ _ k.paused (open_window x outer (Rests from latest r) g per e
     (record { rested = k.rested; entered_before = k.entered }) k.no_timer (inr (k.no_verdict, k.no_window)) on)
-steps s at x outer g sound e k timer past on shut left = absurd k
+steps s at x outer g per sound e k timer past on shut need left = absurd k
 
 -- ---- it is called and entered
 
@@ -452,6 +564,7 @@ later w u from t = (
       (time_follows (cap_seen w) u from) t.0,
   record { past = All-later (λ e. e.t.0) w.bank.window.edges w.bank.time u from t.1.past; order = t.1.order; few = t.1.few },
   t.2,
+  t.3,
 )
 
 plain : (w : World) (e : Event) → line (w.trace ++ e ∷ []) ≡ line w.trace → w.bank.time ≤ tick_of e → CapTie w → CapTie (record w { trace = w.trace ++ e ∷ [] })
@@ -460,6 +573,7 @@ plain w e same le t = (
       (plain_follows w.trace e w.core w.bank (so_far w) same le) t.0,
   t.1,
   rw same t.2,
+  t.3,
 )
 
 edge : (v : Bool) (w : World) (level : Bool) → differ w.bank.level level ≡ v → Ground w → CapTie w
@@ -484,6 +598,7 @@ edge true w level d g t = (
   subst (λ (edges : List Edge). TimerTied (so_far w).signal w.core.cap_at edges w.made.cap_past (put_off w.bank.timer w.bank.time))
       (sym (ap (λ (l : Line). l.edges) (line_changes w.trace w.bank level (subst (λ (l : Bool). differ l level ≡ true) g.level d))))
       (timer_grows (so_far w).signal w.core.cap_at (line w.trace).edges (edge_now w.bank level) w.made.cap_past w.bank.timer g.edges.0 t.2),
+  t.3,
 )
 edge false w level d g t =
     plain w (event.Edge (as_tick w.bank.time) level) (line_same w.trace w.bank level (subst (λ (l : Bool). differ l level ≡ false) g.level d)) (omega arith) t
@@ -520,11 +635,12 @@ cap_law = record {
         (shut_timer w (t kind.Cap) none) due,
     (t kind.Cap).1,
     timer_off (so_far w).signal (line w.trace).edges w.made.cap_past None,
+    (t kind.Cap).3,
   );
   beside = λ w g t unheld none due past high. elim [ kind.Cap ↦ λ ne. absurd (ne refl) | j ↦ λ ne. t j ];
   steps = λ w answers outer g t above alone past on left.
-      steps (so_far w).signal w.core.cap_at w outer g (t kind.Cap).1 refl (t kind.Cap).0 (t kind.Cap).2 past.cap on
-      (comm_shut w.core.comm_at w.core.drive.turn.at (above kind.Comm (omega arith))) left;
+      steps (so_far w).signal w.core.cap_at w outer g (t kind.Cap).3 (t kind.Cap).1 refl (t kind.Cap).0 (t kind.Cap).2 past.cap on
+      (comm_shut w.core.comm_at w.core.drive.turn.at (above kind.Comm (omega arith))) (alone kind.Tick (λ e. cc)) left;
   later = λ w u from small g t. later w u from (t kind.Cap);
   outside = λ w e at past g t. outside w e at g (t kind.Cap);
 }

@@ -33,6 +33,7 @@ use Rattle.esc_laws.specs.Steps.{Turned, stall_end, opening, journal, notes_in, 
 use Rattle.commutation.specs.Commutated.{Commutated, TurnRule}
 use Rattle.gate_driver.specs.DeadSafe.{DeadSafe, IsSafe}
 use Rattle.esc_laws.specs.Windowed.{WindowRule, Windowed}
+use Rattle.esc_laws.specs.Replied.{ReplyRule, Replied}
 use Rattle.esc_laws.specs.Driven.{IsDriven, Driven}
 use Rattle.esc_laws.specs.Saves.{advance_of, forward_at}
 use Rattle.esc_laws.specs.Crossed.{CrossRule, Crossed}
@@ -314,6 +315,7 @@ legal_chopped loaded nest cost trace next c b stack log until le below range cho
   in_range = range;
   in_time = l.marks.in_time;
   windowed = l.marks.windowed;
+  replied = l.marks.replied;
   controlled = in_order (journal loaded log) l.ground.control.controlled;
   dead_safe = l.marks.dead_safe;
   driven = l.marks.driven;
@@ -381,6 +383,8 @@ front_logged loaded nest cost trace next c b stack log broken front left_out som
       in_time = each_front IsLater [] (journal loaded log ++ front) left_out (subst (λ (ns : List Note). Journal ns) whole l.marks.in_time);
       windowed = each_front (WindowRule loaded trace) [] (journal loaded log ++ front) left_out
           (subst (λ (ns : List Note). Windowed loaded trace ns) whole l.marks.windowed);
+      replied = each_front (ReplyRule trace) [] (journal loaded log ++ front) left_out
+          (subst (λ (ns : List Note). Replied trace ns) whole l.marks.replied);
       controlled = each_front (λ before n. FitsControl (reverse before) n) [] (journal loaded log ++ front) left_out
           (subst (λ (ns : List Note). Controlled ns) whole (in_order (journal loaded (log ++ broken ∷ [])) l.ground.control.controlled));
       dead_safe = each_front (λ before n. IsSafe (reverse before) n) [] (journal loaded log ++ front) left_out

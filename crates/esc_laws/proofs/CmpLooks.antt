@@ -394,6 +394,7 @@ accepts end w outer e over well i =
           at = refl;
           owned = refl;
           window = tt;
+          replies = tt;
           nest = inside (so_far w).stack kind.Cmp outer i.on;
           driven = some;
           turns = tt;

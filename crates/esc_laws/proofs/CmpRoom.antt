@@ -262,6 +262,7 @@ returns w outer i = record {
       at = refl;
       owned = refl;
       window = λ e. cc;
+      replies = λ e. cc;
       nest = (inside (so_far w).stack kind.Cmp outer i.on, tt);
       driven = λ e. cc;
       turns = tt;

@@ -28,7 +28,11 @@ use Rattle.esc_laws.specs.Calls.{calls_turn, calls_low, turn_is_due, turned_at, 
 use Rattle.esc_laws.specs.Tied.{WordTold}
 use Rattle.esc_laws.specs.DriveTied.{DriveView, DriveTied, CommTied, LowTied, TimerKept, ChangeTied, Resumes, Resumed, HasActed, OnOrHeld, low_on, TurnTied}
 use Rattle.esc_laws.specs.World.{World, so_far, after_enter}
-use Rattle.esc_laws.specs.Rooms.{Ties, Tie, Unheld, StepTold, StepKeeps, drive_seen, cross_seen}
+use Rattle.commutation.specs.Turns.{six_of}
+use Rattle.commutation.specs.Drive.{turns_at, rests_at}
+use Rattle.esc_laws.specs.CrossTied.{ends_drive}
+use Rattle.esc_laws.specs.PeriodTied.{PeriodTied}
+use Rattle.esc_laws.specs.Rooms.{Ties, Tie, Unheld, StepTold, StepKeeps, PeriodTie, drive_seen, cross_seen}
 use Rattle.esc_laws.proofs.RoomSteps.{ground_noted, quiet_gates, inside, popped}
 use Rattle.esc_laws.proofs.DriveFacts.{comm_shut, rest_still, timer_kept, low_kept}
 use Rattle.zero_cross.specs.declared.phase.Phase.{Phase}
@@ -37,7 +41,8 @@ use Rattle.esc_core.specs.Drive.{arms as arms_crossing}
 use Rattle.esc_laws.proofs.CrossFacts.{cmp_unmasked, tick_unmasked, unmasked_commutes, moved_cross, armed_cross, left_cross}
 use Rattle.esc_laws.proofs.CommFacts.{same_words, moved_view, comm_moves, IsComm, place_tie, before_step, same_to, same_marked}
 use Rattle.esc_laws.proofs.Law.{HandlerLaw}
-use Rattle.esc_laws.proofs.CommTurns.{beside_tick, no_commute, same_search, decides}
+use Rattle.esc_laws.proofs.PeriodTies.{period_kept, period_written, driven_on}
+use Rattle.esc_laws.proofs.CommTurns.{same_sums, beside_tick, no_commute, same_search, decides}
 use Rattle.esc_laws.proofs.CommSwitches.{turn_places, resumes_low}
 
 -- ---- it arms the crossing timer, and writes the period
@@ -83,12 +88,18 @@ blanks at w outer i =
       others = elim [
         | kind.Comm ↦ λ ne v. absurd (ne refl)
         | kind.Tick ↦ λ ne v. beside_tick w outer comm.Blank comm.Period at w.core.drive w.bank.hi w.bank.lo w.bank.sector w.bank.comm w.bank.stuck i v
+        | kind.Cap ↦ λ ne u. (u.0, u.1, u.2, period_kept w _ (same_sums w outer comm.Blank at i) u.3)
         | kind.Cmp ↦ λ ne v. armed_cross (cross_seen w) comm.Period (sym (same_search w outer comm.Blank at i)) refl (λ e. cc)
             (cmp_unmasked w.core.cmp_at (i.alone kind.Cmp (λ e. cc))) v
         | j ↦ λ ne v. v
       ];
       stack_is = i.on;
     })
+
+writes_period : (w : World) (outer : List Kind) (at : ChangeAt) → IsComm w outer comm.Period at → PeriodTie w
+    → PeriodTied w.core.drive.timing.turns false (ends_drive w.core.tick_at) (six_of w.core.drive.timing.turns) w.bank.sector (turns_at w.back)
+    (rests_at w.back)
+writes_period w outer at i p = period_written _ _ _ _ w.bank.sector (turns_at w.back) (rests_at w.back) (driven_on w.back i.drives) p
 
 periods : (at : ChangeAt) (w : World) (outer : List Kind) → IsComm w outer comm.Period at → StepKeeps kind.Comm outer w (comm_step comm.Period w.core w.bank)
 periods at w outer i =
@@ -117,6 +128,7 @@ periods at w outer i =
       others = elim [
         | kind.Comm ↦ λ ne u. absurd (ne refl)
         | kind.Tick ↦ λ ne u. beside_tick w outer comm.Period comm.Arm at w.core.drive w.bank.hi w.bank.lo w.bank.sector w.bank.comm w.bank.stuck i u
+        | kind.Cap ↦ λ ne u. (u.0, u.1, u.2, writes_period w outer at i u.3)
         | kind.Cmp ↦ λ ne u. moved_cross (cross_seen w) comm.Arm w.core.drive.turn.at w.core.drive.postponed (same_search w outer comm.Period at i) (λ e. cc)
             u.late u
         | j ↦ λ ne u. u
@@ -155,6 +167,7 @@ arms true at w outer e i =
         | kind.Comm ↦ λ ne u. absurd (ne refl)
         | kind.Tick ↦ λ ne u. beside_tick w outer comm.Arm comm.Stick at w.core.drive w.bank.hi w.bank.lo w.bank.sector (Some (due_at w.core.drive))
             w.bank.stuck i u
+        | kind.Cap ↦ λ ne u. (u.0, u.1, u.2, period_kept w _ (same_sums w outer comm.Arm at i) u.3)
         | kind.Cmp ↦ λ ne u. moved_cross (cross_seen w) comm.Stick w.core.drive.turn.at w.core.drive.postponed (same_search w outer comm.Arm at i) (λ e. cc)
             u.late u
         | j ↦ λ ne u. u
@@ -195,6 +208,7 @@ arms false at w outer e i =
         | kind.Comm ↦ λ ne u. absurd (ne refl)
         | kind.Tick ↦ λ ne u. beside_tick w outer comm.Arm comm.Back at w.core.drive w.bank.hi w.bank.lo w.bank.sector (Some (due_at w.core.drive))
             w.bank.stuck i u
+        | kind.Cap ↦ λ ne u. (u.0, u.1, u.2, period_kept w _ (same_sums w outer comm.Arm at i) u.3)
         | kind.Cmp ↦ λ ne u. moved_cross (cross_seen w) comm.Back w.core.drive.turn.at w.core.drive.postponed (same_search w outer comm.Arm at i) (λ e. cc)
             u.late u
         | j ↦ λ ne u. u
@@ -238,6 +252,7 @@ sticks at w outer i =
       others = elim [
         | kind.Comm ↦ λ ne u. absurd (ne refl)
         | kind.Tick ↦ λ ne u. beside_tick w outer comm.Stick comm.Back at w.core.drive w.bank.hi w.bank.lo w.bank.sector w.bank.comm stuck i u
+        | kind.Cap ↦ λ ne u. (u.0, u.1, u.2, period_kept w _ (same_sums w outer comm.Stick at i) u.3)
         | kind.Cmp ↦ λ ne u. moved_cross (cross_seen w) comm.Back w.core.drive.turn.at w.core.drive.postponed (same_search w outer comm.Stick at i) (λ e. cc)
             u.late u
         | j ↦ λ ne u. u
@@ -271,6 +286,7 @@ returns at w outer i =
           at = refl;
           owned = refl;
           window = λ k. cc;
+          replies = λ k. cc;
           nest = (inside (so_far w).stack kind.Comm outer i.on, has_done told to tied.0.done);
           driven = λ k. cc;
           turns = tt;
@@ -302,6 +318,7 @@ returns at w outer i =
       others = elim [
         | kind.Comm ↦ λ ne u. absurd (ne refl)
         | kind.Tick ↦ λ ne u. beside_tick w outer comm.Back comm.Shut at w.core.drive w.bank.hi w.bank.lo w.bank.sector w.bank.comm w.bank.stuck i u
+        | kind.Cap ↦ λ ne u. (u.0, u.1, u.2, period_kept w _ (same_sums w outer comm.Back at i) u.3)
         | kind.Cmp ↦ λ ne u. left_cross (cross_seen w) (sym (same_search w outer comm.Back at i)) (tick_unmasked w.core.tick_at (i.alone kind.Tick (λ e. cc))) u
         | j ↦ λ ne u. u
       ];
@@ -613,6 +630,12 @@ comm_law = record {
       (t kind.Tick).2,
       (t kind.Tick).3,
       λ z. absurd (let l = entry_drives w t unheld due in omega arith),
+    )
+    | kind.Cap ↦ λ ne. (
+      (t kind.Cap).0,
+      (t kind.Cap).1,
+      (t kind.Cap).2,
+      period_kept w _ (rw (comm_shut w.core.comm_at w.core.drive.turn.at none) refl) (t kind.Cap).3,
     )
     | kind.Cmp ↦ λ ne. moved_cross (cross_seen w) comm.Decide w.core.drive.turn.at w.core.drive.postponed
         (rw (comm_shut w.core.comm_at w.core.drive.turn.at none) refl) (λ e. cc) (t kind.Cmp).late (t kind.Cmp)

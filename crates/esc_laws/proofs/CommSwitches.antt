@@ -29,7 +29,8 @@ use Rattle.esc_laws.proofs.DriveFacts.{pair_apart, low_leg_off}
 use Rattle.zero_cross.specs.Kept.{until}
 use Rattle.esc_laws.proofs.CrossFacts.{moved_cross, prompt_late, late_blank}
 use Rattle.esc_laws.proofs.CommFacts.{Words, same_words, high_words, low_words, comm_moves, IsComm, place_tie, before_step, same_to, comm_gates, waits_free}
-use Rattle.esc_laws.proofs.CommTurns.{beside_tick, no_commute, same_search, turn_tie, clears_high, clears_low, sets_sector}
+use Rattle.esc_laws.proofs.PeriodTies.{period_kept}
+use Rattle.esc_laws.proofs.CommTurns.{same_sums, beside_tick, no_commute, same_search, turn_tie, clears_high, clears_low, sets_sector}
 
 -- ---- the low switch
 
@@ -121,6 +122,7 @@ low_places None w outer e i =
       others = elim [
         | kind.Comm ↦ λ ne u. absurd (ne refl)
         | kind.Tick ↦ λ ne u. beside_tick w outer comm.Turn comm.Turn change.Low d w.bank.hi lo w.bank.sector w.bank.comm w.bank.stuck i u
+        | kind.Cap ↦ λ ne u. (u.0, u.1, u.2, period_kept w _ (same_sums w outer comm.Turn change.Low i) u.3)
         | kind.Cmp ↦ λ ne u. moved_cross (cross_seen w) comm.Turn change.Position false (same_search w outer comm.Turn change.Low i) (λ e. cc)
             (prompt_late w.core.cmp_at w.core.drive.crossing.phase) u
         | j ↦ λ ne u. u
@@ -159,6 +161,7 @@ low_places (Some until) w outer e i =
       others = elim [
         | kind.Comm ↦ λ ne u. absurd (ne refl)
         | kind.Tick ↦ λ ne u. beside_tick w outer comm.Turn comm.Blank change.Low d w.bank.hi w.bank.lo w.bank.sector w.bank.comm w.bank.stuck i u
+        | kind.Cap ↦ λ ne u. (u.0, u.1, u.2, period_kept w _ (same_sums w outer comm.Turn change.Low i) u.3)
         | kind.Cmp ↦ λ ne u. moved_cross (cross_seen w) comm.Blank w.core.drive.turn.at true (same_search w outer comm.Turn change.Low i) (λ e. cc)
             (late_blank w.core.cmp_at w.core.drive.crossing.phase true (cross_seen w).blanked
             (u.begins (sym (same_search w outer comm.Turn change.Low i))).blank) u
@@ -212,6 +215,7 @@ resumed_places None w outer e i =
       others = elim [
         | kind.Comm ↦ λ ne u. absurd (ne refl)
         | kind.Tick ↦ λ ne u. beside_tick w outer comm.Low comm.Arm change.Low d w.bank.hi lo w.bank.sector w.bank.comm w.bank.stuck i u
+        | kind.Cap ↦ λ ne u. (u.0, u.1, u.2, period_kept w _ (same_sums w outer comm.Low change.Low i) u.3)
         | kind.Cmp ↦ λ ne u. moved_cross (cross_seen w) comm.Arm change.Position false (same_search w outer comm.Low change.Low i) (λ e. cc)
             (prompt_late w.core.cmp_at w.core.drive.crossing.phase) u
         | j ↦ λ ne u. u
@@ -256,6 +260,7 @@ reads_position w outer i =
       others = elim [
         | kind.Comm ↦ λ ne u. absurd (ne refl)
         | kind.Tick ↦ λ ne u. beside_tick w outer comm.Turn comm.Turn change.Position d w.bank.hi w.bank.lo w.bank.sector w.bank.comm w.bank.stuck i u
+        | kind.Cap ↦ λ ne u. (u.0, u.1, u.2, period_kept w _ (same_sums w outer comm.Turn change.Position i) u.3)
         | kind.Cmp ↦ λ ne u. moved_cross (cross_seen w) comm.Turn (change.Duty (w.bank.time % 2000)) w.core.drive.postponed
             (same_search w outer comm.Turn change.Position i) (λ e. cc)
             u.late u
@@ -294,6 +299,7 @@ duty_places true position w outer i =
       others = elim [
         | kind.Comm ↦ λ ne u. absurd (ne refl)
         | kind.Tick ↦ λ ne u. beside_tick w outer comm.Turn comm.Turn (change.Duty position) d w.bank.hi w.bank.lo w.bank.sector w.bank.comm w.bank.stuck i u
+        | kind.Cap ↦ λ ne u. (u.0, u.1, u.2, period_kept w _ (same_sums w outer comm.Turn (change.Duty position) i) u.3)
         | kind.Cmp ↦ λ ne u. moved_cross (cross_seen w) comm.Turn change.High w.core.drive.postponed (same_search w outer comm.Turn (change.Duty position) i)
             (λ e. cc) u.late u
         | j ↦ λ ne u. u
@@ -328,6 +334,7 @@ duty_places false position w outer i =
       others = elim [
         | kind.Comm ↦ λ ne u. absurd (ne refl)
         | kind.Tick ↦ λ ne u. beside_tick w outer comm.Turn comm.Blank (change.Duty position) d w.bank.hi w.bank.lo w.bank.sector w.bank.comm w.bank.stuck i u
+        | kind.Cap ↦ λ ne u. (u.0, u.1, u.2, period_kept w _ (same_sums w outer comm.Turn (change.Duty position) i) u.3)
         | kind.Cmp ↦ λ ne u. moved_cross (cross_seen w) comm.Blank change.Over w.core.drive.postponed (same_search w outer comm.Turn (change.Duty position) i)
             (λ e. cc) u.late u
         | j ↦ λ ne u. u
@@ -374,6 +381,7 @@ high_places None w outer e i =
       others = elim [
         | kind.Comm ↦ λ ne u. absurd (ne refl)
         | kind.Tick ↦ λ ne u. beside_tick w outer comm.Turn comm.Blank change.High d hi w.bank.lo w.bank.sector w.bank.comm w.bank.stuck i u
+        | kind.Cap ↦ λ ne u. (u.0, u.1, u.2, period_kept w _ (same_sums w outer comm.Turn change.High i) u.3)
         | kind.Cmp ↦ λ ne u. moved_cross (cross_seen w) comm.Blank change.Over w.core.drive.postponed (same_search w outer comm.Turn change.High i) (λ e. cc)
             u.late u
         | j ↦ λ ne u. u
@@ -408,6 +416,7 @@ high_places (Some until) w outer e i =
       others = elim [
         | kind.Comm ↦ λ ne u. absurd (ne refl)
         | kind.Tick ↦ λ ne u. beside_tick w outer comm.Turn comm.Blank change.High d w.bank.hi w.bank.lo w.bank.sector w.bank.comm w.bank.stuck i u
+        | kind.Cap ↦ λ ne u. (u.0, u.1, u.2, period_kept w _ (same_sums w outer comm.Turn change.High i) u.3)
         | kind.Cmp ↦ λ ne u. moved_cross (cross_seen w) comm.Blank w.core.drive.turn.at w.core.drive.postponed (same_search w outer comm.Turn change.High i)
             (λ e. cc) u.late u
         | j ↦ λ ne u. u

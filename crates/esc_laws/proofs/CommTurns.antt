@@ -1,5 +1,5 @@
 -- COMM's first steps: it decides, and changes the sector.
-use Rattle.std.proofs.Common.{◌≡◌, ◌≤◌, ◌<◌, ◌+◌, ◌-◌, inl, inr, ℕ, zero, suc, min, Bool, true, false, ◌&&◌, ◌||◌, ◌==◌, nat_le, bit_and, if◌then◌else◌, List, Option, refl, sym, ◌∙◌, ap, subst, arith}
+use Rattle.std.proofs.Common.{◌≡◌, ◌≤◌, ◌<◌, ◌+◌, ◌-◌, inl, inr, ℕ, zero, suc, min, Bool, true, false, ◌&&◌, ◌||◌, ◌==◌, nat_le, bit_and, if◌then◌else◌, List, ◌∷◌, take, Option, refl, sym, ◌∙◌, ap, subst, arith}
 use Rattle.std.proofs.lemmas.Bool.{cases_lt, leb-true, le-leb}
 use Rattle.std.proofs.lemmas.Bool.Decides.{nat_tests}
 use Rattle.esc_base.specs.declared.kind.Kind.{Kind}
@@ -15,7 +15,7 @@ use Rattle.interrupt_machine.specs.Did.{NoAccess}
 use Rattle.arming.specs.ControlAt.{demand_at}
 use Rattle.commutation.specs.Sectors.{high_of, low_of, next_sector}
 use Rattle.commutation.specs.Commutated.{Turn, Idle, Started, Turned, Crossed, MayTurn, sector_at, turn_at, is_forced, forced_at, stuck_at}
-use Rattle.commutation.specs.Drive.{interval_at}
+use Rattle.commutation.specs.Drive.{interval_at, turns_at, rests_at}
 use Rattle.commutation.proofs.Order.{next_within, next_keeps}
 use Rattle.gate_driver.specs.declared.chop.Chop.TheVariants as chop
 use Rattle.gate_driver.specs.declared.to_sector.ChangeAt.{ChangeAt}
@@ -40,7 +40,9 @@ use Rattle.esc_laws.specs.Saves.{settings_at, advance_of, forward_at}
 use Rattle.esc_laws.specs.Calls.{turn_was_due, postponed_at}
 use Rattle.esc_laws.specs.DriveTied.{ChangeTied, IsUnforced, commutes, Turns, Decides, PwmTied, TurnTied}
 use Rattle.esc_laws.specs.World.{World, so_far, after_step}
-use Rattle.esc_laws.specs.Rooms.{Ground, Tie, HoldsAlone, StepKeeps, drive_seen, cross_seen}
+use Rattle.esc_laws.specs.PeriodTied.{sums_gaps, PeriodTied}
+use Rattle.esc_laws.specs.Rooms.{Ground, Tie, HoldsAlone, StepKeeps, PeriodTie, drive_seen, cross_seen}
+use Rattle.esc_laws.proofs.PeriodTies.{period_kept, period_turned, newest_turn}
 use Rattle.esc_laws.proofs.RoomSteps.{ground_noted, quiet_gates, inside}
 use Rattle.esc_laws.proofs.DriveFacts.{pair_apart}
 use Rattle.zero_cross.specs.declared.phase.Phase.TheVariants as phase
@@ -48,7 +50,7 @@ use Rattle.zero_cross.specs.Sector.{blanking_of, level_of}
 use Rattle.zero_cross.specs.Kept.{Kept, after_begin}
 use Rattle.commutation.specs.Pace.{Pace, wait_of}
 use Rattle.commutation.specs.Drive.{interval_at}
-use Rattle.esc_laws.specs.CrossTied.{begins_search}
+use Rattle.esc_laws.specs.CrossTied.{begins_search, ends_drive}
 use Rattle.esc_laws.proofs.CrossFacts.{cmp_unmasked, tick_unmasked, unmasked_commutes, moved_cross, prompt_late, turned_cross}
 use Rattle.esc_laws.proofs.CommFacts.{same_words, high_words, low_words, comm_moves, IsComm, place_tie, before_step, same_to, same_marked, comm_gates}
 
@@ -69,6 +71,24 @@ no_commute w alone = unmasked_commutes w.core.cmp_at (cmp_unmasked w.core.cmp_at
 pub same_search : (w : World) (outer : List Kind) (place : CommAt) (at : ChangeAt) → IsComm w outer place at
     → begins_search place at ≡ begins_search w.core.comm_at w.core.drive.turn.at
 same_search w outer place at i = rw (i.place_is, i.change_is) refl
+
+-- ---- the period register
+
+pub same_sums : (w : World) (outer : List Kind) (place : CommAt) (at : ChangeAt) → IsComm w outer place at
+    → sums_gaps place at ≡ sums_gaps w.core.comm_at w.core.drive.turn.at
+same_sums w outer place at i = rw (i.place_is, i.change_is) refl
+
+-- a Q comes later than the one before
+gaps_turned : (w : World) (outer : List Kind) (to : ℕ) → IsComm w outer comm.Turn change.SetSector → 0 < to → PeriodTie w
+    → PeriodTied (take 7 (w.bank.time ∷ w.core.drive.timing.turns)) true (ends_drive w.core.tick_at) w.bank.period to (w.bank.time ∷ turns_at w.back)
+    (rests_at w.back)
+gaps_turned w outer to i some p = period_turned _ _ _ _ w.bank.sector to w.bank.time (turns_at w.back) (rests_at w.back) some before p
+  where
+    before : (q : ℕ) (turns : List ℕ) → turns_at w.back ≡ q ∷ turns → 0 < w.bank.sector → q < w.bank.time
+    before q turns e s = (
+        let at = newest_turn w.back q turns e in
+        let since = before_step w outer comm.Turn change.SetSector i s in
+        omega arith)
 
 -- ---- it decides
 
@@ -113,6 +133,7 @@ begins_turn w outer due i =
       others = elim [
         | kind.Comm ↦ λ ne u. absurd (ne refl)
         | kind.Tick ↦ λ ne u. beside_tick w outer comm.Decide comm.Turn w.core.drive.turn.at d w.bank.hi w.bank.lo w.bank.sector w.bank.comm w.bank.stuck i u
+        | kind.Cap ↦ λ ne u. (u.0, u.1, u.2, period_kept w _ (same_sums w outer comm.Decide w.core.drive.turn.at i) u.3)
         | kind.Cmp ↦ λ ne u. moved_cross (cross_seen w) comm.Turn change.ClearHigh false (same_search w outer comm.Decide w.core.drive.turn.at i) (λ e. cc)
             (prompt_late w.core.cmp_at w.core.drive.crossing.phase) u
         | j ↦ λ ne u. u
@@ -161,6 +182,7 @@ resumes true w outer e early i =
         | kind.Comm ↦ λ ne u. absurd (ne refl)
         | kind.Tick ↦ λ ne u. beside_tick w outer comm.Decide comm.Low w.core.drive.turn.at w.core.drive w.bank.hi w.bank.lo w.bank.sector w.bank.comm
             w.bank.stuck i u
+        | kind.Cap ↦ λ ne u. (u.0, u.1, u.2, period_kept w _ (same_sums w outer comm.Decide w.core.drive.turn.at i) u.3)
         | kind.Cmp ↦ λ ne u. moved_cross (cross_seen w) comm.Low w.core.drive.turn.at w.core.drive.postponed
             (same_search w outer comm.Decide w.core.drive.turn.at i) (λ e. cc) u.late u
         | j ↦ λ ne u. u
@@ -220,6 +242,7 @@ clears_high w outer i =
       others = elim [
         | kind.Comm ↦ λ ne u. absurd (ne refl)
         | kind.Tick ↦ λ ne u. beside_tick w outer comm.Turn comm.Turn change.ClearHigh d hi w.bank.lo w.bank.sector w.bank.comm w.bank.stuck i u
+        | kind.Cap ↦ λ ne u. (u.0, u.1, u.2, period_kept w _ (same_sums w outer comm.Turn change.ClearHigh i) u.3)
         | kind.Cmp ↦ λ ne u. moved_cross (cross_seen w) comm.Turn change.ClearLow w.core.drive.postponed (same_search w outer comm.Turn change.ClearHigh i)
             (λ e. cc) u.late u
         | j ↦ λ ne u. u
@@ -266,6 +289,7 @@ clears_low w outer i =
       others = elim [
         | kind.Comm ↦ λ ne u. absurd (ne refl)
         | kind.Tick ↦ λ ne u. beside_tick w outer comm.Turn comm.Turn change.ClearLow d w.bank.hi lo w.bank.sector w.bank.comm w.bank.stuck i u
+        | kind.Cap ↦ λ ne u. (u.0, u.1, u.2, period_kept w _ (same_sums w outer comm.Turn change.ClearLow i) u.3)
         | kind.Cmp ↦ λ ne u. moved_cross (cross_seen w) comm.Turn change.SetSector w.core.drive.postponed (same_search w outer comm.Turn change.ClearLow i)
             (λ e. cc) u.late u
         | j ↦ λ ne u. u
@@ -387,6 +411,7 @@ sets_sector w outer i =
           at = refl;
           owned = refl;
           window = tt;
+          replies = tt;
           nest = inside (so_far w).stack kind.Comm outer i.on;
           driven = (i.drives, rw (told.hi_is, told.lo_is) pair);
           turns = record {
@@ -437,6 +462,7 @@ sets_sector w outer i =
           resumes_pwm w.core.pwm_at w.made.pwm_own w.made.sampled (demand_at w.back) w.bank.sector to (i.alone kind.Pwm (λ e. cc)) u.0,
           u.1,
         )
+        | kind.Cap ↦ λ ne u. (u.0, u.1, u.2, gaps_turned w outer to i some u.3)
         | kind.Cmp ↦ λ ne u. begins_cross w outer i u
         | j ↦ λ ne u. u
       ];

@@ -23,6 +23,7 @@ use Rattle.esc_laws.specs.World.{after_event}
 use Rattle.esc_laws.specs.Logged.{Marks}
 use Rattle.esc_laws.proofs.Pushes.{All-later}
 use Rattle.esc_laws.proofs.Growth.{windowed_grows}
+use Rattle.esc_laws.proofs.ReplyGrowth.{replied_grows}
 use Rattle.esc_laws.specs.Saves.{forward_at}
 use Rattle.esc_laws.proofs.CrossGrowth.{crossed_grows, searched_grows}
 use Rattle.esc_laws.proofs.StepGrowth.{count_before}
@@ -37,6 +38,7 @@ pub marks_later : (loaded : Loaded) (nest : Nest) (trace : List Event) (b : Bank
 marks_later loaded nest trace b stack log u le m = record {
   in_time = m.in_time;
   windowed = m.windowed;
+  replied = m.replied;
   dead_safe = m.dead_safe;
   driven = m.driven;
   commutated = m.commutated;
@@ -107,6 +109,8 @@ pub marks_grow : (loaded : Loaded) (nest : Nest) (trace : List Event) (e : Event
 marks_grow loaded nest trace e b stack log at below m = record {
   in_time = m.in_time;
   windowed = windowed_grows loaded trace e (journal loaded log) (All-later time_of (journal loaded log) b.time (tick_of e) (omega arith) m.past) m.windowed;
+  replied = replied_grows loaded trace e (journal loaded log) (All-later time_of (journal loaded log) b.time (tick_of e) (omega arith) m.past) m.windowed
+      m.replied;
   dead_safe = m.dead_safe;
   driven = m.driven;
   commutated = m.commutated;

@@ -16,7 +16,7 @@ use Rattle.esc_base.specs.Journal.{Each, time_of}
 use Rattle.esc_base.specs.Trace.{line, tick_of, differ}
 use Rattle.esc_base.proofs.TraceLaws.{line-push}
 use Rattle.esc_base.specs.Numbers.{mode_of}
-use Rattle.esc_base.specs.Times.{is_reached, least_pause, most_pause}
+use Rattle.esc_base.specs.Times.{is_reached}
 use Rattle.edge_capture.specs.Edges.{last_at, blank}
 use Rattle.edge_capture.specs.Burst.{burst, close, close_of, hears, is_closed, wait}
 use Rattle.edge_capture.proofs.Stable.{ListensOrNot, burst_more, closed_later}
@@ -27,7 +27,7 @@ use Rattle.esc_laws.specs.Saves.{forward_at}
 use Rattle.esc_laws.specs.Crossed.{expects_at}
 use Rattle.esc_laws.specs.Searched.{sight_at, calls_cmp}
 use Rattle.esc_laws.proofs.Comparator.{held_before}
-use Rattle.esc_laws.specs.Place.{Signal, Silent, Listens, Judged, Rests, place}
+use Rattle.esc_laws.specs.Place.{Signal, Listens, Rests, place}
 use Rattle.esc_laws.specs.Rested.{first_rested}
 use Rattle.esc_laws.specs.Windowed.{Answers, AnswersAt, OpensAt, WindowRule, Windowed}
 use Rattle.esc_laws.specs.Seen.{calls_cap, sees}
@@ -55,9 +55,7 @@ answers_grow loaded trace e w m entered t n le a =
 answers_at_grow : (loaded : Loaded) (trace : List Event) (e : Event) (s : Signal) (entered t : ℕ) (n : Note) → t ≤ tick_of e
     → AnswersAt loaded trace s entered t n → AnswersAt loaded (trace ++ e ∷ []) s entered t n
 answers_at_grow loaded trace e (Listens w m) entered t n le a = answers_grow loaded trace e w m entered t n le a
-answers_at_grow loaded trace e Silent entered t n le a = a
-answers_at_grow loaded trace e (Judged f opens) entered t n le a = a
-answers_at_grow loaded trace e (Rests f r) entered t n le a = a
+answers_at_grow loaded trace e s entered t n le a = a
 
 -- the first rested tick by now
 pub first_grows : (trace : List Event) (e : Event) (t : ℕ) → first_rested (line trace).edges t ≤ tick_of e
@@ -74,13 +72,11 @@ first_grows trace (event.Serial at byte) t le = rw (line-push trace (event.Seria
 first_grows trace (event.Stall at n) t le = rw (line-push trace (event.Stall at n)) (omega arith)
 
 opens_grow : (trace : List Event) (e : Event) (s : Signal) (entered t : ℕ) → t ≤ tick_of e → OpensAt trace s entered t → OpensAt (trace ++ e ∷ []) s entered t
-opens_grow trace e (Rests f r) entered t le o = record {
-  rested = (let a = o.rested in let b = o.entered_before in let g = first_grows trace e (f + least_pause) (omega arith) in omega arith);
+opens_grow trace e (Rests from latest r) entered t le o = record {
+  rested = (let a = o.rested in let b = o.entered_before in let g = first_grows trace e from (omega arith) in omega arith);
   entered_before = o.entered_before;
 }
-opens_grow trace e Silent entered t le o = o
-opens_grow trace e (Listens w m) entered t le o = o
-opens_grow trace e (Judged f opens) entered t le o = o
+opens_grow trace e s entered t le o = o
 
 rule_grows : (loaded : Loaded) (trace : List Event) (e : Event) (before : List Note) (n : Note) → time_of n ≤ tick_of e → WindowRule loaded trace before n
     → WindowRule loaded (trace ++ e ∷ []) before n
@@ -177,13 +173,12 @@ rest_before trace (event.Serial at byte) from t lt = rw (line-push trace (event.
 rest_before trace (event.Stall at n) from t lt = rw (line-push trace (event.Stall at n)) refl
 
 cap_before : (trace : List Event) (e : Event) (s : Signal) (t : ℕ) → t < tick_of e → calls_cap (trace ++ e ∷ []) s t ≡ calls_cap trace s t
-cap_before trace e Silent t lt = refl
 cap_before trace e (Listens w m) t lt =
     reached_closed (mode_of m) (burst (line (trace ++ e ∷ [])).edges w (mode_of m)) t
     ∙ closed_before trace e w t (mode_of m) lt
     ∙ sym (reached_closed (mode_of m) (burst (line trace).edges w (mode_of m)) t)
-cap_before trace e (Judged f opens) t lt = refl
-cap_before trace e (Rests f r) t lt = rest_before trace e (max (f + most_pause) r) t lt
+cap_before trace e (Rests from latest r) t lt = rest_before trace e (max latest r) t lt
+cap_before trace e s t lt = refl
 
 -- a later event changes nothing of what was seen due before it
 pub sees_before : (loaded : Loaded) (trace : List Event) (e : Event) (notes : List Note) (t : ℕ) (k : Kind) → t < tick_of e

@@ -3,14 +3,17 @@ pub mod Stalls
 pub mod Rests
 pub mod Comparator
 pub mod Growth
+pub mod ReplyGrowth
 pub mod StepGrowth
 pub mod CrossGrowth
 pub mod HeardWhole
 pub mod SentFrames
 pub mod RestOpens
+pub mod FrameReplied
 pub mod Notes
 pub mod Facts
 pub mod Saves
+pub mod PeriodTies
 pub mod CapTies
 pub mod Dues
 pub mod Lines
@@ -59,6 +62,7 @@ pub mod Carried
 pub mod FlashSteps
 pub mod Refused
 pub mod RefusedCrossings
+pub mod RefusedReplies
 pub mod RefusedDrive
 pub mod UpTo
 pub mod RefusedChops

@@ -18,6 +18,7 @@ use Rattle.edge_capture.specs.Burst.{burst, hears, is_closed}
 use Rattle.edge_capture.specs.Window.{Window, after_edge, window_closed, window_hears}
 use Rattle.edge_capture.proofs.Stable.{hear, deaf}
 use Rattle.edge_capture.proofs.Told.{burst-push}
+use Rattle.edge_capture.proofs.Grows.{burst_grows}
 use Rattle.timer_regs.specs.Bank.{Bank}
 use Rattle.timer_regs.specs.Rest.{put_off}
 use Rattle.esc_core.specs.Brain.{Brain}
@@ -53,6 +54,7 @@ plain_follows trace e c b p same le = record {
   };
   settled = λ w m i. refl;
   closes = λ w m at h l. close_grows trace e w at (mode_of m) h (omega arith);
+  bursts = λ w m at h l. burst_grows trace e w at (mode_of m) h (omega arith);
   rested = λ t r. first_grows trace e t (omega arith);
 }
 
@@ -136,6 +138,7 @@ edge_follows trace c b p level rising more =
       };
       settled = λ w m i. heard_edges false b.window (edge_now b level) (closed_deaf b.window (edge_now b level) (closing_closed (cap_view trace c b p) w m i));
       closes = λ w m at h l. close_grows trace (event.Edge (as_tick b.time) level) w at (mode_of m) h l;
+      bursts = λ w m at h l. burst_grows trace (event.Edge (as_tick b.time) level) w at (mode_of m) h l;
       rested = λ t r. first_grows trace (event.Edge (as_tick b.time) level) t r;
     }
 

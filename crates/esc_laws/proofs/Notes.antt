@@ -10,6 +10,7 @@ use Rattle.arming.proofs.InOrder.{each_push}
 use Rattle.commutation.specs.Commutated.{Commutated, TurnRule}
 use Rattle.gate_driver.specs.DeadSafe.{DeadSafe, IsSafe}
 use Rattle.esc_laws.specs.Windowed.{WindowRule, Windowed}
+use Rattle.esc_laws.specs.Replied.{ReplyRule, Replied}
 use Rattle.esc_laws.specs.Driven.{IsDriven, Driven}
 use Rattle.esc_laws.specs.Saves.{advance_of, forward_at}
 use Rattle.esc_laws.specs.Crossed.{CrossRule, Crossed}
@@ -22,6 +23,7 @@ use Rattle.esc_laws.specs.Rooms.{TurnWaits}
 pub record Said (loaded : Loaded) (nest : Nest) (trace : List Event) (t : ℕ) (rest : List Note) : Type 0 where
   pub in_time : Journal (opening loaded ++ rest)
   pub windowed : Windowed loaded trace (opening loaded ++ rest)
+  pub replied : Replied trace (opening loaded ++ rest)
   pub dead_safe : DeadSafe (opening loaded ++ rest)
   pub driven : Driven (opening loaded ++ rest)
   pub commutated : Commutated (advance_of loaded.settings) (forward_at loaded.settings) (opening loaded ++ rest)
@@ -37,6 +39,7 @@ at_end t u xs e a = λ k d l. rw e (a k d l)
 -- a note keeps the laws behind those before it
 pub record NoteFits (loaded : Loaded) (nest : Nest) (trace : List Event) (before : List Note) (n : Note) : Type 0 where
   pub window : WindowRule loaded trace before n
+  pub replies : ReplyRule trace before n
   pub safe : IsSafe (reverse before) n
   pub driven : IsDriven (reverse before) n
   pub turns : TurnRule (advance_of loaded.settings) (forward_at loaded.settings) (reverse before) n
@@ -52,6 +55,7 @@ said_push loaded nest trace t rest n s at f =
     record {
       in_time = each_push IsLater [] (opening loaded ++ rest) n s.in_time (at_end (time_of n) t (opening loaded ++ rest) at s.past);
       windowed = each_push (WindowRule loaded trace) [] (opening loaded ++ rest) n s.windowed f.window;
+      replied = each_push (ReplyRule trace) [] (opening loaded ++ rest) n s.replied f.replies;
       dead_safe = each_push (λ before n. IsSafe (reverse before) n) [] (opening loaded ++ rest) n s.dead_safe f.safe;
       driven = each_push (λ before n. IsDriven (reverse before) n) [] (opening loaded ++ rest) n s.driven f.driven;
       commutated = each_push (λ before n. TurnRule (advance_of loaded.settings) (forward_at loaded.settings) (reverse before) n) [] (opening loaded ++ rest) n

@@ -357,6 +357,7 @@ steps pwm.Back w outer g t e shut duty i on left = record {
       at = refl;
       owned = refl;
       window = λ k. cc;
+      replies = λ k. cc;
       nest = (inside (so_far w).stack kind.Pwm outer on, tt);
       driven = λ k. cc;
       turns = tt;

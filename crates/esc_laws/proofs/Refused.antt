@@ -85,7 +85,7 @@ control_refuses = record {
 -- ---- windows
 
 -- a note keeps its rule at the place that the notes before it make
-window_fits : (loaded : Loaded) (trace : List Event) (notes after : List Note) (n : Note) → Windowed loaded trace (notes ++ n ∷ after)
+pub window_fits : (loaded : Loaded) (trace : List Event) (notes after : List Note) (n : Note) → Windowed loaded trace (notes ++ n ∷ after)
     → WindowRuleAt loaded trace (placed (reverse notes)) (reverse notes) n
 window_fits loaded trace notes after n whole =
     subst (λ (p : Place). WindowRuleAt loaded trace p (reverse notes) n) (sym (placed-is notes)) (each_at (WindowRule loaded trace) [] notes n after whole)

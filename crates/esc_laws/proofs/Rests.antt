@@ -6,7 +6,7 @@ use Rattle.std.proofs.lemmas.Bool.Decides.{nat_tests}
 use Rattle.std.proofs.lemmas.List.Sums.{fold_push}
 use Rattle.std.proofs.lemmas.List.Elements.{All-nil, All-cons, All-head, All-tail, All-push}
 use Rattle.esc_base.specs.declared.signal.Edge.{Edge}
-use Rattle.esc_base.specs.Times.{rest, least_pause}
+use Rattle.esc_base.specs.Times.{rest}
 use Rattle.timer_regs.specs.Rest.{put_off}
 use Rattle.edge_capture.specs.Edges.{Rising}
 use Rattle.esc_laws.specs.Rested.{IsRested, FirstRestedTick, past_change, first_rested}
@@ -111,11 +111,11 @@ first_rested_tick edges t r = (first_more edges t, first_is edges t r, λ u rest
 
 -- ---- the timer
 
--- it is set for the end of the pause, or of the line's rest
-pub set_now : (edges : List Edge) (f w rests : ℕ) → All (λ e. e.t.0 ≤ w) edges → IsRestFrom edges rests
-    → IsSet edges f (w + 1) (Some (max (f + least_pause) rests))
-set_now edges f w rests until r = record {
-  at = max (f + least_pause) rests;
+-- it is set for the tick that is asked for, or for the end of the line's rest
+pub set_now : (edges : List Edge) (from w rests : ℕ) → All (λ e. e.t.0 ≤ w) edges → IsRestFrom edges rests
+    → IsSet edges from (w + 1) (Some (max from rests))
+set_now edges from w rests until r = record {
+  at = max from rests;
   armed = refl;
   late = omega arith;
   rested = λ i d l. inr (let o : (slice_index_or edges i d).t.0 + rest ≤ rests = r.over i d l in omega arith);
@@ -127,15 +127,15 @@ set_now edges f w rests until r = record {
 }
 
 -- it stays set from a later tick on
-pub set_later : (edges : List Edge) (f since r : ℕ) (timer : Option ℕ) → since ≤ r → IsSet edges f since timer → IsSet edges f r timer
-set_later edges f since r timer le i = record { at = i.at; armed = i.armed; late = i.late; rested = i.rested; soon = λ t a b. i.soon t a (omega arith) }
+pub set_later : (edges : List Edge) (from since r : ℕ) (timer : Option ℕ) → since ≤ r → IsSet edges from since timer → IsSet edges from r timer
+set_later edges from since r timer le i = record { at = i.at; armed = i.armed; late = i.late; rested = i.rested; soon = λ t a b. i.soon t a (omega arith) }
 
 -- a change at now puts it off, or comes too late
-pub set_grows : (edges : List Edge) (x : Edge) (f since : ℕ) (timer : Option ℕ) → All (λ e. e.t.0 ≤ x.t.0) edges → IsSet edges f since timer
-    → IsSet (edges ++ x ∷ []) f since (put_off timer x.t.0)
-set_grows edges x f since timer until i = rw i.armed (by_reached (nat_le i.at x.t.0) refl)
+pub set_grows : (edges : List Edge) (x : Edge) (from since : ℕ) (timer : Option ℕ) → All (λ e. e.t.0 ≤ x.t.0) edges → IsSet edges from since timer
+    → IsSet (edges ++ x ∷ []) from since (put_off timer x.t.0)
+set_grows edges x from since timer until i = rw i.armed (by_reached (nat_le i.at x.t.0) refl)
   where
-    by_reached : (v : Bool) → nat_le i.at x.t.0 ≡ v → IsSet (edges ++ x ∷ []) f since (if v then Some i.at else Some (max i.at (x.t.0 + rest)))
+    by_reached : (v : Bool) → nat_le i.at x.t.0 ≡ v → IsSet (edges ++ x ∷ []) from since (if v then Some i.at else Some (max i.at (x.t.0 + rest)))
     by_reached true v = record {
       at = i.at;
       armed = refl;

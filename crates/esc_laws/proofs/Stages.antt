@@ -33,6 +33,7 @@ use Rattle.gate_driver.specs.DeadSafe.{high_at, low_at, IsSafe, IsTied}
 use Rattle.gate_driver.proofs.OffTimes.{gates_same}
 use Rattle.gate_driver.proofs.DeadTime.{said_after}
 use Rattle.esc_laws.specs.Windowed.{WindowRuleAt}
+use Rattle.esc_laws.specs.Replied.{ReplyRuleAt}
 use Rattle.esc_laws.specs.Driven.{IsDriven}
 use Rattle.zero_cross.specs.Comparator.{Held, held}
 use Rattle.esc_laws.specs.Crossed.{CrossRule}
@@ -87,15 +88,17 @@ pub record Stood (loaded : Loaded) (nest : Nest) (trace : List Event) (c : Brain
   pub stack_is : (place (opening loaded ++ rest)).stack ≡ stack
 
 -- a note fits the place that it finds, and so the notes before it
-note_fits : (w : World) (before : List Note) (n : Note) → reverse before ≡ w.back → WindowRuleAt w.loaded w.trace (so_far w) w.back n → IsSafe w.back n
+note_fits : (w : World) (before : List Note) (n : Note) → reverse before ≡ w.back → WindowRuleAt w.loaded w.trace (so_far w) w.back n
+    → ReplyRuleAt w.trace (so_far w) w.back n → IsSafe w.back n
     → IsDriven w.back n → TurnRule (advance_of w.loaded.settings) (forward_at w.loaded.settings) w.back n
     → CrossRule w.trace (forward_at w.loaded.settings) w.back n → SearchRule w.trace (forward_at w.loaded.settings) w.back n
     → NestRuleAt (advance_of w.loaded.settings) w.nest (so_far w) w.back n
     → TurnWaits w.back n → NoteFits w.loaded w.nest w.trace before n
-note_fits w before n e window safe driven turns crossed searched nest waits =
+note_fits w before n e window replies safe driven turns crossed searched nest waits =
     let at : placed w.back ≡ place before = ap placed (sym e) ∙ placed-is before in
     record {
       window = rw (e, ← at) window;
+      replies = rw (e, ← at) replies;
       safe = rw e safe;
       driven = rw e driven;
       turns = rw e turns;
@@ -116,7 +119,8 @@ all_said : (k : Kind) (w : World) (rest notes : List Note) → reverse (opening 
 all_said k w rest [] e s f = subst (λ (r : List Note). Said w.loaded w.nest w.trace w.bank.time r) (sym (append-nil rest)) s
 all_said k w rest (n ∷ notes) e s f =
     let fits : NoteFits w.loaded w.nest w.trace (opening w.loaded ++ rest) n =
-    note_fits w (opening w.loaded ++ rest) n e f.0.window (owned_safe n k w.back f.0.owned) f.0.driven f.0.turns f.0.crossed f.0.searched f.0.nest f.0.waits in
+    note_fits w (opening w.loaded ++ rest) n e f.0.window f.0.replies (owned_safe n k w.back f.0.owned) f.0.driven f.0.turns f.0.crossed f.0.searched
+    f.0.nest f.0.waits in
     subst (λ (r : List Note). Said w.loaded w.nest w.trace w.bank.time r) (append_assoc rest (n ∷ []) notes)
     (all_said k (noted w n) (rest ++ n ∷ []) notes (reverse-push (opening w.loaded ++ rest) n ∙ ap (λ (back : List Note). n ∷ back) e)
     (said_push w.loaded w.nest w.trace w.bank.time rest n s f.0.at fits) f.1)
@@ -276,7 +280,7 @@ step_made k answers loaded nest trace c b made rest outer i past above alone lef
           let by = gate_said k w s plain.gates was other in
           let gate = plain.gates.fits was other.moves in
           let said : Said loaded nest trace b.time (rest ++ g ∷ []) =
-          said_push loaded nest trace b.time rest g i.said refl (note_fits w (opening loaded ++ rest) g refl tt by.0 gate.driven tt tt tt gate.nest tt) in
+          said_push loaded nest trace b.time rest g i.said refl (note_fits w (opening loaded ++ rest) g refl tt tt by.0 gate.driven tt tt tt gate.nest tt) in
           let back : reverse (opening loaded ++ (rest ++ g ∷ [])) ≡ g ∷ reverse (opening loaded ++ rest) =
           ap reverse (sym (append_assoc (opening loaded) rest (g ∷ []))) ∙ reverse-push (opening loaded ++ rest) g in
           let stood =
@@ -312,7 +316,7 @@ enter_stack k p t = refl
 enter_fits : (k : Kind) (w : World) (before : List Note) (stack : List Kind) → Tie kind.Cmp w → reverse before ≡ w.back → (place before).stack ≡ stack
     → IsBuilt k × IsAsked k w.back w.bank.time → IsAboveAll w.nest stack (kind_number k) → NoteFits w.loaded w.nest w.trace before (enters k w.bank.time)
 enter_fits k w before stack few e open_is asked above =
-    note_fits w before (enters k w.bank.time) e tt tt tt tt tt (λ four. (let f = few.few in omega arith)) (
+    note_fits w before (enters k w.bank.time) e tt tt tt tt tt tt (λ four. (let f = few.few in omega arith)) (
       rw (kind_of-number k) asked.0,
       subst (λ (st : List Kind). IsAboveAll w.nest st (kind_number k))
           (sym (ap (λ (p : Place). p.stack) (ap placed (sym e) ∙ placed-is before) ∙ open_is)) above,

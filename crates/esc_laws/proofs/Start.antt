@@ -1,5 +1,5 @@
 -- The log of a run that has made no step.
-use Rattle.std.proofs.Common.{◌≡◌, ◌≤◌, ℕ, true, false, List, [], ◌∷◌, reverse, refl, sym, ◌∙◌, ap, arith, lit<, lit≤, All, Option, Some, None, ◌+◌}
+use Rattle.std.proofs.Common.{◌≡◌, ◌≤◌, ℕ, true, false, List, [], ◌∷◌, reverse, refl, sym, ◌∙◌, ap, arith, lit<, lit≤, All, Option, Some, None, ◌+◌, inl}
 use Rattle.std.proofs.lemmas.List.Elements.{All-nil, All-cons}
 use Rattle.esc_base.specs.declared.kind.Kind.{Kind}
 use Rattle.esc_base.specs.declared.kind.Kind.TheVariants as kind
@@ -75,6 +75,7 @@ pub start_said : (loaded : Loaded) (nest : Nest) (trace : List Event) (t : ℕ) 
 start_said loaded nest trace t = record {
   in_time = opening_in_time loaded;
   windowed = opening_windowed loaded trace;
+  replied = (tt, (tt, tt));
   dead_safe = (tt, (tt, tt));
   driven = (tt, (tt, tt));
   commutated = (tt, (tt, tt));
@@ -120,6 +121,7 @@ start_marks : (loaded : Loaded) (nest : Nest) → Marks loaded nest [] first_ban
 start_marks loaded nest = record {
   in_time = (start_said loaded nest [] 0).in_time;
   windowed = (start_said loaded nest [] 0).windowed;
+  replied = (start_said loaded nest [] 0).replied;
   dead_safe = (start_said loaded nest [] 0).dead_safe;
   driven = (start_said loaded nest [] 0).driven;
   commutated = (start_said loaded nest [] 0).commutated;
@@ -187,6 +189,7 @@ start_ties loaded nest kind.Cap = (
   record { hears = record { armed = refl; mode = refl; opened = refl; edges = no_burst; core_mode = refl; running = refl; no_timer = refl }; untaken = refl },
   record { past = λ k d l. absurd (omega arith); order = λ x y le l. absurd (omega arith); few = omega arith },
   tt,
+  record { kept_are = refl; falls = tt; some = inl refl; period_is = λ s e. refl },
 )
 start_ties loaded nest kind.Tick = (
   tt,

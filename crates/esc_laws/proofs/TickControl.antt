@@ -17,7 +17,7 @@ use Rattle.arming.specs.Kept.{Kept, after_tick, view_of}
 use Rattle.arming.specs.Stands.{Stands, with_outcome}
 use Rattle.arming.proofs.TickTies.{tick_stands, start_is}
 use Rattle.commutation.specs.Commutated.{stuck_at}
-use Rattle.commutation.specs.Drive.{rests_at}
+use Rattle.commutation.specs.Drive.{rests_at, turns_at}
 use Rattle.gate_driver.specs.declared.all_off.AllOff.TheVariants as off
 use Rattle.esc_core.specs.declared.state.PwmAt.{PwmAt}
 use Rattle.esc_core.specs.declared.state.PwmAt.TheVariants as pwm
@@ -41,7 +41,9 @@ use Rattle.commutation.specs.Drive.{pace_at, wait_at}
 use Rattle.esc_laws.specs.Saves.{advance_of}
 use Rattle.commutation.specs.Commutated.{Idle, Started, turn_at}
 use Rattle.esc_laws.specs.Searched.{Away, sight_at}
-use Rattle.esc_laws.specs.CrossTied.{CrossView, CrossTied, HasNoQ}
+use Rattle.esc_laws.specs.CrossTied.{CrossView, CrossTied, HasNoQ, ends_drive}
+use Rattle.esc_laws.specs.PeriodTied.{sums_gaps, PeriodTied}
+use Rattle.esc_laws.proofs.PeriodTies.{rests_is, period_moved, asked_period}
 use Rattle.esc_laws.proofs.CrossFacts.{asked_cross}
 use Rattle.std.proofs.lemmas.Bool.{eqb-true}
 
@@ -80,11 +82,6 @@ pwm_still : (w : World) (outer : List Kind) (place : TickAt) (demand : ℕ) → 
 pwm_still w outer place demand i = subst (λ (p : PwmAt). PwmTied p w.made.pwm_own w.made.sampled demand w.bank.sector) (sym i.pwm_is) tt
 
 -- ---- the K
-
-rests_is : (back : List Note) → (demand_at back == 0) ≡ rests_at back
-rests_is [] = refl
-rests_is (note.Control t n s d ∷ back) = refl
-rests_is (n ∷ back) = rests_is back
 
 -- the mark that TICK reads is the one that the notes ask for
 mark_is : (w : World) (outer : List Kind) → IsTick w outer tick.Read → stuck_at w.back ≡ w.bank.stuck
@@ -213,6 +210,14 @@ asks lost armed_now start w outer marks demand kept i begins none st number = by
         (rw i.place_is refl) (no_drive w i.ties) (some_not demand)
         (kept_pace (nat_lt 0 demand && rests_at w.back) first_pace w.core.drive.timing.pace (sym begins ∙ e)) (i.ties kind.Cmp)
 
+    period_now : PeriodTied (drive_after start w.bank.time w.core.drive).timing.turns
+        (sums_gaps w.core.comm_at (drive_after start w.bank.time w.core.drive).turn.at)
+        (ends_drive (if demand == 0 then tick.Off off.High else tick.DutyOn start)) w.bank.period w.bank.sector
+        (if nat_lt 0 demand && rests_at w.back then [] else turns_at w.back) (demand == 0)
+    period_now = asked_period (demand == 0) (rests_at w.back) (nat_lt 0 demand) start w.core.drive w.bank.time
+        (sums_gaps w.core.comm_at (drive_after start w.bank.time w.core.drive).turn.at) w.bank.period w.bank.sector (turns_at w.back) (some_not demand) begins
+        (period_moved _ _ _ _ _ _ _ _ _ (rw i.comm_is refl) (rw i.place_is refl) (i.ties kind.Cap).3)
+
     ticks_now : (so_far w).ticks + 1 ≡ 1
     ticks_now = ap (λ (n : ℕ). n + 1) none
 
@@ -234,8 +239,8 @@ asks lost armed_now start w outer marks demand kept i begins none st number = by
     by_outcome (Some cause) armed_now st = record {
       gates = quiet_gates kind.Tick w _ (λ e. cc) (gates_same start) refl refl;
       fits = λ told. (
-        record { at = refl; owned = refl; window = tt; nest = here; driven = tt; turns = tt; crossed = tt; searched = tt; waits = tt },
-        (record { at = refl; owned = refl; window = tt; nest = here; driven = tt; turns = tt; crossed = tt; searched = tt; waits = tt }, tt),
+        record { at = refl; owned = refl; window = tt; replies = tt; nest = here; driven = tt; turns = tt; crossed = tt; searched = tt; waits = tt },
+        (record { at = refl; owned = refl; window = tt; replies = tt; nest = here; driven = tt; turns = tt; crossed = tt; searched = tt; waits = tt }, tt),
       );
       ground = record {
         control = st;
@@ -260,6 +265,7 @@ asks lost armed_now start w outer marks demand kept i begins none st number = by
         | kind.Tick ↦ λ ne u. absurd (ne refl)
         | kind.Pwm ↦ λ ne u. (pwm_still w outer tick.Read demand i, flag_now)
         | kind.Comm ↦ λ ne u. drive_now
+        | kind.Cap ↦ λ ne u. (u.0, u.1, u.2, period_now)
         | kind.Cmp ↦ λ ne u. cross_now start refl
         | j ↦ λ ne u. u
       ];
@@ -268,8 +274,8 @@ asks lost armed_now start w outer marks demand kept i begins none st number = by
     by_outcome None true st = record {
       gates = quiet_gates kind.Tick w _ (λ e. cc) (gates_same start) refl refl;
       fits = λ told. (
-        record { at = refl; owned = refl; window = tt; nest = here; driven = tt; turns = tt; crossed = tt; searched = tt; waits = tt },
-        (record { at = refl; owned = refl; window = tt; nest = here; driven = tt; turns = tt; crossed = tt; searched = tt; waits = tt }, tt),
+        record { at = refl; owned = refl; window = tt; replies = tt; nest = here; driven = tt; turns = tt; crossed = tt; searched = tt; waits = tt },
+        (record { at = refl; owned = refl; window = tt; replies = tt; nest = here; driven = tt; turns = tt; crossed = tt; searched = tt; waits = tt }, tt),
       );
       ground = record {
         control = st;
@@ -294,6 +300,7 @@ asks lost armed_now start w outer marks demand kept i begins none st number = by
         | kind.Tick ↦ λ ne u. absurd (ne refl)
         | kind.Pwm ↦ λ ne u. (pwm_still w outer tick.Read demand i, flag_now)
         | kind.Comm ↦ λ ne u. drive_now
+        | kind.Cap ↦ λ ne u. (u.0, u.1, u.2, period_now)
         | kind.Cmp ↦ λ ne u. cross_now start refl
         | j ↦ λ ne u. u
       ];
@@ -301,7 +308,10 @@ asks lost armed_now start w outer marks demand kept i begins none st number = by
     }
     by_outcome None false st = record {
       gates = quiet_gates kind.Tick w _ (λ e. cc) (gates_same start) refl refl;
-      fits = λ told. (record { at = refl; owned = refl; window = tt; nest = here; driven = tt; turns = tt; crossed = tt; searched = tt; waits = tt }, tt);
+      fits = λ told. (
+        record { at = refl; owned = refl; window = tt; replies = tt; nest = here; driven = tt; turns = tt; crossed = tt; searched = tt; waits = tt },
+        tt,
+      );
       ground = record {
         control = st;
         orders = orders_other w.loaded w.core.orders k w.back refl i.ground.orders;
@@ -324,6 +334,7 @@ asks lost armed_now start w outer marks demand kept i begins none st number = by
         | kind.Tick ↦ λ ne u. absurd (ne refl)
         | kind.Pwm ↦ λ ne u. (pwm_still w outer tick.Read demand i, flag_now)
         | kind.Comm ↦ λ ne u. drive_now
+        | kind.Cap ↦ λ ne u. (u.0, u.1, u.2, period_now)
         | kind.Cmp ↦ λ ne u. cross_now start refl
         | j ↦ λ ne u. u
       ];

@@ -38,6 +38,8 @@ use Rattle.esc_laws.proofs.TickFacts.{same_flag, none_flag, duty_flag, timer_ret
 use Rattle.esc_laws.specs.CrossTied.{ends_drive}
 use Rattle.esc_laws.proofs.CrossFacts.{cmp_shut, cross_retimed, driven_cross}
 use Rattle.esc_laws.proofs.Law.{HandlerLaw}
+use Rattle.commutation.specs.Drive.{turns_at, rests_at}
+use Rattle.esc_laws.proofs.PeriodTies.{period_retimed, period_off, rests_now}
 use Rattle.esc_laws.proofs.TickControl.{IsTick, ticks_tie, duty_tie, rest_tie, low_tie, flag_tie, reads}
 
 -- ---- all goes off
@@ -98,6 +100,7 @@ high_off w outer i =
               zero u.1.past,
         )
         | kind.Comm ↦ λ ne u. retimed (high_view (drive_seen w) hi) (tick.Off off.Low) (λ e l s. tt) (with_high (drive_seen w) hi i.comm_is pair u)
+        | kind.Cap ↦ λ ne u. (u.0, u.1, u.2, period_retimed w (tick.Off off.Low) (sym (ap ends_drive i.place_is)) u.3)
         | kind.Cmp ↦ λ ne u. cross_retimed (cross_seen w) (tick.Off off.Low) (sym (ap ends_drive i.place_is)) u
         | j ↦ λ ne u. u
       ];
@@ -131,6 +134,7 @@ low_off w outer i =
               u.1.past,
         )
         | kind.Comm ↦ λ ne u. with_low (drive_seen w) lo tick.DutyOff i.comm_is (rw i.cmp_is refl) zero (λ x on. on_and w.bank.lo 0 x on) u
+        | kind.Cap ↦ λ ne u. (u.0, u.1, u.2, period_retimed w tick.DutyOff (sym (ap ends_drive i.place_is)) u.3)
         | kind.Cmp ↦ λ ne u. cross_retimed (cross_seen w) tick.DutyOff (sym (ap ends_drive i.place_is)) u
         | j ↦ λ ne u. u
       ];
@@ -160,6 +164,7 @@ duty_off w outer i =
               u.1.past,
         )
         | kind.Comm ↦ λ ne u. retimed (drive_seen w) tick.DriveOff (λ e l s. tt) u
+        | kind.Cap ↦ λ ne u. (u.0, u.1, u.2, period_retimed w tick.DriveOff (sym (ap ends_drive i.place_is)) u.3)
         | kind.Cmp ↦ λ ne u. cross_retimed (cross_seen w) tick.DriveOff (sym (ap ends_drive i.place_is)) u
         | j ↦ λ ne u. u
       ];
@@ -192,6 +197,12 @@ drive_off w outer i =
           none_flag tick.Lower w.bank.flag (pwm_asked_at w.back) (demand_at w.back) (pwm_entered_at w.back) w.bank.time refl duty.0 u.1.past,
         )
         | kind.Comm ↦ λ ne u. driven_off (drive_seen w) i.comm_is duty.0 u
+        | kind.Cap ↦ λ ne u. (
+          u.0,
+          u.1,
+          u.2,
+          period_off w.core.drive.timing.turns _ _ _ w.bank.sector (turns_at w.back) (rests_at w.back) (rests_now w.back duty.0) u.3,
+        )
         | kind.Cmp ↦ λ ne u. driven_cross (cross_seen w) (rw i.place_is refl) u
         | j ↦ λ ne u. u
       ];
@@ -227,6 +238,7 @@ duty_on true w outer i =
           | inl q ↦ record { started = q.1.started; due = q.1.due }
           | inr q ↦ (let z : true ≡ false = q.0 in cc)
         ]) u
+        | kind.Cap ↦ λ ne u. (u.0, u.1, u.2, period_retimed w tick.Start (sym (ap ends_drive i.place_is)) u.3)
         | kind.Cmp ↦ λ ne u. cross_retimed (cross_seen w) tick.Start (sym (ap ends_drive i.place_is)) u
         | j ↦ λ ne u. u
       ];
@@ -257,6 +269,7 @@ duty_on false w outer i =
           | inl q ↦ (let z : false ≡ true = q.0 in cc)
           | inr q ↦ timer_retimed (drive_seen w) tick.Lower q.1
         ]) u
+        | kind.Cap ↦ λ ne u. (u.0, u.1, u.2, period_retimed w tick.Lower (sym (ap ends_drive i.place_is)) u.3)
         | kind.Cmp ↦ λ ne u. cross_retimed (cross_seen w) tick.Lower (sym (ap ends_drive i.place_is)) u
         | j ↦ λ ne u. u
       ];
@@ -291,6 +304,7 @@ starts w outer i =
           (let q =
               low_tie w outer tick.Start i l in record { started = q.started; due = q.due }),
         )) u
+        | kind.Cap ↦ λ ne u. (u.0, u.1, u.2, period_retimed w tick.Lower (sym (ap ends_drive i.place_is)) u.3)
         | kind.Cmp ↦ λ ne u. cross_retimed (cross_seen w) tick.Lower (sym (ap ends_drive i.place_is)) u
         | j ↦ λ ne u. u
       ];
@@ -321,6 +335,7 @@ steps tick.Raise w outer i left = record {
           (flag_tie w outer tick.Raise i),
     )
     | kind.Comm ↦ λ ne u. retimed (drive_seen w) tick.Read (λ e l s. timer_retimed (drive_seen w) tick.Read (low_tie w outer tick.Raise i l)) u
+    | kind.Cap ↦ λ ne u. (u.0, u.1, u.2, period_retimed w tick.Read (sym (ap ends_drive i.place_is)) u.3)
     | kind.Cmp ↦ λ ne u. cross_retimed (cross_seen w) tick.Read (sym (ap ends_drive i.place_is)) u
     | j ↦ λ ne u. u
   ];
@@ -353,6 +368,7 @@ steps tick.Lower w outer i left = record {
           (flag_tie w outer tick.Lower i),
     )
     | kind.Comm ↦ λ ne u. retimed (drive_seen w) tick.Back (λ e l s. timer_retimed (drive_seen w) tick.Back (low_tie w outer tick.Lower i l)) u
+    | kind.Cap ↦ λ ne u. (u.0, u.1, u.2, period_retimed w tick.Back (sym (ap ends_drive i.place_is)) u.3)
     | kind.Cmp ↦ λ ne u. cross_retimed (cross_seen w) tick.Back (sym (ap ends_drive i.place_is)) u
     | j ↦ λ ne u. u
   ];
@@ -365,6 +381,7 @@ steps tick.Back w outer i left = record {
       at = refl;
       owned = refl;
       window = λ e. cc;
+      replies = λ e. cc;
       nest = (inside (so_far w).stack kind.Tick outer i.on, ticks_tie w outer tick.Back i);
       driven = λ e z. (told.hi_is ∙ (rest_tie w outer tick.Back i z).high_off, told.lo_is ∙ (rest_tie w outer tick.Back i z).low_off);
       turns = tt;
@@ -390,6 +407,7 @@ steps tick.Back w outer i left = record {
           (flag_tie w outer tick.Back i),
     )
     | kind.Comm ↦ λ ne u. retimed (drive_seen w) tick.Shut (λ e l s. timer_retimed (drive_seen w) tick.Shut (low_tie w outer tick.Back i l)) u
+    | kind.Cap ↦ λ ne u. (u.0, u.1, u.2, period_retimed w tick.Shut (sym (ap ends_drive i.place_is)) u.3)
     | kind.Cmp ↦ λ ne u. cross_retimed (cross_seen w) tick.Shut (sym (ap ends_drive i.place_is)) u
     | j ↦ λ ne u. u
   ];
@@ -467,6 +485,12 @@ tick_law = record {
     | kind.Comm ↦ λ ne. retimed (drive_seen w) tick.Raise
         (λ e l s. timer_retimed (drive_seen w) tick.Raise
         (subst (λ (p : TickAt). LowTied p (drive_seen w)) (tick_shut w.core.tick_at none) ((t kind.Comm).low e l s))) (t kind.Comm)
+    | kind.Cap ↦ λ ne. (
+      (t kind.Cap).0,
+      (t kind.Cap).1,
+      (t kind.Cap).2,
+      period_retimed w tick.Raise (sym (ap ends_drive (tick_shut w.core.tick_at none))) (t kind.Cap).3,
+    )
     | kind.Cmp ↦ λ ne. cross_retimed (cross_seen w) tick.Raise (sym (ap ends_drive (tick_shut w.core.tick_at none))) (t kind.Cmp)
     | j ↦ λ ne. t j
   ];

@@ -12,6 +12,7 @@ use Rattle.arming.specs.Controlled.{Controlled}
 use Rattle.commutation.specs.Commutated.{Commutated}
 use Rattle.gate_driver.specs.DeadSafe.{DeadSafe}
 use Rattle.esc_laws.specs.Windowed.{Windowed}
+use Rattle.esc_laws.specs.Replied.{Replied}
 use Rattle.esc_laws.specs.Driven.{Driven}
 use Rattle.esc_laws.specs.Crossed.{Crossed}
 use Rattle.esc_laws.specs.Searched.{Searched}
@@ -21,8 +22,8 @@ use Rattle.esc_laws.specs.Nested.{NestedAfter}
 use Rattle.esc_laws.specs.Steps.{Turned, opening, journal, notes_in, EachStep, StepFits, Awaits, OpenFew, Below}
 
 -- The journal is legal up to tick T for the settings that were loaded, a trace, a step cost and a nesting: it begins with
--- the load and the first window; each note's numbers are in the range of its line, and times never fall; windows, control,
--- the dead time, the drive, sectors, crossings, the search for them and nesting keep their rules, and with full nesting the
+-- the load and the first window; each note's numbers are in the range of its line, and times never fall; windows, replies,
+-- control, the dead time, the drive, sectors, crossings, the search for them and nesting keep their rules, and with full nesting the
 -- chopping does; and there is a list of machine steps whose notes, joined, are the rest of the journal: each stands at a tick
 -- that the cost and the stalls give, below T, and each kind comes in time; no step that is due below T is left out.
 pub record Legal (loaded : Loaded) (nest : Nest) (cost : ℕ) (trace : List Event) (until : ℕ) (notes : List Note) : Type 0 where
@@ -31,6 +32,7 @@ pub record Legal (loaded : Loaded) (nest : Nest) (cost : ℕ) (trace : List Even
   pub in_range : All InRange notes
   pub in_time : Journal notes
   pub windowed : Windowed loaded trace notes
+  pub replied : Replied trace notes
   pub controlled : Controlled notes
   pub dead_safe : DeadSafe notes
   pub driven : Driven notes
@@ -58,6 +60,7 @@ pub record LegalFront (loaded : Loaded) (nest : Nest) (cost : ℕ) (trace : List
   pub in_range : All InRange notes
   pub in_time : Journal notes
   pub windowed : Windowed loaded trace notes
+  pub replied : Replied trace notes
   pub controlled : Controlled notes
   pub dead_safe : DeadSafe notes
   pub driven : Driven notes

@@ -2,8 +2,10 @@
 pub mod Place
 pub mod Rested
 pub mod Windowed
+pub mod Replied
 pub mod HeardWhole
 pub mod RestOpens
+pub mod FrameReplied
 pub mod Driven
 pub mod Calls
 pub mod Crossed
@@ -17,6 +19,7 @@ pub mod Saves
 -- what is shown of them
 pub mod Refused
 pub mod RefusedCrossings
+pub mod RefusedReplies
 pub mod RefusedChops
 pub mod Allowed
 pub mod DutyKept
@@ -24,6 +27,7 @@ pub mod DutyKept
 pub mod Tied
 pub mod DriveTied
 pub mod CrossTied
+pub mod PeriodTied
 pub mod World
 pub mod Rooms
 pub mod ChopStalls

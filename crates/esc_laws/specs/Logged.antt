@@ -1,5 +1,6 @@
 -- Machinery, and no law: how a run is proved to be legal. Nothing that `Legal` means rests on this.
--- For which trace and which log of steps the core, the registers and the open kinds stand.
+-- What is kept between any two steps of a run: the core, the registers and the open handlers match the trace so far and the
+-- machine steps so far, and these steps keep every law.
 use Rattle.std.specs.Prelude.{◌≡◌, ◌≢◌, ◌<◌, ◌≤◌, ◌+◌, ℕ, true, false, List, [], All, reverse}
 use Rattle.std.proofs.Common.{inl, inr}
 use Rattle.esc_base.specs.declared.kind.Kind.{Kind}
@@ -22,6 +23,7 @@ use Rattle.esc_core.specs.Firmware.{core_step, core_asked, entered_core, left_of
 use Rattle.commutation.specs.Commutated.{Commutated}
 use Rattle.gate_driver.specs.DeadSafe.{DeadSafe}
 use Rattle.esc_laws.specs.Windowed.{Windowed}
+use Rattle.esc_laws.specs.Replied.{Replied}
 use Rattle.esc_laws.specs.Driven.{Driven}
 use Rattle.esc_laws.specs.Crossed.{Crossed}
 use Rattle.esc_laws.specs.Searched.{Searched}
@@ -42,6 +44,7 @@ first_bank = written reset reg.CapArm 0
 pub record Marks (loaded : Loaded) (nest : Nest) (trace : List Event) (b : Bank) (stack : List Kind) (log : List Turned) : Type 0 where
   pub in_time : Journal (journal loaded log)
   pub windowed : Windowed loaded trace (journal loaded log)
+  pub replied : Replied trace (journal loaded log)
   pub dead_safe : DeadSafe (journal loaded log)
   pub driven : Driven (journal loaded log)
   pub commutated : Commutated (advance_of loaded.settings) (forward_at loaded.settings) (journal loaded log)
@@ -64,7 +67,7 @@ pub record Logged (loaded : Loaded) (nest : Nest) (cost : ℕ) (trace : List Eve
   pub patient : Patient nest c.hold b.masked stack (sees loaded trace (journal loaded log) b.time) (called loaded nest trace log)
   pub owes : (k : Kind) → is_open stack k ≡ true → own_steps k log + left_of c k ≤ most k
   pub reached : (k : Kind) → is_open stack k ≡ true → after cost trace log ≡ uses cost trace (steps_since k log + 1) (entered_at k log)
-  -- and the newest step of the log stands where `next_step` leads from the entry
+  -- and the newest step stands where the step cost and the stalls lead from the entry
   pub reached_by : (k : Kind) → is_open stack k ≡ true → (t : ℕ) → Below t log → uses cost trace (steps_since k log) (entered_at k log) < t
   pub fits : EachStep (StepFits loaded nest cost trace) [] log
   pub drives : EachStep (ChopFits loaded) [] log

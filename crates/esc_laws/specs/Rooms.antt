@@ -26,17 +26,19 @@ use Rattle.timer_regs.specs.Rest.{rests_from}
 use Rattle.interrupt_machine.specs.Did.{accessed}
 use Rattle.interrupt_machine.specs.Open.{kind_of}
 use Rattle.arming.specs.ControlAt.{demand_at}
-use Rattle.commutation.specs.Drive.{pace_at, wait_at}
+use Rattle.commutation.specs.Drive.{pace_at, wait_at, turns_at, rests_at}
 use Rattle.zero_cross.specs.Comparator.{held}
 use Rattle.commutation.specs.Commutated.{sector_at, turn_at, forced_at, stuck_at, TurnRule}
 use Rattle.gate_driver.specs.Gated.{Gated, gates_after, high_wait}
 use Rattle.gate_driver.specs.DeadSafe.{high_free_at}
 use Rattle.gate_driver.specs.Acted.{KeepsDeadTime}
 use Rattle.esc_laws.specs.Windowed.{WindowRuleAt}
+use Rattle.esc_laws.specs.Replied.{ReplyRuleAt}
 use Rattle.esc_laws.specs.Driven.{IsDriven}
 use Rattle.esc_laws.specs.Crossed.{CrossRule, blanked_at, expects_at}
 use Rattle.esc_laws.specs.Searched.{SearchRule, sight_at, cmp_open_at, quiet_at}
-use Rattle.esc_laws.specs.CrossTied.{CrossView, CrossTied}
+use Rattle.esc_laws.specs.CrossTied.{CrossView, CrossTied, ends_drive}
+use Rattle.esc_laws.specs.PeriodTied.{sums_gaps, PeriodTied}
 use Rattle.esc_laws.specs.Saves.{advance_of, forward_at}
 use Rattle.esc_laws.specs.Nested.{NestRuleAt}
 use Rattle.esc_laws.specs.Calls.{pwm_asked_at, pwm_entered_at, turned_at, turns_in, turn_was_due, postponed_at}
@@ -77,11 +79,18 @@ Ground w = Grounded w.loaded w.trace w.core.control w.core.orders w.bank.level w
 abbrev pub cap_seen : World → CapView
 cap_seen w = cap_view w.trace w.core w.bank (so_far w)
 
+-- the period that it reads for a reply
+abbrev pub PeriodTie : World → Type 0
+PeriodTie w =
+    PeriodTied w.core.drive.timing.turns (sums_gaps w.core.comm_at w.core.drive.turn.at) (ends_drive w.core.tick_at) w.bank.period w.bank.sector
+    (turns_at w.back) (rests_at w.back)
+
 abbrev pub CapTie : World → Type 0
 CapTie w =
     SignalTied (so_far w).signal w.core.cap_at (cap_seen w)
     × WindowSound w.bank.window w.bank.time
     × TimerTied (so_far w).signal w.core.cap_at (line w.trace).edges w.made.cap_past w.bank.timer
+    × PeriodTie w
 
 -- the number that was read last is that of control's newest tick; and the duty is the demand, or all is off
 abbrev pub TickTie : World → Type 0
@@ -197,6 +206,8 @@ owner (note.Detected t m) = Some kind.Cap
 owner (note.Nothing t) = Some kind.Cap
 owner (note.Bad t w) = Some kind.Cap
 owner (note.Command t c) = Some kind.Cap
+owner (note.Period t period) = Some kind.Cap
+owner (note.Reply t s b) = Some kind.Cap
 owner (note.Control t n s d) = Some kind.Tick
 owner (note.Armed t) = Some kind.Tick
 owner (note.Lost t c) = Some kind.Tick
@@ -215,6 +226,7 @@ pub record Fits (k : Kind) (w : World) (n : Note) : Type 0 where
   pub at : time_of n ≡ w.bank.time
   pub owned : owner n ≡ Some k
   pub window : WindowRuleAt w.loaded w.trace (so_far w) w.back n
+  pub replies : ReplyRuleAt w.trace (so_far w) w.back n
   pub nest : NestRuleAt (advance_of w.loaded.settings) w.nest (so_far w) w.back n
   pub driven : IsDriven w.back n
   pub turns : TurnRule (advance_of w.loaded.settings) (forward_at w.loaded.settings) w.back n

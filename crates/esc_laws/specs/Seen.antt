@@ -1,13 +1,13 @@
 -- A law, or what a law is said with: what `Legal` means rests on this.
 -- Which kinds the notes, the trace and the time call for. Nothing here knows a register.
-use Rattle.std.specs.Prelude.{ℕ, ◌+◌, ◌/◌, Bool, false, nat_lt, nat_le, max, List, reverse}
+use Rattle.std.specs.Prelude.{ℕ, ◌/◌, Bool, false, nat_lt, nat_le, max, List, reverse}
 use Rattle.esc_base.specs.declared.kind.Kind.{Kind}
 use Rattle.esc_base.specs.declared.kind.Kind.TheVariants as kind
 use Rattle.esc_base.specs.declared.event.Event.{Event}
 use Rattle.esc_base.specs.declared.note.Note.{Note}
 use Rattle.esc_base.specs.Trace.{line}
 use Rattle.esc_base.specs.Numbers.{mode_of}
-use Rattle.esc_base.specs.Times.{is_reached, most_pause}
+use Rattle.esc_base.specs.Times.{is_reached}
 use Rattle.edge_capture.specs.Burst.{close}
 use Rattle.arming.specs.ControlAt.{asked_at, number_at}
 use Rattle.esc_laws.specs.Rested.{first_rested}
@@ -17,15 +17,14 @@ use Rattle.esc_laws.specs.Saves.{advance_of, forward_at}
 use Rattle.esc_laws.specs.Calls.{calls_pwm, calls_comm}
 use Rattle.esc_laws.specs.Crossed.{expects_at}
 use Rattle.esc_laws.specs.Searched.{sight_at, calls_cmp}
-use Rattle.esc_laws.specs.Place.{Signal, Silent, Listens, Judged, Rests, Place, place}
+use Rattle.esc_laws.specs.Place.{Signal, Listens, Rests, Place, place}
 
--- CAP is called from the close of a window that has no F; after the F of a bad one, from the first rested tick at or after
+-- CAP is called from the close of a window that has no F; while no W stands after an F, from the first rested tick at or after
 -- the latest tick of the window timer and the return of that F's activation
 abbrev pub calls_cap : List Event → Signal → ℕ → Bool
-calls_cap trace Silent t = false
 calls_cap trace (Listens w m) t = is_reached (close (line trace).edges w (mode_of m)) t
-calls_cap trace (Judged f opens) t = false
-calls_cap trace (Rests f r) t = nat_le (first_rested (line trace).edges (max (f + most_pause) r)) t
+calls_cap trace (Rests from latest r) t = nat_le (first_rested (line trace).edges (max latest r)) t
+calls_cap trace s t = false
 
 -- A kind is seen due at a tick: TICK from the first one of a control tick that no K has, MAIN while a save is asked for. PWM
 -- and COMM go by the K, and COMM by the Z, which stand a few steps before the registers call them: until then the mask is up.

@@ -1,6 +1,6 @@
 -- A law, or what a law is said with: what `Legal` means rests on this.
--- The log of the machine's steps with their ticks, of which the journal is the notes. No value keeps it: an entry has
--- its own step alone, and each count is a fold over the log.
+-- The machine's steps in their order, each with its tick, its kind and its notes: the journal is the first two notes and those
+-- of all steps, joined. The program keeps no such list; contracts speak of it. Each count is a fold over it.
 use Rattle.std.specs.Prelude.{◌≡◌, ◌≢◌, ◌<◌, ◌≤◌, ◌+◌, ℕ, zero, suc, Bool, true, false, ◌&&◌, ◌==◌, if◌then◌else◌, nat_lt, nat_le, List, [], ◌∷◌, ◌++◌, Option, Some, None, All}
 use Rattle.std.specs.List.{fold, flat_map}
 use Rattle.esc_base.specs.declared.kind.Kind.{Kind}
@@ -68,15 +68,15 @@ stall_end e = 0
 unfoldable pub free : List Event → ℕ → ℕ
 free trace t = fold past_stall t trace
 
--- the least tick that a step after one at t can have
+-- the earliest tick of the step after one at t: the step cost later, and past any stall
 abbrev pub next_step : ℕ → List Event → ℕ → ℕ
 next_step cost trace t = free trace (t + cost)
 
--- the same after these steps
+-- the earliest tick of the step after these steps
 unfoldable pub after : ℕ → List Event → List Turned → ℕ
 after cost trace log = fold (λ n e. next_step cost trace e.tick) (free trace 0) log
 
--- the tick that so many uses of `next_step` reach
+-- the earliest tick of the m-th next step after one at t
 abbrev pub uses : ℕ → List Event → ℕ → ℕ → ℕ
 uses cost trace zero t = t
 uses cost trace (suc m) t = next_step cost trace (uses cost trace m t)

@@ -30,7 +30,7 @@ use Rattle.esc_core.specs.Firmware.{left_of, need_of}
 use Rattle.gate_driver.specs.DeadSafe.{IsTied}
 use Rattle.esc_laws.specs.Saves.{settings_at, spin_at}
 use Rattle.esc_laws.specs.Rested.{IsRested, first_rested}
-use Rattle.esc_laws.specs.Place.{Signal, Listens, Judged, Rests, Place}
+use Rattle.esc_laws.specs.Place.{Signal, Listens, Judged, Owes, Tells, Replies, Rests, Place}
 
 -- what the core, the registers and the notes say of the signal line
 pub record CapView : Type 0 where
@@ -101,17 +101,25 @@ pub record IsJudged (v : CapView) : Type 0 where
   pub running : v.paused ≡ false
   pub no_timer : v.timer ≡ None
 
+-- the window that opened at w in this mode has closed, and CAP has copied its burst
+pub record HasBurst (v : CapView) (w m : ℕ) : Type 0 where
+  pub closed_at : ℕ
+  pub closes : close (line v.trace).edges w (mode_of m) ≡ Some closed_at
+  pub past : closed_at ≤ v.time
+  pub copied : v.copied ≡ burst (line v.trace).edges w (mode_of m)
+  pub core_mode : v.mode ≡ mode_of m
+
 -- the window timer is set
 pub record IsPaused (v : CapView) : Type 0 where
   pub taken : v.taken ≡ true
   pub paused : v.paused ≡ true
 
 -- it was reached when CAP was entered, and CAP has noted nothing
-pub record IsOver (v : CapView) (f : ℕ) : Type 0 where
+pub record IsOver (v : CapView) (from : ℕ) : Type 0 where
   pub taken : v.taken ≡ true
   pub paused : v.paused ≡ true
   pub no_timer : v.timer ≡ None
-  pub rested : first_rested (line v.trace).edges (f + least_pause) ≤ v.entered
+  pub rested : first_rested (line v.trace).edges from ≤ v.entered
   pub entered : v.entered ≤ v.time
   pub no_window : v.windows ≡ 0
   pub no_verdict : v.verdicts ≡ 0
@@ -129,24 +137,29 @@ SignalTied (Listens w m) cap.Back v = IsListening v w m × CapIsDone v
 SignalTied (Judged f opens) cap.Open v = IsJudged v × (opens ≡ true)
 SignalTied (Judged f opens) (cap.Pause at) v = IsJudged v × ((opens ≡ false) × (at ≡ f + least_pause))
 SignalTied (Judged f opens) cap.Back v = IsPaused v × ((opens ≡ false) × (v.verdicts ≡ 1))
-SignalTied (Rests f r) cap.Shut v = IsPaused v
-SignalTied (Rests f r) cap.Start v = IsOver v f
+SignalTied (Owes w m) cap.Period v = IsJudged v × HasBurst v w m
+SignalTied (Tells w m told) (cap.Reply period) v = IsJudged v × (HasBurst v w m × (period ≡ told))
+SignalTied (Replies end) (cap.Pause at) v = IsJudged v × (at ≡ end)
+SignalTied (Replies end) cap.Back v = IsPaused v × (v.verdicts ≡ 1)
+SignalTied (Rests from latest r) cap.Shut v = IsPaused v × (from ≤ latest)
+SignalTied (Rests from latest r) cap.Start v = IsOver v from
 -- at the other places CAP doesn't stand
 SignalTied s at v = ⊥
 
--- The window timer is armed for a rested tick from the end of the pause after the F at f on, and for none later than the
--- first one from a later tick than all that CAP did by then.
-pub record IsSet (edges : List Edge) (f since : ℕ) (timer : Option ℕ) : Type 0 where
+-- The window timer is armed for a rested tick from this one on, and for none later than the first one from a later tick than all
+-- that CAP did by then.
+pub record IsSet (edges : List Edge) (from since : ℕ) (timer : Option ℕ) : Type 0 where
   pub at : ℕ
   pub armed : timer ≡ Some at
-  pub late : f + least_pause ≤ at
+  pub late : from ≤ at
   pub rested : IsRested edges at
-  pub soon : (t : ℕ) → f + least_pause ≤ t → since ≤ t → at ≤ first_rested edges t
+  pub soon : (t : ℕ) → from ≤ t → since ≤ t → at ≤ first_rested edges t
 
 -- from the step that arms it on, until CAP is entered
 abbrev pub TimerTied : Signal → CapAt → List Edge → ℕ → Option ℕ → Type 0
-TimerTied (Judged f opens) cap.Back edges since timer = IsSet edges f since timer
-TimerTied (Rests f r) cap.Shut edges since timer = IsSet edges f r timer
+TimerTied (Judged f opens) cap.Back edges since timer = IsSet edges (f + least_pause) since timer
+TimerTied (Replies end) cap.Back edges since timer = IsSet edges end since timer
+TimerTied (Rests from latest r) cap.Shut edges since timer = IsSet edges from r timer
 TimerTied s at edges since timer = Unit {0}
 
 -- the line has rested from this tick on since its newest change, and from no earlier one

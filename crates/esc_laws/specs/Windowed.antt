@@ -1,13 +1,12 @@
 -- A law, or what a law is said with: what `Legal` means rests on this.
 -- Windows and their verdicts. Each rule looks at a note, at all notes before it, and at the trace up to the note's time.
-use Rattle.std.specs.Prelude.{◌≡◌, ◌≤◌, ◌+◌, ℕ, true, false, List, [], reverse, Some}
+use Rattle.std.specs.Prelude.{◌≡◌, ◌≤◌, ℕ, true, false, List, [], reverse, Some}
 use Rattle.esc_base.specs.declared.event.Event.{Event}
 use Rattle.esc_base.specs.declared.note.Note.{Note}
 use Rattle.esc_base.specs.declared.note.Note.TheVariants as note
 use Rattle.esc_base.specs.Numbers.{mode_number, why_number, mode_of, bit_of, as_tick}
 use Rattle.esc_base.specs.Journal.{Each}
 use Rattle.esc_base.specs.Trace.{line}
-use Rattle.esc_base.specs.Times.{least_pause}
 use Rattle.edge_capture.specs.Burst.{burst, close}
 use Rattle.settings_block.specs.declared.stored.Loaded.{Loaded}
 use Rattle.arming.specs.ControlAt.{mode_at}
@@ -37,30 +36,26 @@ pub record Answers (loaded : Loaded) (trace : List Event) (w m entered t : ℕ) 
 -- W and F alternate, so an F answers the newest W
 abbrev pub AnswersAt : Loaded → List Event → Signal → ℕ → ℕ → Note → Type 0
 AnswersAt loaded trace (Listens w m) entered t said = Answers loaded trace w m entered t said
-AnswersAt loaded trace Silent entered t said = ⊥
-AnswersAt loaded trace (Judged f opens) entered t said = ⊥
-AnswersAt loaded trace (Rests f r) entered t said = ⊥
+AnswersAt loaded trace s entered t said = ⊥
 
--- A W at t that follows an F without a frame stands in a later activation, which was entered at or after the first rested
--- tick from 600 ticks after the F on.
-pub record Opens (trace : List Event) (f entered t : ℕ) : Type 0 where
-  pub rested : first_rested (line trace).edges (f + least_pause) ≤ entered
+-- A W at t stands in an activation that was entered at or after the first rested tick from this one on
+pub record Opens (trace : List Event) (from entered t : ℕ) : Type 0 where
+  pub rested : first_rested (line trace).edges from ≤ entered
   pub entered_before : entered ≤ t
 
--- The first window opens at tick 0. After a good frame and after a detection the next one opens in the same activation.
--- After a bad window, and where nothing was detected, it opens in a later one, when the line has rested.
+-- The first window opens at tick 0. After a detection and after a good frame that gets no reply the next one opens in the same
+-- activation. After a bad window, and where nothing was detected, it opens in a later one, when the line has rested, 600 ticks
+-- after the F or later; and after a reply so too, at its end or later.
 abbrev pub OpensAt : List Event → Signal → ℕ → ℕ → Type 0
 OpensAt trace Silent entered t = t ≡ 0
-OpensAt trace (Listens w m) entered t = ⊥
 OpensAt trace (Judged f opens) entered t = opens ≡ true
-OpensAt trace (Rests f r) entered t = Opens trace f entered t
+OpensAt trace (Rests from latest r) entered t = Opens trace from entered t
+OpensAt trace s entered t = ⊥
 
--- no activation returns between a good frame or a detection and its W
+-- no activation returns between a detection, or a good frame that gets no reply, and its W
 abbrev pub MayReturn : Signal → Type 0
-MayReturn Silent = Unit {0}
-MayReturn (Listens w m) = Unit {0}
 MayReturn (Judged f opens) = opens ≡ false
-MayReturn (Rests f r) = Unit {0}
+MayReturn s = Unit {0}
 
 -- the rule of a note at a place, after these notes with the newest first
 abbrev pub WindowRuleAt : Loaded → List Event → Place → List Note → Note → Type 0

@@ -3,6 +3,7 @@ ghost use Rattle.esc_laws.specs.Allowed.{SomeAreLegal};
 ghost use Rattle.esc_laws.specs.Refused.{ControlRefuses, DriveRefuses, GatesRefuse, NestingRefuses, StepsRefuse, TurnsRefuse, WindowsRefuse};
 ghost use Rattle.esc_laws.specs.RefusedChops.{ChoppingRefuses, SomeAreChopped};
 ghost use Rattle.esc_laws.specs.RefusedCrossings.{ActivationsRefuse, CrossedTurnsRefuse, CrossingsRefuse, SearchesRefuse};
+ghost use Rattle.esc_laws.specs.RefusedReplies.{RepliesRefuse, ReplyWindowsRefuse, SomeAreReplied};
 
 /// The rules of control refuse each of these small journals.
 pub fn control_refuses()
@@ -57,6 +58,21 @@ pub fn searches_refuse()
 /// The rules of the activations around a crossing refuse each of these.
 pub fn activations_refuse()
     ensures { ActivationsRefuse }
+{}
+
+/// The rules of replies to bidirectional frames refuse each of these.
+pub fn replies_refuse()
+    ensures { RepliesRefuse }
+{}
+
+/// The rules of windows, activations and steps refuse each of these around a reply.
+pub fn reply_windows_refuse()
+    ensures { ReplyWindowsRefuse }
+{}
+
+/// And the rules of replies allow some: one for no period, and one that tells 1000 microseconds.
+pub fn some_are_replied()
+    ensures { SomeAreReplied }
 {}
 
 /// The law of undisturbed periods refuses each of these.

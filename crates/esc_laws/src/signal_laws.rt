@@ -3,6 +3,7 @@
 ghost use Rattle.esc_laws.specs.Rested.{FirstRestedTick};
 ghost use Rattle.esc_laws.specs.HeardWhole.{WholeSignalIsHeard, SentFrameIsRead};
 ghost use Rattle.esc_laws.specs.RestOpens.{RestCallsCap, CapOpensWindow};
+ghost use Rattle.esc_laws.specs.FrameReplied.{FrameIsReplied, ReplyHasFrame};
 
 /// A whole signal that begins on a line at rest is heard from its first edge: where the newest window is
 /// open before it and no change of the line stands between, the verdict on that window is the verdict on
@@ -17,9 +18,9 @@ pub fn sent_frame_is_read()
     ensures { SentFrameIsRead }
 {}
 
-/// No rest passes without a window: after a bad window, from the first tick before which the line has
-/// rested, at or after the end of the pause, at most 8 steps are made, those of higher handlers aside,
-/// before CAP is entered.
+/// No rest passes without a window: after a bad window, and after a reply, from the first tick before which
+/// the line has rested, at or after the end of the pause or of the reply, at most 8 steps are made, those of
+/// higher handlers aside, before CAP is entered.
 pub fn rest_calls_cap()
     ensures { RestCallsCap }
 {}
@@ -33,4 +34,15 @@ pub fn cap_opens_window()
 /// tick, with no change in the 200 ticks before it, and the first such one.
 pub fn first_rested_tick()
     ensures { FirstRestedTick }
+{}
+
+/// Each good bidirectional frame is replied to before CAP returns: the electrical period is read at a V, and
+/// an R behind it tells just that period, and says when the reply starts.
+pub fn frame_is_replied()
+    ensures { FrameIsReplied }
+{}
+
+/// And nothing else is replied to: each R stands in the activation of such a frame, behind its V.
+pub fn reply_has_frame()
+    ensures { ReplyHasFrame }
 {}

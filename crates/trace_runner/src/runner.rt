@@ -72,8 +72,9 @@ impl Runner {
         requires later { newest self.old ≤ tick_of_event e }
         requires stall { StallFits e }
 
-        // From any outset: what stood for a trace and some steps stands for them with this event and the new steps, whose
-        // lines the sink took; or some lines were taken, and one was refused, all of notes before the event's tick.
+        // If the runner matched a trace and the machine steps of a run before, it matches them with this event and the new
+        // steps after, and the sink took these steps' lines; or it took some of them and refused one, all of notes before
+        // the event's tick.
         ensures goes { OnOk result ((o : Outset) → GoesOn K.given K.took (StandsFor self.old o (D.told dev.old)) (StandsFor self.new o (D.told dev.new))
             (e ∷ []) out.old out.new) }
         ensures breaks { OnErr result ((o : Outset) → BreaksOff K.given K.took K.broke o.loaded (StandsFor self.old o (D.told dev.old))

@@ -1,0 +1,5 @@
+use Rattle.esc_laws.proofs.RefusedReplies.{replies_refuse}
+use Rattle.esc_laws.proofs.shown.replies_refuse.Goals as goal
+
+pub returns : goal.returns
+returns c = replies_refuse
