@@ -1,5 +1,5 @@
 use Rattle.std.proofs.Common.{◌≡◌, ◌∙◌, ◌++◌, [], ◌+◌, ◌*◌, List, ℕ, codes, ap, rules}
-use Rattle.am32sim.specs.Show.{field_line, fault_text}
+use Rattle.am32sim.specs.Show.{fault_text}
 use Rattle.settings_block.specs.Settings.{input_number}
 use Rattle.esc_base.specs.Numbers.{bit_of}
 use Rattle.am32sim.proofs.Shows.{line_more}
