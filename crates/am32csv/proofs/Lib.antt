@@ -1,3 +1,4 @@
 pub mod Changes
 pub mod Endings
 pub mod Ticks
+pub mod Rows

@@ -1,3 +1,4 @@
 pub mod Clock
 pub mod Captured
+pub mod Rows
 pub mod Status
