@@ -1,7 +1,7 @@
 //! A capture, row by row.
-ghost use Rattle.std.specs.Prelude.{◌≡◌, false, ℕ, List, Option, Some, IfOk, OnOk};
+ghost use Rattle.std.specs.Prelude.{◌≡◌, false, [], ℕ, List, Option, Some, None, IfOk, OnOk};
 ghost use Rattle.esc_base.specs.declared.event.Event.{Event as AnEvent};
-ghost use Rattle.trace_tools.specs.Written.{HasWritten};
+ghost use Rattle.trace_tools.specs.Written.{HasWritten, IsTrace};
 ghost use Rattle.am32csv.specs.Captured.{Keeps, GoesOn, Ends};
 ghost use Rattle.am32csv.specs.Rows.{IsTickOf, WritesRow, with_level, zeroth};
 
@@ -53,7 +53,11 @@ fn fault_of(why: Unwritten) -> Fault {
 impl Capture {
     /// No row was read.
     pub fn new(layout: Layout) -> Capture
-        ensures { (given : Option (List ℕ)) → Keeps result given given }
+        ensures keeps { (given : Option (List ℕ)) → Keeps result given given }
+        ensures begins { (given : Option (List ℕ)) → HasWritten result.writer given given [] }
+        ensures low { result.written ≡ false }
+        ensures no_row { result.first ≡ None }
+        ensures layout { result.layout ≡ layout }
     {
         Capture {
             layout,
@@ -148,7 +152,9 @@ impl Capture {
 
     /// Ends the trace, a millisecond behind the last row.
     pub fn end<K: Sink>(&self, out: &mut K) -> Result<(), Fault>
-        ensures { OnOk result (Ends self.now (K.given out.old) (K.given out.new)) }
+        ensures ends { OnOk result (Ends self.now (K.given out.old) (K.given out.new)) }
+        ensures whole { OnOk result ((first : Option (List ℕ)) (events : List AnEvent) → HasWritten self.now.writer first (K.given out.old) events →
+            (end : ℕ) × IsTrace first (K.given out.new) events end) }
     {
         let end = self.newest.saturating_add(REST).min(LAST_TICK);
         match self.writer.end(Tick(end), out) {
