@@ -3,7 +3,7 @@ use Rattle.std.proofs.Common.{◌≡◌, ◌≤◌, ◌<◌, ℕ, ℤ, pos, ◌+
 use mathlib.Core.Bool.{beq}
 use Rattle.std.proofs.lemmas.Option.{same_Some}
 use Rattle.csv.proofs.ReadFacts.{rows-more, rows-end}
-use Rattle.csv.specs.Reading.{Reached, ReadRecord, AreRecords, source_of, strip_bom, reader_config}
+use Rattle.csv.specs.Reading.{Reached, ReadRecord, source_of, strip_bom}
 use Rattle.csv.specs.declared.parser.State.TheVariants as st
 use Rattle.csv.specs.declared.reader.Reader.{Reader}
 use Rattle.esc_base.specs.declared.event.Event.{Event}
@@ -15,7 +15,7 @@ use Rattle.am32csv.specs.declared.layout.Clock.{Clock}
 use Rattle.am32csv.specs.declared.layout.Layout.{Layout}
 use Rattle.am32csv.specs.declared.run.Row.{Row}
 use Rattle.am32csv.specs.Captured.{Keeps}
-use Rattle.am32csv.specs.Records.{capture_config, SaysRow, SayRows, IsTextOf, first_stamp, newest_level, AreTicks, changes, AreChangesOf, IsOfRows}
+use Rattle.am32csv.specs.Records.{capture_config, SaysRow, SayRows, first_stamp, newest_level, AreTicks, changes, AreChangesOf, IsOfRows}
 use Rattle.am32csv.specs.Rows.{IsTickOf, WritesRow, with_level, zeroth}
 
 -- ---- one row more, as a change

@@ -6,7 +6,6 @@ use Rattle.csv.specs.Reading.{AreRecords, default_config, strip_bom}
 use Rattle.csv.specs.Records.{field_at}
 use Rattle.csv.specs.declared.parser.State.TheVariants as st
 use Rattle.esc_base.specs.declared.event.Event.{Event}
-use Rattle.esc_base.specs.declared.event.Event.TheVariants as event
 use Rattle.esc_base.specs.declared.tick.Tick.{Tick}
 use Rattle.trace_tools.specs.Written.{IsTrace}
 use Rattle.am32csv.specs.declared.layout.Clock.{Clock}

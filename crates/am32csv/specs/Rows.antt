@@ -1,5 +1,5 @@
 -- What the rows of a capture say, as changes of the signal line.
-use Rattle.std.specs.Prelude.{◌≡◌, ℕ, ℤ, pos, ◌-ℤ◌, ◌*◌, Bool, true, false, if◌then◌else◌, List, [], ◌∷◌, ◌++◌, Option, Some, None, unwrap_or}
+use Rattle.std.specs.Prelude.{◌≡◌, ℕ, ℤ, pos, ◌-ℤ◌, ◌*◌, Bool, if◌then◌else◌, List, [], ◌∷◌, ◌++◌, Option, unwrap_or}
 use mathlib.Core.Bool.{beq}
 use Rattle.esc_base.specs.declared.tick.Tick.{Tick}
 use Rattle.esc_base.specs.declared.event.Event.{Event}
