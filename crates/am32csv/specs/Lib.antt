@@ -1,3 +1,5 @@
 pub mod Clock
 pub mod Captured
+pub mod Rows
+pub mod Records
 pub mod Status

@@ -10,6 +10,7 @@ pub enum Expected {
     LaterTime,
     EarlierTime,
     FewerEdges,
+    End,
 }
 
 impl Expected {
@@ -25,6 +26,7 @@ impl Expected {
             Expected::LaterTime => "a time not below that of the row above",
             Expected::EarlierTime => "a time at most 22.369s after the first row's",
             Expected::FewerEdges => "at most 16777215 edges",
+            Expected::End => "the end of the capture",
         }
     }
 }
