@@ -2,7 +2,8 @@
 # Writes a trace for measuring: trace.sh [N] [KIND], with N lines (default 1000000) beside the last one.
 #
 #   frames      DShot600 frames of 32 edges, one every 4000 ticks (N is rounded down to whole frames): first 3100 with
-#               value 0, which arm the controller, then values through the throttle range
+#               value 0, which arm the controller, then values through the throttle range, which drive the motor: so in a
+#               tenth of the default N lines it isn't driven, and in the others it is
 #   comparator  comparator changes, one every 24 ticks, with no frame and no drive: almost nothing but reading
 #   idle        the last line alone, 1074 ticks for each of N, at most at tick 1073741824: the core's own steps and the journal
 lines=${1:-1000000}
