@@ -21,7 +21,8 @@ use Rattle.am32wave.proofs.Merging.{broken_off}
 use Rattle.am32wave.proofs.Parts.{append_known-twice, front_behind}
 use Rattle.am32wave.proofs.Shows.{nothing_given, not_refused}
 
-parts_more : (before moments : List Moment) (m : Moment) → traced_parts before (moments ++ m ∷ []) ≡ traced_parts before moments ++ traced_part (before ++ moments) m
+parts_more : (before moments : List Moment) (m : Moment) → traced_parts before (moments ++ m ∷ []) ≡ traced_parts before moments ++ traced_part
+    (before ++ moments) m
 parts_more before [] m = append-nil (traced_part before m) ∙ ap (λ (b : List Moment). traced_part b m) (sym (append-nil before))
 parts_more before (l ∷ moments) m =
     ap (λ (bytes : List ℕ). traced_part before l ++ bytes) (parts_more (before ++ l ∷ []) moments m)

@@ -152,7 +152,8 @@ fn show_traced<S: Source, T: Source, K: Sink>(
     ensures read_fault { IfOk result (λ s. OnReadFault s (Rose (S.faults src.old) (S.faults src.new))) }
     ensures trace_fault { IfOk result (λ s. OnTraceFault s (Rose (T.faults trace.old) (T.faults trace.new))) }
     ensures no_write_fault { IfOk result (λ s. s ≢ Status.WriteFault) }
-    ensures err { OnErr result (TracedShown Status.WriteFault (S.left src.old) (S.left src.new) (T.left trace.old) (T.left trace.new) (K.given out.old) (K.given out.new)) }
+    ensures err { OnErr result (TracedShown Status.WriteFault (S.left src.old) (S.left src.new) (T.left trace.old) (T.left trace.new)
+        (K.given out.old) (K.given out.new)) }
     ensures write_fault { OnErr result (Rose (K.faults out.old) (K.faults out.new)) }
 {
     let mut merge = Merge::new();
@@ -177,7 +178,8 @@ pub fn traced_main<S: Source, T: Source, K: Sink>(src: &mut S, trace: &mut T, ou
     ensures read_fault { OnReadFault result (Rose (S.faults src.old) (S.faults src.new)) }
     ensures trace_fault { OnTraceFault result (Rose (T.faults trace.old) (T.faults trace.new)) }
     ensures write_fault { OnWriteFault result (Rose (K.faults out.old) (K.faults out.new)) }
-    ensures done { (journal text : List ℕ) (events : List AnEvent) (end : ℕ) → S.left src.old ≡ Some journal → IsJournal journal → T.left trace.old ≡ Some text →
+    ensures done { (journal text : List ℕ) (events : List AnEvent) (end : ℕ) → S.left src.old ≡ Some journal → IsJournal journal →
+        T.left trace.old ≡ Some text →
         Read text ≡ Trace events end → IsTracedDoneOrFault result }
 {
     match show_traced(src, trace, out) {
