@@ -20,7 +20,8 @@ use Rattle.am32csv.specs.Rows.{IsTickOf, WritesRow, with_level, zeroth}
 
 -- ---- one row more, as a change
 
-behind : (b : Bool) (front events more : List Event) → front ++ (if b then events else events ++ more) ≡ (if b then front ++ events else (front ++ events) ++ more)
+behind : (b : Bool) (front events more : List Event) → front ++ (if b then events else events ++ more) ≡ (if b then front ++ events else
+    (front ++ events) ++ more)
 behind true front events more = refl
 behind false front events more = sym (append_assoc front events more)
 
@@ -122,7 +123,8 @@ taken layout rows events c d first now after r false is written changes level st
           (subst (λ (l : Layout). IsTickOf l.clock (zeroth c r.stamp) r.stamp x.t.0) layout_is x.is_tick)));
     }
 
-pub row_more : {R : Type 0} (layout : Layout) (source : Option (List ℕ)) (rem : R → Option (List ℕ)) (a b : Reader R) (c d : Capture) (count more number next : ℕ)
+pub row_more : {R : Type 0} (layout : Layout) (source : Option (List ℕ)) (rem : R
+    → Option (List ℕ)) (a b : Reader R) (c d : Capture) (count more number next : ℕ)
     (first now after : Option (List ℕ)) (fields : List (List ℕ)) (r : Row) (z : ℤ) → z ≡ r.stamp → (s : RowsRead layout source rem a c count number first now)
     → a.config ≡ capture_config → ReadRecord rem a b true fields → SaysRow layout number fields r → (layout.time ≡ 0 → number < 2 ^ 63)
     → Keeps d first after → (c.layout.drops_replies ≡ false → WritesRow c now z r.level d after)
@@ -217,7 +219,8 @@ all_rows layout source rem a b c count number first now after fields s config re
           };
     }
 
-pub none_read : {R : Type 0} (layout : Layout) (source : Option (List ℕ)) (rem : R → Option (List ℕ)) (reader : Reader R) (c : Capture) (given : Option (List ℕ))
+pub none_read : {R : Type 0} (layout : Layout) (source : Option (List ℕ)) (rem : R
+    → Option (List ℕ)) (reader : Reader R) (c : Capture) (given : Option (List ℕ))
     → HasWritten c.writer given given [] → c.written ≡ false → c.first ≡ None → c.layout ≡ layout → reader.state ≡ st.StartRecord
     → ((text : List ℕ) → source ≡ Some text → source_of rem reader ≡ Some (strip_bom text))
     → RowsRead layout source rem reader c 0 0 given given

@@ -160,13 +160,16 @@ take_note m after nf nl ef el moments n is same_journal unread same_events befor
       fits = last_in_range (notes_of moments) n s.read.in_range;
       merged = record {
         notes =
-            subst (λ (x : NextNote). IsNextNote x after.notes.journal nf nl (notes_of (moments ++ moment.Note n ∷ [])) (newest_time 0 (moments ++ moment.Note n ∷ [])))
+            subst (λ (x : NextNote). IsNextNote x after.notes.journal nf nl (notes_of (moments ++ moment.Note n ∷ [])) (newest_time 0
+            (moments ++ moment.Note n ∷ [])))
             (sym unread)
-            (subst (λ (x : Reader). NotesRead x nf nl (notes_of (moments ++ moment.Note n ∷ [])) (newest_time 0 (moments ++ moment.Note n ∷ []))) (sym same_journal)
+            (subst (λ (x : Reader). NotesRead x nf nl (notes_of (moments ++ moment.Note n ∷ [])) (newest_time 0 (moments ++ moment.Note n ∷ [])))
+            (sym same_journal)
             (subst (λ (ns : List Note). NotesRead m.notes.journal nf nl ns (newest_time 0 (moments ++ moment.Note n ∷ []))) (sym (notes_with_note moments n))
             (record { read = s.read; below = s.below; newest = s.newest; line = s.line; later = omega arith })));
         events =
-            subst (λ x. IsNextEvent x.next x.lines ef el (events_of (moments ++ moment.Note n ∷ [])) (newest_time 0 (moments ++ moment.Note n ∷ []))) (sym same_events)
+            subst (λ x. IsNextEvent x.next x.lines ef el (events_of (moments ++ moment.Note n ∷ [])) (newest_time 0 (moments ++ moment.Note n ∷ [])))
+            (sym same_events)
             (subst (λ (es : List Event). IsNextEvent m.events.next m.events.lines ef el es (newest_time 0 (moments ++ moment.Note n ∷ [])))
             (sym (events_with_note moments n))
             (events_later m.events.next m.events.lines ef el (events_of moments) (newest_time 0 moments) (newest_time 0 (moments ++ moment.Note n ∷ []))
@@ -186,16 +189,20 @@ take_event m after nf nl ef el moments e is same_lines unread same_notes before 
       fits = let small = s.small in omega arith;
       merged = record {
         notes =
-            subst (λ x. IsNextNote x.next x.journal nf nl (notes_of (moments ++ moment.Event e ∷ [])) (newest_time 0 (moments ++ moment.Event e ∷ []))) (sym same_notes)
+            subst (λ x. IsNextNote x.next x.journal nf nl (notes_of (moments ++ moment.Event e ∷ [])) (newest_time 0
+            (moments ++ moment.Event e ∷ []))) (sym same_notes)
             (subst (λ (ns : List Note). IsNextNote m.notes.next m.notes.journal nf nl ns (newest_time 0 (moments ++ moment.Event e ∷ [])))
             (sym (notes_with_event moments e))
             (notes_later m.notes.next m.notes.journal nf nl (notes_of moments) (newest_time 0 moments) (newest_time 0 (moments ++ moment.Event e ∷ []))
             (subst (λ (t : ℕ). NoNoteBefore m.notes.next t) (sym u) before) h.notes));
         events =
-            subst (λ (x : NextEvent). IsNextEvent x after.events.lines ef el (events_of (moments ++ moment.Event e ∷ [])) (newest_time 0 (moments ++ moment.Event e ∷ [])))
+            subst (λ (x : NextEvent). IsNextEvent x after.events.lines ef el (events_of (moments ++ moment.Event e ∷ [])) (newest_time 0
+            (moments ++ moment.Event e ∷ [])))
             (sym unread)
-            (subst (λ (x : Lines). EventsRead x ef el (events_of (moments ++ moment.Event e ∷ [])) (newest_time 0 (moments ++ moment.Event e ∷ []))) (sym same_lines)
-            (subst (λ (es : List Event). EventsRead m.events.lines ef el es (newest_time 0 (moments ++ moment.Event e ∷ []))) (sym (events_with_event moments e))
+            (subst (λ (x : Lines). EventsRead x ef el (events_of (moments ++ moment.Event e ∷ [])) (newest_time 0 (moments ++ moment.Event e ∷ [])))
+            (sym same_lines)
+            (subst (λ (es : List Event). EventsRead m.events.lines ef el es (newest_time 0 (moments ++ moment.Event e ∷ []))) (sym
+            (events_with_event moments e))
             (record { read = s.read; later = let t = s.time in omega arith })));
         order = order_push 0 moments (moment.Event e) h.order s.later;
       };

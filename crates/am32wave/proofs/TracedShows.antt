@@ -1,19 +1,28 @@
 -- A journal and its trace are shown moment by moment.
-use Rattle.std.proofs.Common.{◌≡◌, ◌≢◌, ℕ, List, [], ◌∷◌, ◌++◌, Option, refl, sym, ◌∙◌, ap, append_assoc, append-nil}
+use Rattle.std.proofs.Common.{◌≡◌, ◌≢◌, ℕ, List, [], ◌∷◌, ◌++◌, Option, Some, None, refl, sym, ◌∙◌, ap, append_assoc, append-nil}
 use Rattle.std.specs.Io.KnownBytes.{append_known}
 use Rattle.esc_base.specs.Outside.{AppendsFront}
 use Rattle.am32wave.specs.declared.ahead.Merge.{Merge}
+use Rattle.esc_base.specs.declared.event.Event.{Event}
+use Rattle.trace_text.specs.declared.item.Refusal.{Refusal as TraceRefusal}
+use Rattle.trace_text.specs.Read.{Read, Trace}
+use Rattle.trace_text.specs.Read.{Refused as ReadsRefused}
+use Rattle.am32wave.specs.declared.journal.Refusal.{Refusal}
 use Rattle.am32wave.specs.declared.moment.Moment.{Moment}
+use Rattle.am32wave.specs.declared.run.Form.TheVariants as form
+use Rattle.am32wave.specs.Moments.{notes_of, events_of}
+use Rattle.am32wave.specs.Shown.{IsJournal}
 use Rattle.am32wave.specs.declared.status.Status.{Status}
 use Rattle.am32wave.specs.declared.status.Status.TheVariants as status
 use Rattle.am32wave.specs.declared.traced.Traced.{Traced}
-use Rattle.am32wave.specs.Merged.{Merged, Gives, Ends, WroteWave, TracedShown}
+use Rattle.am32wave.specs.Merged.{Merged, Gives, Ends, WroteWave, TracedShown, IsTracedDoneOrFault}
 use Rattle.am32wave.specs.TracedWave.{traced_head, traced_part, traced_parts, traced_wave, IsTracedAfter}
 use Rattle.am32wave.proofs.Merging.{broken_off}
 use Rattle.am32wave.proofs.Parts.{append_known-twice, front_behind}
-use Rattle.am32wave.proofs.Shows.{nothing_given}
+use Rattle.am32wave.proofs.Shows.{nothing_given, not_refused}
 
-parts_more : (before moments : List Moment) (m : Moment) → traced_parts before (moments ++ m ∷ []) ≡ traced_parts before moments ++ traced_part (before ++ moments) m
+parts_more : (before moments : List Moment) (m : Moment) → traced_parts before (moments ++ m ∷ []) ≡ traced_parts before moments ++ traced_part
+    (before ++ moments) m
 parts_more before [] m = append-nil (traced_part before m) ∙ ap (λ (b : List Moment). traced_part b m) (sym (append-nil before))
 parts_more before (l ∷ moments) m =
     ap (λ (bytes : List ℕ). traced_part before l ++ bytes) (parts_more (before ++ l ∷ []) moments m)
@@ -98,3 +107,34 @@ broken_part m m' d nf nl nl' ef el el' given_first given given' x bytes s gives 
       front_behind given_first given given' (traced_wave s.moments) bytes [] (traced_wave (s.moments ++ x ∷ [])) s.given_is f
       (ap (λ (b : List ℕ). traced_wave s.moments ++ b) (append-nil bytes ∙ text s.moments s.stands) ∙ sym (wave_more s.moments x));
 }
+
+-- ---- a good journal with a good trace isn't refused
+
+good_journal : (line : ℕ) (kind : Refusal) (text : List ℕ) (nl ef el : Option (List ℕ)) (moments : List Moment) → IsJournal text
+    → Ends (status.Refused line kind) (Some text) nl ef el moments → ⊥
+good_journal line kind text nl ef el moments j e =
+    not_refused form.Wave line kind text None None j (record {
+      notes = notes_of moments;
+      behind = e.behind;
+      read = e.notes;
+      line = e.notes_why.0;
+      cause = e.notes_why.1;
+      wrote = refl;
+    })
+
+good_trace : (text : List ℕ) (events first_events : List Event) (end line : ℕ) (kind : TraceRefusal) → Read text ≡ Trace events end
+    → Read text ≡ ReadsRefused first_events line kind → ⊥
+good_trace text events first_events end line kind e f = let no = sym e ∙ f in absurd (cc)
+
+pub traced_done : (s : Status) (nl ef el before after : Option (List ℕ)) (journal trace : List ℕ) (events : List Event) (end : ℕ) → IsJournal journal
+    → ef ≡ Some trace → Read trace ≡ Trace events end → TracedShown s (Some journal) nl ef el before after → IsTracedDoneOrFault s
+traced_done status.Done nl ef el before after journal trace events end j is_trace reads h = tt
+traced_done (status.Refused line kind) nl ef el before after journal trace events end j is_trace reads h =
+    good_journal line kind journal nl ef el h.moments j h.ends
+traced_done (status.TraceRefused line kind) nl ef el before after journal trace events end j is_trace reads h =
+    good_trace trace events (events_of h.moments) end line kind reads (h.ends.events_why trace is_trace)
+traced_done status.Usage nl ef el before after journal trace events end j is_trace reads h = h.ends.notes_why
+traced_done status.ReadFault nl ef el before after journal trace events end j is_trace reads h = tt
+traced_done status.TraceFault nl ef el before after journal trace events end j is_trace reads h = tt
+traced_done status.WriteFault nl ef el before after journal trace events end j is_trace reads h = tt
+traced_done status.NoMemory nl ef el before after journal trace events end j is_trace reads h = h.ends.notes_why

@@ -176,3 +176,11 @@ pub record TracedShown (s : Status) (notes_first notes_left events_first events_
   pub moments : List Moment
   pub ends : Ends s notes_first notes_left events_first events_left moments
   pub wrote : WroteWave s moments before after
+
+-- the whole job was done, or a source or the sink failed
+abbrev pub IsTracedDoneOrFault : Status → Type 0
+IsTracedDoneOrFault status.Done = Unit {0}
+IsTracedDoneOrFault status.ReadFault = Unit {0}
+IsTracedDoneOrFault status.TraceFault = Unit {0}
+IsTracedDoneOrFault status.WriteFault = Unit {0}
+IsTracedDoneOrFault s = ⊥

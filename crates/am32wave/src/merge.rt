@@ -22,7 +22,8 @@ impl NotesAhead {
     /// Reads the next note, where it wasn't read yet.
     fn read_on<S: Source>(&mut self, src: &mut S) -> Result<(), Status>
         ensures goes_on { IfOk result (λ done. (first : Option (List ℕ)) (notes : List ANote) (t : ℕ) →
-            IsNextNote self.old.next self.old.journal first (S.left src.old) notes t → IsNextNote self.new.next self.new.journal first (S.left src.new) notes t) }
+            IsNextNote self.old.next self.old.journal first (S.left src.old) notes t →
+            IsNextNote self.new.next self.new.journal first (S.left src.new) notes t) }
         ensures known { IfOk result (λ done. IsNoteKnown self.new.next) }
         ensures to_come { IfOk result (λ done. notes_to_come self.new.next self.new.journal.line ≤ notes_to_come self.old.next self.old.journal.line) }
         ensures stops { IfErr result (λ s. (first : Option (List ℕ)) (notes : List ANote) (t : ℕ) →
@@ -56,9 +57,11 @@ impl EventsAhead {
     /// Reads the next event, where it wasn't read yet. After an error the trace isn't read further.
     fn read_on<T: Source>(&mut self, trace: &mut T) -> Result<(), Status>
         ensures goes_on { IfOk result (λ done. (first : Option (List ℕ)) (events : List AnEvent) (t : ℕ) →
-            IsNextEvent self.old.next self.old.lines first (T.left trace.old) events t → IsNextEvent self.new.next self.new.lines first (T.left trace.new) events t) }
+            IsNextEvent self.old.next self.old.lines first (T.left trace.old) events t →
+            IsNextEvent self.new.next self.new.lines first (T.left trace.new) events t) }
         ensures known { IfOk result (λ done. IsEventKnown self.new.next) }
-        ensures to_come { IfOk result (λ done. events_to_come self.new.next (place self.new.lines).line ≤ events_to_come self.old.next (place self.old.lines).line) }
+        ensures to_come { IfOk result (λ done. events_to_come self.new.next (place self.new.lines).line ≤ events_to_come self.old.next
+            (place self.old.lines).line) }
         ensures stops { IfErr result (λ s. (first : Option (List ℕ)) (events : List AnEvent) (t : ℕ) →
             IsNextEvent self.old.next self.old.lines first (T.left trace.old) events t → EventsStop s first (T.left trace.new) events) }
         ensures no_fewer { T.faults trace.old ≤ T.faults trace.new }

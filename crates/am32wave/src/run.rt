@@ -2,9 +2,11 @@ ghost use Rattle.std.specs.Prelude.{◌≡◌, ◌≢◌, ◌↔◌, ◌∷◌, 
 ghost use Rattle.esc_base.specs.declared.note.Note.{Note as ANote};
 ghost use Rattle.esc_base.specs.Outside.{Rose};
 ghost use Rattle.esc_base.specs.Range.{InRange};
+ghost use Rattle.esc_base.specs.declared.event.Event.{Event as AnEvent};
+ghost use Rattle.trace_text.specs.Read.{Read, Trace};
 ghost use Rattle.am32wave.specs.declared.run.Form.{Form as AForm};
 ghost use Rattle.am32wave.specs.Pieces.{text, Fits};
-ghost use Rattle.am32wave.specs.Merged.{TracedShown};
+ghost use Rattle.am32wave.specs.Merged.{TracedShown, IsTracedDoneOrFault};
 ghost use Rattle.am32wave.specs.Shown.{form_of, IsAfter, head_text, part_text, end_text, Shown, IsWriteFault, OnReadFault, OnTraceFault, OnWriteFault, IsDoneOrFault, IsJournal};
 
 use crate::ahead::Merge;
@@ -150,7 +152,8 @@ fn show_traced<S: Source, T: Source, K: Sink>(
     ensures read_fault { IfOk result (λ s. OnReadFault s (Rose (S.faults src.old) (S.faults src.new))) }
     ensures trace_fault { IfOk result (λ s. OnTraceFault s (Rose (T.faults trace.old) (T.faults trace.new))) }
     ensures no_write_fault { IfOk result (λ s. s ≢ Status.WriteFault) }
-    ensures err { OnErr result (TracedShown Status.WriteFault (S.left src.old) (S.left src.new) (T.left trace.old) (T.left trace.new) (K.given out.old) (K.given out.new)) }
+    ensures err { OnErr result (TracedShown Status.WriteFault (S.left src.old) (S.left src.new) (T.left trace.old) (T.left trace.new)
+        (K.given out.old) (K.given out.new)) }
     ensures write_fault { OnErr result (Rose (K.faults out.old) (K.faults out.new)) }
 {
     let mut merge = Merge::new();
@@ -171,10 +174,13 @@ pub fn traced_main<S: Source, T: Source, K: Sink>(src: &mut S, trace: &mut T, ou
     // What was read and written, by the status, where the sources and the sink tell their bytes.
     ensures shown { TracedShown result (S.left src.old) (S.left src.new) (T.left trace.old) (T.left trace.new) (K.given out.old) (K.given out.new) }
 
-    // Each fault is the source's or the sink's own.
+    // Each fault is the source's or the sink's own, and without one a journal and a trace are shown to their ends.
     ensures read_fault { OnReadFault result (Rose (S.faults src.old) (S.faults src.new)) }
     ensures trace_fault { OnTraceFault result (Rose (T.faults trace.old) (T.faults trace.new)) }
     ensures write_fault { OnWriteFault result (Rose (K.faults out.old) (K.faults out.new)) }
+    ensures done { (journal text : List ℕ) (events : List AnEvent) (end : ℕ) → S.left src.old ≡ Some journal → IsJournal journal →
+        T.left trace.old ≡ Some text →
+        Read text ≡ Trace events end → IsTracedDoneOrFault result }
 {
     match show_traced(src, trace, out) {
         Ok(status) => status,

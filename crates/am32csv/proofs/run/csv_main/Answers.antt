@@ -33,7 +33,8 @@ loop-preserved g c =
             rows = rw (w.capture-is, w.out-is, w.number-is) (row_more c.args.layout.now (g.R.Read.remaining c.args.rdr) g.R.Read.remaining c.loop.reader
                 c.read_byte_record.new.self c.loop.capture w.row.new.self c.loop.rows c.saturating_add-rows.result c.loop.number
                 w.saturating_add-number.result (g.K.Sink.given c.args.out.now) (g.K.Sink.given c.loop.out) (g.K.Sink.given w.row.new.out) _ w.in-Ok.row
-                (to_z w64 (of_z w64 w.in-Ok.row.stamp)) same inv.rows inv.config read w.in-Ok.ensures.says w.in-Ok.ensures.few (w.in-Ok-row.ensures.goes_on _ inv.keeps) w.in-Ok-row.ensures.writes
+                (to_z w64 (of_z w64 w.in-Ok.row.stamp)) same inv.rows inv.config read w.in-Ok.ensures.says w.in-Ok.ensures.few
+                (w.in-Ok-row.ensures.goes_on _ inv.keeps) w.in-Ok-row.ensures.writes
                 w.in-Ok-row.ensures.level w.in-Ok-row.ensures.first w.in-Ok-row.ensures.layout
                 (let e = c.saturating_add-rows.ensures in omega arith) (let e = w.saturating_add-number.ensures in omega arith));
           }

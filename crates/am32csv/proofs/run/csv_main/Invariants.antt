@@ -12,5 +12,6 @@ invariant-loop g l = record {
   config : l.reader.config ≡ capture_config;
   trim : l.reader.trim ≡ trim.None;
   ready : Ready l.reader;
-  rows : RowsRead l.fn.layout (g.R.Read.remaining l.fn.rdr) g.R.Read.remaining l.reader l.capture l.rows l.number (g.K.Sink.given l.fn.out) (g.K.Sink.given l.out);
+  rows : RowsRead l.fn.layout (g.R.Read.remaining l.fn.rdr) g.R.Read.remaining l.reader l.capture l.rows l.number (g.K.Sink.given l.fn.out)
+      (g.K.Sink.given l.out);
 }

@@ -64,7 +64,8 @@ returns-in_err-put_pieces-in-Ok-Some-clause-err g c =
 
 pub returns-in-Ok-None-clause-ok : goal.returns-in-Ok-None-clause-ok
 returns-in-Ok-None-clause-ok g c =
-    ended status.Done c.loop-moment.merge c.loop-moment.dump (g.S.Source.left c.args.src.now) (g.S.Source.left c.loop-moment.src) (g.S.Source.left c.next.new.src)
+    ended status.Done c.loop-moment.merge c.loop-moment.dump (g.S.Source.left c.args.src.now) (g.S.Source.left c.loop-moment.src)
+    (g.S.Source.left c.next.new.src)
     (g.T.Source.left c.args.trace.now) (g.T.Source.left c.loop-moment.trace) (g.T.Source.left c.next.new.trace) (g.K.Sink.given c.args.out.now)
     (g.K.Sink.given c.loop-moment.out) c.loop-moment.invariant.so_far (λ e. absurd (cc))
     (λ moments h.

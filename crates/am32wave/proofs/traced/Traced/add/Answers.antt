@@ -18,7 +18,8 @@ returns-clause-part c moments is =
           (ap (λ p. text p.items) w.page-is ∙ w.push_changes.ensures.text)
           ∙ ap (traced_part moments) (sym w.in-Note.is)
       | in-Event w ↦
-          event_part moments w.in-Event.event _ _ c.args.self.now.levels w.after-after-in-Event.result c.args.self.now.time.0 c.time-time.result.0 is.levels is.time
+          event_part moments w.in-Event.event _ _ c.args.self.now.levels w.after-after-in-Event.result c.args.self.now.time.0 c.time-time.result.0
+          is.levels is.time
           (c.time-time.ensures ∙ ap time w.in-Event.is) w.after-after-in-Event.ensures c.push_stamp.ensures.text
           (ap (λ p. text p.items) w.page-is ∙ w.push_level_changes.ensures.text)
           ∙ ap (traced_part moments) (sym w.in-Event.is)
@@ -29,7 +30,8 @@ returns-clause-goes_on c moments is =
     elim c.match-moment.branch [
       | in-Note w ↦
           record {
-            picture = ap (λ d. d.picture) w.self-is ∙ after_note moments w.in-Note.note c.args.self.now.picture w.after-after.result is.picture w.after-after.ensures
+            picture = ap (λ d. d.picture) w.self-is ∙ after_note moments w.in-Note.note c.args.self.now.picture w.after-after.result is.picture
+                w.after-after.ensures
                 ∙ ap (λ (m : Moment). picture (notes_of (moments ++ m ∷ []))) (sym w.in-Note.is);
             levels = ap (λ d. d.levels) w.self-is ∙ is.levels ∙ ap levels (sym (events_with_note moments w.in-Note.note))
                 ∙ ap (λ (m : Moment). levels (events_of (moments ++ m ∷ []))) (sym w.in-Note.is);
