@@ -46,10 +46,6 @@ no_change c d a w same first k = record {
   level = same ∙ k.level;
 }
 
-pub capture_ends : (c : Capture) (a b : Option (List ℕ)) (end : ℕ)
-    → ((first : Option (List ℕ)) (events : List Event) → HasWritten c.writer first a events → IsTrace first b events end) → Ends c a b
-capture_ends c a b end w first k = record { events = k.events; end = end; accepted = w first k.events k.written; changes = k.changes }
-
 pub other_level : (a b : Bool) → beq a b ≡ false → a ≡ not b
 other_level true true h = cc
 other_level true false h = refl

@@ -56,10 +56,6 @@ note_read next j k first left left' notes t n e h p =
       later = let a = s.later in let b = p.later in let u = p.time in omega arith;
     }
 
-pub notes_end : (next : NextNote) (j : Reader) (first left : Option (List ℕ)) (notes : List Note) (t : ℕ) → next ≡ note.Unread
-    → IsNextNote next j first left notes t → IsAtEnd (ahead j.held left) → NotesEnd first notes
-notes_end next j first left notes t e h end = record { behind = ahead j.held left; read = (unread_note next j first left notes t e h).read; ended = end }
-
 -- ---- the next event
 
 unread_event : (next : NextEvent) (l : Lines) (first left : Option (List ℕ)) (events : List Event) (t : ℕ) → next ≡ event.Unread

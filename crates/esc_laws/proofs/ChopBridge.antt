@@ -166,11 +166,6 @@ open_out loaded cost trace before e f b = record {
 back_is : (e : Turned) (b : OneBack e) → has_leave e.notes ≡ b.back
 back_is e b = ap has_leave b.notes_are ∙ leaves_back b.front b.back e.tick (kind_number e.kind) b.none
 
--- an entry has no O
-entry_leaves : (loaded : Loaded) (cost : ℕ) (trace : List Event) (before : List Turned) (e : Turned) → StepFits loaded Full cost trace before e
-    → e.enters ≡ true → has_leave e.notes ≡ false
-entry_leaves loaded cost trace before e f q = ap has_leave (f.entry q)
-
 -- the innermost open kind is on top
 -- whether a kind is open after a step
 open_self : (stack stack' : List Kind) (k : Kind) (back : Bool) → IsStack stack → innermost stack ≡ Some k

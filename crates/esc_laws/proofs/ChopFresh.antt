@@ -33,9 +33,6 @@ edge_calls m d edge t v some small is e shut l le =
 pub less : (cost n m : ℕ) → n + 1 ≤ m → n * cost + cost ≤ m * cost
 less cost n m le = let l : (n + 1) * cost ≤ m * cost = mul-le (n + 1) cost m cost le (omega arith) in omega (arith, l)
 
-some_left : (cost n : ℕ) → 1 ≤ n → cost ≤ n * cost
-some_left cost n le = let l : 1 * cost ≤ n * cost = mul-le 1 cost n cost le (omega arith) in omega (arith, l)
-
 -- the bounds after a step that stands at the next tick, or at the edge if that is later
 record Bounds (cost edge x n : ℕ) : Type 0 where
   by_next : x + n * cost < edge + 49 * cost

@@ -86,15 +86,6 @@ since_past trace u = since_from u trace low (omega arith)
 
 -- ---- the changed bit: set by a change, cleared by CMP_ACK and CMP_EN; `acked` is the tick of the newest of these
 
--- an event at now, above each step so far
-pub bit_event : (h : Held) (changed level : Bool) (acked t : ℕ) → changed ≡ not (nat_le h.since acked) → acked < t
-    → (if differ h.level level then true else changed) ≡ not (nat_le (held_to true t h level).since acked)
-bit_event h changed level acked t e l = by_test (differ h.level level) refl
-  where
-    by_test : (d : Bool) → differ h.level level ≡ d → (if differ h.level level then true else changed) ≡ not (nat_le (held_to true t h level).since acked)
-    by_test true f = rw f (grind (arith, nat_tests))
-    by_test false f = rw f e
-
 pub bit_acked : (h : Held) (acked : ℕ) → h.since ≤ acked → false ≡ not (nat_le h.since acked)
 bit_acked h acked l = grind (arith, nat_tests)
 

@@ -27,22 +27,6 @@ highest_above due k e = find-append due above_cap up_to_cap ∙ rw e refl
 pub highest_below : (due : Kind → Bool) → find due above_cap ≡ None → highest due ≡ find due up_to_cap
 highest_below due e = find-append due above_cap up_to_cap ∙ rw e refl
 
--- above CAP none of those enters
-pub none_above_cap : (nest : Nest) (due : Kind → Bool) → enters_above nest (Some kind.Cap) (find due up_to_cap) ≡ None
-none_above_cap nest due = by_due nest (due kind.Cap) (due kind.Tick) (due kind.Uart) (due kind.Main) refl refl refl refl
-  where
-    by_due : (nest : Nest) (c t u m : Bool) → due kind.Cap ≡ c → due kind.Tick ≡ t → due kind.Uart ≡ u → due kind.Main ≡ m
-        → enters_above nest (Some kind.Cap) (find due up_to_cap) ≡ None
-    by_due One true t u m c d e f = rw c refl
-    by_due Full true t u m c d e f = rw c refl
-    by_due One false true u m c d e f = rw (c, d) refl
-    by_due Full false true u m c d e f = rw (c, d) refl
-    by_due One false false true m c d e f = rw (c, d, e) refl
-    by_due Full false false true m c d e f = rw (c, d, e) refl
-    by_due One false false false true c d e f = rw (c, d, e, f) refl
-    by_due Full false false false true c d e f = rw (c, d, e, f) refl
-    by_due nest false false false false c d e f = rw (c, d, e, f) refl
-
 pub number_most : (k : Kind) → kind_number k ≤ 6
 number_most kind.Main = lit≤ tt
 number_most k = lit≤ tt
