@@ -1,5 +1,5 @@
 //! Decimal numbers, and times with units as ticks.
-ghost use Rattle.std.specs.Prelude.{◌≡◌, ◌≤◌, ◌*◌, ◌^◌, IfSome};
+ghost use Rattle.std.specs.Prelude.{◌≡◌, ◌≤◌, ◌<◌, ◌*◌, ◌-◌, ◌^◌, ◌⊎◌, IfSome, IfNone};
 ghost use Rattle.trace_tools.specs.Nearest.{IsNearest};
 
 /// The greatest time of a trace, in ticks of 48 MHz: about 22.37 seconds.
@@ -79,9 +79,11 @@ pub fn decimal_in(word: &[u8]) -> Option<Decimal> {
 }
 
 impl Decimal {
-    /// The nearest number of ticks of so many units of 10^`power` microseconds; halves are rounded up.
+    /// The nearest number of ticks of so many units of 10^`power` microseconds; halves are rounded up. None where that is 2^64 or
+    /// more, or where `power` is above 15.
     pub fn ticks(self, power: usize) -> Option<u64>
-        ensures { IfSome result (λ t. IsNearest t (48 * self.units * 10 ^ power) (10 ^ self.decimals)) }
+        ensures nearest { IfSome result (λ t. IsNearest t (48 * self.units * 10 ^ power) (10 ^ self.decimals)) }
+        ensures none { IfNone result ((15 < power) ⊎ (2 ^ 64 ≤ 48 * (self.units * 10 ^ (power - self.decimals)))) }
     {
         if power > MOST_DECIMALS {
             return None;

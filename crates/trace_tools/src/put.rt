@@ -1,4 +1,4 @@
-ghost use Rattle.std.specs.Prelude.{◌≡◌, ◌≤◌, ◌<◌, ◌+◌, ◌++◌, ◌∷◌, [], ℕ, List, Option, OnOk, OnErr, IfNone};
+ghost use Rattle.std.specs.Prelude.{◌≡◌, ◌≤◌, ◌<◌, ◌+◌, ◌++◌, ◌∷◌, [], ℕ, List, Option, OnOk, OnErr, IfErr, IfNone, IfSome};
 ghost use Rattle.std.specs.Io.KnownBytes.{append_known};
 ghost use Rattle.esc_base.specs.Outside.{Rose, AppendsFront};
 ghost use Rattle.esc_base.specs.declared.event.Event.{Event as AnEvent};
@@ -6,6 +6,7 @@ ghost use Rattle.esc_base.specs.Trace.{tick_of};
 ghost use Rattle.trace_text.specs.Line.{after_event, soon_after};
 ghost use Rattle.trace_text.specs.Text.{event_bytes};
 ghost use Rattle.trace_text.specs.Ahead.{Follows, InTime};
+ghost use Rattle.trace_tools.specs.Unwritten.{IsUnfit, IsCause, IsEndCause};
 ghost use Rattle.trace_tools.specs.Written.{HasWritten, IsTrace, IsByte};
 
 use crate::end_line::end_text;
@@ -55,6 +56,7 @@ impl Writer {
         ensures follows { IfNone result (Follows self.now.place event.now) }
         ensures byte { IfNone result (IsByte event.now) }
         ensures room { IfNone result (self.now.place.line < 16777215) }
+        ensures why { IfSome result (IsUnfit self.now.place event.now) }
     {
         let t = tick_of(event);
         if self.place.line >= MOST_EVENTS {
@@ -101,6 +103,7 @@ impl Writer {
             → HasWritten self.new first (K.given out.new) (events ++ event.now ∷ [])) }
         ensures line { OnOk result (self.new.place.line ≡ self.old.place.line + 1) }
         ensures same { OnErr result (self.new ≡ self.old) }
+        ensures why { IfErr result (IsCause (Rose (K.faults out.old) (K.faults out.new)) self.old.place event.now) }
     {
         if let Some(why) = self.misfit(event) {
             return Err(why);
@@ -118,6 +121,7 @@ impl Writer {
     pub fn end<K: Sink>(&self, t: Tick, out: &mut K) -> Result<(), Unwritten>
         ensures ok { OnOk result ((first : Option (List ℕ)) (events : List AnEvent) → HasWritten self.now first (K.given out.old) events
             → IsTrace first (K.given out.new) events t.0) }
+        ensures why { IfErr result (IsEndCause (Rose (K.faults out.old) (K.faults out.new)) self.now.place t.0) }
     {
         if t.0 < self.place.time.0 {
             return Err(Unwritten::TimeBack);
