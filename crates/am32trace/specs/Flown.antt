@@ -1,5 +1,5 @@
 -- What a flight has written.
-use Rattle.std.specs.Prelude.{◌≡◌, ℕ, Bool, true, false, List, [], ◌∷◌, ◌++◌, Option, Some, All}
+use Rattle.std.specs.Prelude.{◌≡◌, ◌≤◌, ◌⊎◌, ℕ, Bool, true, false, List, [], ◌∷◌, ◌++◌, Option, Some, None, All}
 use Rattle.esc_base.specs.declared.signal.Edge.{Edge}
 use Rattle.esc_base.specs.declared.event.Event.{Event}
 use Rattle.esc_base.specs.declared.event.Event.TheVariants as event
@@ -9,7 +9,10 @@ use Rattle.am32trace.specs.declared.signal_line.SignalLine.{SignalLine}
 use Rattle.am32trace.specs.declared.flight.Flight.{Flight}
 use Rattle.am32trace.specs.declared.flight.Planned.{Planned}
 use Rattle.am32trace.specs.declared.flight.Planned.TheVariants as planned
-use Rattle.am32trace.specs.Line.{Transmission, IsHeard, all_edges, pending, next_edge, Begins}
+use Rattle.esc_base.specs.Trace.{tick_of}
+use Rattle.am32trace.specs.declared.action.Directive.{Directive}
+use Rattle.am32trace.specs.Asked.{Due, Sender, asked_by, no_signal}
+use Rattle.am32trace.specs.Line.{Transmission, IsHeard, all_edges, messages_of, pending, next_edge, sender_of, sender_after, due_now, Begins, IsWell}
 
 -- what the events say of the signal line, in their order
 unfoldable pub edges_in : List Event → List Edge
@@ -22,8 +25,9 @@ edges_in (event.Stall t n ∷ events) = edges_in events
 -- ---- the whole flight
 
 -- A trace that the reader accepts was appended. Its edges are those of some transmissions, one after the other, up to what its
--- end cuts off of the last one. Each of them that is a frame as it should be is heard as that frame.
-pub record IsFlight (first now : Option (List ℕ)) : Type 0 where
+-- end cuts off of the last one. Each of them that is a frame as it should be is heard as that frame. The messages among them are
+-- these, no fewer and no more.
+pub record IsFlight (first now : Option (List ℕ)) (due : List Due) : Type 0 where
   pub events : List Event
   pub end : ℕ
   pub log : List Transmission
@@ -31,36 +35,62 @@ pub record IsFlight (first now : Option (List ℕ)) : Type 0 where
   pub accepted : IsTrace first now events end
   pub edges : edges_in events ++ cut_off ≡ all_edges log
   pub heard : All IsHeard log
+  pub messages : messages_of log ≡ due
+
+-- the messages are those that some lines ask for
+pub record IsFlightBy (first now : Option (List ℕ)) : Type 0 where
+  pub lines : List Directive
+  pub flight : IsFlight first now (asked_by no_signal lines)
 
 -- ---- a flight on its way
 
 -- the same up to here; what the line still has of the last transmission is to come
-pub record Keeps (f : Flight) (first now : Option (List ℕ)) : Type 0 where
+pub record Keeps (f : Flight) (first now : Option (List ℕ)) (due : List Due) : Type 0 where
   pub events : List Event
   pub log : List Transmission
   pub written : HasWritten f.writer first now events
   pub edges : edges_in events ++ pending f.signal ≡ all_edges log
   pub heard : All IsHeard log
+  pub messages : messages_of log ≡ due
 
-abbrev pub GoesOn : Flight → Option (List ℕ) → Flight → Option (List ℕ) → Type 0
-GoesOn f before g after = (first : Option (List ℕ)) → Keeps f first before → Keeps g first after
+-- these messages have begun, and the sender is this one now
+pub record GoesOn (f : Flight) (before : Option (List ℕ)) (g : Flight) (after : Option (List ℕ)) (due : List Due) (sender : Sender) : Type 0 where
+  pub keeps : (first : Option (List ℕ)) (sent : List Due) → Keeps f first before sent → Keeps g first after (sent ++ due)
+  pub well : IsWell g.signal
+  pub is : sender_of g.signal ≡ sender
 
-abbrev pub Ends : Flight → Option (List ℕ) → Option (List ℕ) → Type 0
-Ends f before after = (first : Option (List ℕ)) → Keeps f first before → IsFlight first after
+abbrev pub Ends : Flight → Option (List ℕ) → Option (List ℕ) → List Due → Type 0
+Ends f before after due = (first : Option (List ℕ)) (sent : List Due) → Keeps f first before sent → IsFlight first after (sent ++ due)
+
+-- the messages are those that a line asks for
+pub record Follows (d : Directive) (f : Flight) (before : Option (List ℕ)) (g : Flight) (after : Option (List ℕ)) : Type 0 where
+  pub due : List Due
+  pub goes_on : GoesOn f before g after due (sender_of g.signal)
+  pub asked : (lines : List Directive) → asked_by (sender_of f.signal) (d ∷ lines) ≡ due ++ asked_by (sender_of g.signal) lines
+
+pub record IsLine (f : Flight) (before : Option (List ℕ)) (g : Flight) (after : Option (List ℕ)) : Type 0 where
+  pub line : Directive
+  pub follows : Follows line f before g after
+
+pub record IsLast (f : Flight) (before after : Option (List ℕ)) : Type 0 where
+  pub line : Directive
+  pub ends : Ends f before after (asked_by (sender_of f.signal) (line ∷ []))
 
 -- a line of a script was followed, and the flight has ended or not
 abbrev pub Followed : Bool → Flight → Option (List ℕ) → Flight → Option (List ℕ) → Type 0
-Followed true f before g after = Ends f before after
-Followed false f before g after = GoesOn f before g after
+Followed true f before g after = IsLast f before after
+Followed false f before g after = IsLine f before g after ⊎ GoesOn f before g after [] (sender_of f.signal)
 
 -- one event was written
 abbrev pub Writes : Writer → Option (List ℕ) → Event → Writer → Option (List ℕ) → Type 0
 Writes w before e x after = (first : Option (List ℕ)) (events : List Event) → HasWritten w first before events → HasWritten x first after (events ++ e ∷ [])
 
 -- nothing was written, and some transmissions may have begun
-pub record Sets (f g : Flight) : Type 0 where
+pub record Sets (f g : Flight) (due : List Due) (sender : Sender) : Type 0 where
   pub writer : g.writer ≡ f.writer
-  pub begins : Begins (pending f.signal) (pending g.signal)
+  pub begins : Begins (pending f.signal) (pending g.signal) due
+  pub well : IsWell g.signal
+  pub is : sender_of g.signal ≡ sender
 
 -- ---- planned events
 
@@ -74,3 +104,29 @@ abbrev pub IsPlanned : SignalLine → Planned → Type 0
 IsPlanned l (planned.Signal e) = next_edge l ≡ Some e
 IsPlanned l (planned.Comparator t level) = Unit {0}
 IsPlanned l (planned.Serial t byte) = Unit {0}
+
+-- no edge of the signal line comes before what is planned
+abbrev pub NoneBefore : Option Planned → Option Edge → Type 0
+NoneBefore p None = Unit {0}
+NoneBefore None (Some e) = ⊥
+NoneBefore (Some p) (Some e) = tick_of (event_of p) ≤ e.t.0
+
+abbrev pub NotLater : Option Planned → Option Planned → Type 0
+NotLater p None = Unit {0}
+NotLater None (Some q) = ⊥
+NotLater (Some p) (Some q) = tick_of (event_of p) ≤ tick_of (event_of q)
+
+-- the signal line's next edge, if there is one, comes at t or later
+abbrev pub IsReached : ℕ → Option Edge → Type 0
+IsReached t None = Unit {0}
+IsReached t (Some e) = t ≤ e.t.0
+
+abbrev pub due_with : SignalLine → Planned → List Due
+due_with l (planned.Signal e) = due_now l
+due_with l (planned.Comparator t level) = []
+due_with l (planned.Serial t byte) = []
+
+abbrev pub sender_with : SignalLine → Planned → Sender
+sender_with l (planned.Signal e) = sender_after l
+sender_with l (planned.Comparator t level) = sender_of l
+sender_with l (planned.Serial t byte) = sender_of l

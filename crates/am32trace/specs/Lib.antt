@@ -1,4 +1,5 @@
 pub mod Frames
+pub mod Asked
 pub mod Line
 pub mod Flown
 pub mod Status

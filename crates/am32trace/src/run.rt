@@ -1,5 +1,6 @@
 ghost use Rattle.std.specs.Prelude.{IfOk};
-ghost use Rattle.am32trace.specs.Flown.{Followed, IsFlight};
+ghost use Rattle.am32trace.specs.Flown.{Followed, IsFlightBy};
+ghost use Rattle.am32trace.specs.Line.{IsWell};
 ghost use Rattle.am32trace.specs.Status.{OnDone, IsUnfinished};
 
 use crate::Status;
@@ -27,6 +28,7 @@ fn status_of(line: u32, fault: Fault) -> Status
 
 /// Follows one line of a script, and answers whether the flight has ended.
 fn follow<K: Sink>(flight: &mut Flight, line: &[u8], out: &mut K) -> Result<bool, Fault>
+    requires { IsWell flight.old.signal }
     ensures { IfOk result (λ ended. Followed ended flight.old (K.given out.old) flight.new (K.given out.new)) }
 {
     match directive(line) {
@@ -74,7 +76,7 @@ fn read_rest<S: Source>(lines: &mut TextLines, from: u32, src: &mut S) -> Status
 
 /// Writes the trace of the flight that a script describes.
 pub fn trace_main<S: Source, K: Sink>(src: &mut S, out: &mut K) -> Status
-    ensures done { OnDone result (IsFlight (K.given out.old) (K.given out.new)) }
+    ensures done { OnDone result (IsFlightBy (K.given out.old) (K.given out.new)) }
 {
     let mut lines = TextLines::new();
     let mut flight = Flight::new();
