@@ -1,8 +1,10 @@
 pub mod Edges
 pub mod Beats
+pub mod LinesCut
 pub mod Begun
 pub mod Flying
 pub mod Running
 pub mod Following
+pub mod Reading
 pub mod Endings
 pub mod Requests

@@ -1,5 +1,5 @@
 -- What a flight has written.
-use Rattle.std.specs.Prelude.{◌≡◌, ◌≤◌, ◌⊎◌, ℕ, Bool, true, false, List, [], ◌∷◌, ◌++◌, Option, Some, None, All}
+use Rattle.std.specs.Prelude.{◌≡◌, ◌≤◌, ℕ, Bool, true, false, List, [], ◌∷◌, ◌++◌, Option, Some, None, All}
 use Rattle.esc_base.specs.declared.signal.Edge.{Edge}
 use Rattle.esc_base.specs.declared.event.Event.{Event}
 use Rattle.esc_base.specs.declared.event.Event.TheVariants as event
@@ -12,6 +12,8 @@ use Rattle.am32trace.specs.declared.flight.Planned.TheVariants as planned
 use Rattle.esc_base.specs.Trace.{tick_of}
 use Rattle.am32trace.specs.declared.action.Directive.{Directive}
 use Rattle.am32trace.specs.Asked.{Due, Sender, asked_by, no_signal}
+use Rattle.std.specs.Option.{option_to_list}
+use Rattle.am32trace.specs.Script.{IsScript}
 use Rattle.am32trace.specs.Line.{Transmission, IsHeard, all_edges, messages_of, pending, next_edge, sender_of, sender_after, due_now, Begins, IsWell}
 
 -- what the events say of the signal line, in their order
@@ -37,10 +39,11 @@ pub record IsFlight (first now : Option (List ℕ)) (due : List Due) : Type 0 wh
   pub heard : All IsHeard log
   pub messages : messages_of log ≡ due
 
--- the messages are those that some lines ask for
-pub record IsFlightBy (first now : Option (List ℕ)) : Type 0 where
-  pub lines : List Directive
-  pub flight : IsFlight first now (asked_by no_signal lines)
+-- the messages are those that a script's lines ask for
+pub record IsFlown (says : List ℕ → Option Directive → Type 0) (left first now : Option (List ℕ)) : Type 0 where
+  pub asked : List Directive
+  pub script : IsScript says left asked
+  pub flight : IsFlight first now (asked_by no_signal asked)
 
 -- ---- a flight on its way
 
@@ -62,24 +65,16 @@ pub record GoesOn (f : Flight) (before : Option (List ℕ)) (g : Flight) (after 
 abbrev pub Ends : Flight → Option (List ℕ) → Option (List ℕ) → List Due → Type 0
 Ends f before after due = (first : Option (List ℕ)) (sent : List Due) → Keeps f first before sent → IsFlight first after (sent ++ due)
 
--- the messages are those that a line asks for
-pub record Follows (d : Directive) (f : Flight) (before : Option (List ℕ)) (g : Flight) (after : Option (List ℕ)) : Type 0 where
+-- the messages are those that a line asks for, if anything
+pub record Follows (asked : Option Directive) (f : Flight) (before : Option (List ℕ)) (g : Flight) (after : Option (List ℕ)) : Type 0 where
   pub due : List Due
   pub goes_on : GoesOn f before g after due (sender_of g.signal)
-  pub asked : (lines : List Directive) → asked_by (sender_of f.signal) (d ∷ lines) ≡ due ++ asked_by (sender_of g.signal) lines
-
-pub record IsLine (f : Flight) (before : Option (List ℕ)) (g : Flight) (after : Option (List ℕ)) : Type 0 where
-  pub line : Directive
-  pub follows : Follows line f before g after
-
-pub record IsLast (f : Flight) (before after : Option (List ℕ)) : Type 0 where
-  pub line : Directive
-  pub ends : Ends f before after (asked_by (sender_of f.signal) (line ∷ []))
+  pub adds : (more : List Directive) → asked_by (sender_of f.signal) (option_to_list asked ++ more) ≡ due ++ asked_by (sender_of g.signal) more
 
 -- a line of a script was followed, and the flight has ended or not
-abbrev pub Followed : Bool → Flight → Option (List ℕ) → Flight → Option (List ℕ) → Type 0
-Followed true f before g after = IsLast f before after
-Followed false f before g after = IsLine f before g after ⊎ GoesOn f before g after [] (sender_of f.signal)
+abbrev pub Followed : Bool → Option Directive → Flight → Option (List ℕ) → Flight → Option (List ℕ) → Type 0
+Followed true asked f before g after = (more : List Directive) → Ends f before after (asked_by (sender_of f.signal) (option_to_list asked ++ more))
+Followed false asked f before g after = Follows asked f before g after
 
 -- one event was written
 abbrev pub Writes : Writer → Option (List ℕ) → Event → Writer → Option (List ℕ) → Type 0

@@ -1,6 +1,7 @@
 pub mod Frames
 pub mod Asked
 pub mod Line
+pub mod Script
 pub mod Flown
 pub mod Status
 pub mod Request
