@@ -1,13 +1,19 @@
 -- How many times of a beat come before a time.
 use Rattle.std.proofs.Common.{◌≡◌, ◌≤◌, ◌<◌, ◌⊎◌, ℕ, zero, suc, ◌+◌, ◌-◌, ◌*◌, [], ◌∷◌, Option, Some, None, inl, inr, refl, ◌∙◌, ap, arith}
 use Rattle.std.proofs.lemmas.Grind.{div_ceil_times}
-use Rattle.std.proofs.Math.Nat.{lt_of_mul-lt-mul_right}
+use Rattle.std.proofs.Math.Nat.{lt_of_mul-lt-mul_right, mul-le-mul_right}
 use Rattle.am32trace.specs.declared.signal_line.Repeated.{Repeated}
 use Rattle.am32trace.specs.Asked.{Sender, due_of, beats_before, beat_from, train, due_before, moved_on, train_before, delayed, spoil_left, unless_sent}
 use Rattle.am32trace.specs.Line.{stepped}
 
-times_suc : (n p : ℕ) → suc n * p ≡ n * p + p
+pub times_suc : (n p : ℕ) → suc n * p ≡ n * p + p
 times_suc n p = grind arith
+
+pub times_less : (k n p : ℕ) → k < n → k * p + p ≤ n * p
+times_less k n p less =
+    let e = times_suc k p in
+    let more = mul-le-mul_right {m = suc k} {n = n} p (omega (arith, less)) in
+    omega (arith, e, more)
 
 not_more : (n m p a : ℕ) → n * p < a + p → a ≤ m * p → n ≤ m
 not_more n m p a h g =

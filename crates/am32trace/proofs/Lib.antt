@@ -1,5 +1,6 @@
 pub mod Edges
 pub mod Beats
+pub mod Trains
 pub mod LinesCut
 pub mod Begun
 pub mod Flying

@@ -1,5 +1,6 @@
 pub mod Frames
 pub mod Asked
+pub mod Laws
 pub mod Line
 pub mod Script
 pub mod Flown
