@@ -10,7 +10,7 @@ use Rattle.trace_tools.specs.declared.writer.Writer.{Writer}
 use Rattle.trace_tools.specs.Written.{HasWritten, IsTrace}
 use Rattle.am32trace.specs.declared.flight.Flight.{Flight}
 use Rattle.am32trace.specs.declared.action.Action.{Action}
-use Rattle.am32trace.specs.Asked.{Due, Sender, due_before, moved_on, at_once, told, due_by, sender_by}
+use Rattle.am32trace.specs.Asked.{Due, LevelAt, Sender, due_before, moved_on, at_once, told, due_by, sender_by}
 use Rattle.am32trace.specs.Line.{Transmission, Level, edges_of, asked_as, IsHeard, all_edges, messages_of, pending, sender_of, Begins, Adds, IsWell}
 use Rattle.am32trace.specs.Flown.{edges_in, Keeps, GoesOn, Ends, Writes, Sets}
 use Rattle.am32trace.proofs.Begun.{one_begun, nothing_begun}
@@ -91,9 +91,9 @@ unfolding edges_in
 no_edge_stall t n = refl
 
 -- a level of the line, on which nothing is
-pub level_begun : (e : Edge) (before after : List Edge) → before ≡ [] → after ≡ before → Adds e before after []
+pub level_begun : (e : Edge) (before after : List Edge) → before ≡ [] → after ≡ before → Adds e before after (LevelAt e.t.0 e.level ∷ [])
 level_begun e before after quiet same =
-    subst (λ (xs : List Edge). Adds e xs after []) (sym quiet) (one_begun (Level e) (e ∷ after) tt (ap (λ (xs : List Edge). e ∷ xs) (same ∙ quiet)))
+    subst (λ (xs : List Edge). Adds e xs after (LevelAt e.t.0 e.level ∷ [])) (sym quiet) (one_begun (Level e) (e ∷ after) tt (ap (λ (xs : List Edge). e ∷ xs) (same ∙ quiet)))
 
 -- nothing was written
 pub sets_only : (f g : Flight) (a : Option (List ℕ)) (due : List Due) (s : Sender) → Sets f g due s → GoesOn f a g a due s

@@ -7,7 +7,7 @@ use Rattle.am32trace.specs.declared.action.Action.{Action}
 use Rattle.am32trace.specs.declared.action.Directive.{Directive}
 use Rattle.am32trace.specs.declared.action.Directive.TheVariants as line
 use Rattle.am32trace.specs.declared.flight.Flight.{Flight}
-use Rattle.am32trace.specs.Asked.{Due, Sender, asked_by, no_signal, fresh, due_by, sender_by, due_before}
+use Rattle.am32trace.specs.Asked.{Due, at_rest, Sender, asked_by, no_signal, fresh, due_by, sender_by, due_before}
 use Rattle.am32trace.specs.Line.{sender_of, IsWell}
 use Rattle.am32trace.specs.Flown.{Keeps, GoesOn, Ends, Follows, IsFlight}
 use Rattle.am32trace.proofs.Flying.{nowhere}
@@ -50,7 +50,7 @@ ended asked d f first a b u l =
 
 -- ---- each kind of line
 
-signal_asks : (s : Sender) (m : Mode) (period : ℕ) (lines : List Directive) → asked_by s (line.Signal m period ∷ lines) ≡ asked_by (fresh m period) lines
+signal_asks : (s : Sender) (m : Mode) (period : ℕ) (lines : List Directive) → asked_by s (line.Signal m period ∷ lines) ≡ at_rest m ++ asked_by (fresh m period) lines
 unfolding asked_by
 signal_asks s m period lines = refl
 
@@ -62,12 +62,12 @@ end_asks : (s : Sender) (t : Tick) (lines : List Directive) → asked_by s (line
 unfolding asked_by
 end_asks s t lines = refl
 
-pub signal_line : (f g : Flight) (a b : Option (List ℕ)) (m : Mode) (period : ℕ) → GoesOn f a g b [] (fresh m period)
+pub signal_line : (f g : Flight) (a b : Option (List ℕ)) (m : Mode) (period : ℕ) → GoesOn f a g b (at_rest m) (fresh m period)
     → Follows (Some (line.Signal m period)) f a g b
 signal_line f g a b m period x = record {
-  due = [];
-  goes_on = subst (λ (s : Sender). GoesOn f a g b [] s) (sym x.is) x;
-  adds = λ lines. signal_asks (sender_of f.signal) m period lines ∙ ap (λ (s : Sender). asked_by s lines) (sym x.is);
+  due = at_rest m;
+  goes_on = subst (λ (s : Sender). GoesOn f a g b (at_rest m) s) (sym x.is) x;
+  adds = λ lines. signal_asks (sender_of f.signal) m period lines ∙ ap (λ (s : Sender). at_rest m ++ asked_by s lines) (sym x.is);
 }
 
 pub action_line : (f g : Flight) (a b : Option (List ℕ)) (t : Tick) (y : Action)

@@ -1,5 +1,5 @@
 -- Which messages the lines of a script ask for, and when each of them begins.
-use Rattle.std.specs.Prelude.{◌≡◌, ℕ, zero, suc, ◌+◌, ◌-◌, ◌*◌, ◌≤◌, ◌<◌, List, [], ◌∷◌, ◌++◌, Option, Some, None}
+use Rattle.std.specs.Prelude.{◌≡◌, ℕ, zero, suc, ◌+◌, ◌-◌, ◌*◌, ◌≤◌, ◌<◌, Bool, true, if◌then◌else◌, List, [], ◌∷◌, ◌++◌, Option, Some, None}
 use Rattle.std.specs.Int.{div_ceil}
 use Rattle.esc_base.specs.declared.signal.Frame.{Frame}
 use Rattle.esc_base.specs.declared.signal.Mode.{Mode}
@@ -14,7 +14,7 @@ use Rattle.am32trace.specs.declared.signal_line.Message.{Message}
 use Rattle.am32trace.specs.declared.signal_line.Message.TheVariants as message
 use Rattle.am32trace.specs.declared.signal_line.Repeated.{Repeated}
 
--- ---- a message that is due, with the tick at which it begins
+-- ---- a message or a level that is due, with the tick at which it begins
 pub data Due : Type 0 where
   -- a frame as it should be
   FrameAt : Mode → ℕ → Frame → Due
@@ -22,6 +22,8 @@ pub data Due : Type 0 where
   SpoiltAt : Mode → ℕ → Frame → Spoil → Due
   -- a servo pulse of so many ticks
   PulseAt : ℕ → ℕ → Due
+  -- a level of the line
+  LevelAt : ℕ → Bool → Due
 
 abbrev pub due_of : Mode → Message → Option Spoil → ℕ → Due
 due_of m (message.Frame p) None s = FrameAt m s p.frame
@@ -114,6 +116,7 @@ told s t a = s
 -- what begins with the line itself
 abbrev pub at_once : Mode → ℕ → Action → List Due
 at_once m t (action.Frame payload spoil) = due_of m (message.Frame payload) spoil t ∷ []
+at_once m t (action.Line level) = LevelAt t level ∷ []
 at_once m t a = []
 
 abbrev pub due_by : Sender → ℕ → Action → List Due
@@ -122,10 +125,14 @@ due_by s t a = due_before s t ++ at_once s.mode t a
 abbrev pub sender_by : Sender → ℕ → Action → Sender
 sender_by s t a = told (moved_on s t) t a
 
+-- the line of an inverted signal goes high at tick 0
+abbrev pub at_rest : Mode → List Due
+at_rest m = if (numbers m).inverted then LevelAt 0 true ∷ [] else []
+
 -- ---- all lines: between two of them the messages that begin before the later one, up to the end
 unfoldable pub asked_by : Sender → List Directive → List Due
 asked_by s [] = []
-asked_by s (line.Signal m period ∷ lines) = asked_by (fresh m period) lines
+asked_by s (line.Signal m period ∷ lines) = at_rest m ++ asked_by (fresh m period) lines
 asked_by s (line.At t a ∷ lines) = due_by s t.0 a ++ asked_by (sender_by s t.0 a) lines
 asked_by s (line.End t ∷ lines) = due_before s t.0
 

@@ -11,7 +11,7 @@ use Rattle.am32trace.specs.declared.signal_line.Sending.TheVariants as sending
 use Rattle.am32trace.specs.declared.signal_line.Repeated.{Repeated}
 use Rattle.am32trace.specs.declared.signal_line.Message.{Message}
 use Rattle.am32trace.specs.declared.signal_line.Message.TheVariants as message
-use Rattle.am32trace.specs.Asked.{Due, FrameAt, SpoiltAt, PulseAt, Sender, due_of, delayed, IsRate}
+use Rattle.am32trace.specs.Asked.{Due, FrameAt, SpoiltAt, PulseAt, LevelAt, Sender, due_of, delayed, IsRate}
 use Rattle.am32trace.specs.Frames.{rest_of, first_edge, IsSent, IsSpoilt, IsBefore}
 
 -- ---- what was sent: some edges at a time, in the order of their times
@@ -46,13 +46,13 @@ IsHeard (Level e) = Unit {0}
 abbrev pub all_edges : List Transmission → List Edge
 all_edges log = flat_map edges_of log
 
--- the message that was asked for; noise and levels are none
+-- what was asked for; an edge of noise is nothing of its own
 abbrev pub asked_as : Transmission → List Due
 asked_as (Sent m s frame edges) = FrameAt m s frame ∷ []
 asked_as (Spoiled m s frame spoil edges) = SpoiltAt m s frame spoil ∷ []
 asked_as (Pulse e width) = PulseAt e.t.0 width ∷ []
 asked_as (Noise e) = []
-asked_as (Level e) = []
+asked_as (Level e) = LevelAt e.t.0 e.level ∷ []
 
 abbrev pub messages_of : List Transmission → List Due
 messages_of log = flat_map asked_as log

@@ -1,7 +1,7 @@
 //! A flight: the sender, the comparator and the serial line, whose events are written in the order of their times.
 ghost use Rattle.std.specs.Prelude.{◌≡◌, ◌≤◌, ◌<◌, ◌+◌, ◌⊎◌, ◌∷◌, [], ℕ, true, List, Option, OnOk, IfSome, IfNone};
 ghost use Rattle.esc_base.specs.Trace.{tick_of};
-ghost use Rattle.am32trace.specs.Asked.{no_signal, fresh, says, due_of, due_before, moved_on, due_by, sender_by, told, at_once, IsRate, IsSoundAction};
+ghost use Rattle.am32trace.specs.Asked.{LevelAt, at_rest, no_signal, fresh, says, due_of, due_before, moved_on, due_by, sender_by, told, at_once, IsRate, IsSoundAction};
 ghost use Rattle.am32trace.specs.Line.{next_edge, sender_of, IsShort, IsWell};
 ghost use Rattle.am32trace.specs.Flown.{edges_in, event_of, due_with, sender_with, IsPlanned, NoneBefore, NotLater, IsReached, Writes, Keeps, GoesOn, Ends, Sets};
 
@@ -111,7 +111,7 @@ impl Flight {
     /// Sets the signal, whose line goes to its resting level.
     pub fn set_signal<K: Sink>(&mut self, mode: Mode, period: u64, out: &mut K) -> Result<(), Fault>
         requires { IsRate mode period }
-        ensures { OnOk result (GoesOn self.old (K.given out.old) self.new (K.given out.new) [] (fresh mode period)) }
+        ensures { OnOk result (GoesOn self.old (K.given out.old) self.new (K.given out.new) (at_rest mode) (fresh mode period)) }
     {
         if self.has_begun || self.signal.mode != Mode::Unknown || !self.signal.is_quiet() {
             return Err(Fault::Expected(Expected::SignalAbove));
@@ -137,7 +137,7 @@ impl Flight {
     /// Writes a level of the signal line, on which nothing is.
     fn put_level<K: Sink>(&mut self, t: Tick, level: bool, out: &mut K) -> Result<(), Fault>
         requires { IsWell self.old.signal }
-        ensures { OnOk result (GoesOn self.old (K.given out.old) self.new (K.given out.new) [] (sender_of self.old.signal)) }
+        ensures { OnOk result (GoesOn self.old (K.given out.old) self.new (K.given out.new) (LevelAt t.0 level ∷ []) (sender_of self.old.signal)) }
     {
         if !self.signal.is_quiet() {
             return Err(Fault::Expected(Expected::QuietLine));
