@@ -89,7 +89,13 @@ module _ (p : ℕ) (positive : 0 < p) where
   pub moved_first : (s : Sender) (r : Repeated) (t : ℕ) → s.period ≡ p → s.repeated ≡ Some r → r.next.0 < t
       → moved_on s t ≡ moved_on (stepped s) t
   moved_first s r t is_p is early =
-      rw (is, is_p) (rw (beat_next r.next.0 t early) (rw (one_beat r.next.0 t early) (ap (λ x. record { mode = s.mode; period = p; repeated = Some (record { message = r.message; next = record { 0 = beat_from p (r.next.0 + p) t } }); spoil = x }) (unless_again (beats_before p (r.next.0 + p) t)))))
+      rw (is, is_p) (rw (beat_next r.next.0 t early) (rw (one_beat r.next.0 t early) (ap
+      (λ x. record {
+        mode = s.mode;
+        period = p;
+        repeated = Some (record { message = r.message; next = record { 0 = beat_from p (r.next.0 + p) t } });
+        spoil = x;
+      }) (unless_again (beats_before p (r.next.0 + p) t)))))
 
   -- a stretch without a message
   pub none_before : (m : _) (spoil : _) (o : Option Repeated) (t : ℕ) → ((r : Repeated) → o ≡ Some r → t ≤ r.next.0)

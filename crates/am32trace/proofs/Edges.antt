@@ -50,13 +50,18 @@ within_left bit inverted wide s (suc k) word end h =
     let w = width_most bit wide k word in
     let begins : s ≤ end = omega (arith, e, h) in
     let falls : s + width_of bit wide k word ≤ end = omega (arith, e, h, w) in
-    All-cons (IsBefore end) (record { t = record { 0 = s }; level = not inverted }) (record { t = record { 0 = s + width_of bit wide k word }; level = inverted } ∷ edges_left bit inverted wide (s + bit) k word) begins
-    (All-cons (IsBefore end) (record { t = record { 0 = s + width_of bit wide k word }; level = inverted }) (edges_left bit inverted wide (s + bit) k word) falls (within_left bit inverted wide (s + bit) k word end (omega (arith, e, h))))
+    let first : Edge = record { t = record { 0 = s }; level = not inverted } in
+    let second : Edge = record { t = record { 0 = s + width_of bit wide k word }; level = inverted } in
+    let rest = edges_left bit inverted wide (s + bit) k word in
+    All-cons (IsBefore end) first (second ∷ rest) begins
+    (All-cons (IsBefore end) second rest falls (within_left bit inverted wide (s + bit) k word end (omega (arith, e, h))))
 
 pub within_frame : (m : Mode) (wide : Option ℕ) (s word n : ℕ)
     → All (IsBefore (s + 16 * (numbers m).bit)) (take n (drop 0 (edges_left (numbers m).bit (numbers m).inverted wide s 16 word)))
 within_frame m wide s word n =
-    All-take (IsBefore (s + 16 * (numbers m).bit)) n _ (All-drop (IsBefore (s + 16 * (numbers m).bit)) 0 _ (within_left (numbers m).bit (numbers m).inverted wide s 16 word (s + 16 * (numbers m).bit) (omega arith)))
+    let end = s + 16 * (numbers m).bit in
+    All-take (IsBefore end) n _
+    (All-drop (IsBefore end) 0 _ (within_left (numbers m).bit (numbers m).inverted wide s 16 word end (omega arith)))
 
 -- a whole frame, and what its receiver hears
 pub is_sent : (m : Mode) (s word : ℕ) (frame : Frame) → verdict_of m (sent m s word) ≡ Good frame

@@ -41,7 +41,8 @@ join old more now left log begun e f =
     ∙ ap (λ (l : List Edge). l ++ all_edges begun) e
     ∙ sym (flat_map-append edges_of log begun)
 
-messages_both : (log begun : List Transmission) (sent due : List Due) → messages_of log ≡ sent → messages_of begun ≡ due → messages_of (log ++ begun) ≡ sent ++ due
+messages_both : (log begun : List Transmission) (sent due : List Due) → messages_of log ≡ sent → messages_of begun ≡ due
+    → messages_of (log ++ begun) ≡ sent ++ due
 messages_both log begun sent due e f =
     flat_map-append asked_as log begun ∙ ap (λ (l : List Due). l ++ messages_of begun) e ∙ ap (λ (l : List Due). sent ++ l) f
 
@@ -159,12 +160,11 @@ nothing_yet f given w quiet = record {
 }
 
 pub flight_ends : (f g : Flight) (a b c : Option (List ℕ)) (end : ℕ) (due : List Due) (s : Sender) → GoesOn f a g b due s
-    → ((first : Option (List ℕ)) (events : List Event) → HasWritten g.writer first b events → IsTrace first c events end) → Ends f a c due
+    → ((first : Option (List ℕ)) (events : List Event) → HasWritten g.writer first b events → IsTrace first c events end) → Ends f a c due end
 flight_ends f g a b c end due s x w first sent k =
     let l = x.keeps first sent k in
     record {
       events = l.events;
-      end = end;
       log = l.log;
       cut_off = pending g.signal;
       accepted = w first l.events l.written;

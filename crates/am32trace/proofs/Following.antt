@@ -1,6 +1,6 @@
 -- The lines of a script are followed, one after the other.
 use Rattle.std.specs.Option.{option_to_list}
-use Rattle.std.proofs.Common.{◌≡◌, Some, None, ℕ, List, [], ◌∷◌, ◌++◌, Option, refl, sym, ◌∙◌, ap, subst, append_assoc, append-nil}
+use Rattle.std.proofs.Common.{◌≡◌, Some, None, ℕ, List, [], ◌∷◌, ◌++◌, Option, refl, sym, ◌∙◌, ap, subst, append_assoc}
 use Rattle.esc_base.specs.declared.tick.Tick.{Tick}
 use Rattle.esc_base.specs.declared.signal.Mode.{Mode}
 use Rattle.am32trace.specs.declared.action.Action.{Action}
@@ -9,7 +9,7 @@ use Rattle.am32trace.specs.declared.action.Directive.TheVariants as line
 use Rattle.am32trace.specs.declared.flight.Flight.{Flight}
 use Rattle.am32trace.specs.Asked.{Due, at_rest, Sender, asked_by, no_signal, fresh, due_by, sender_by, due_before}
 use Rattle.am32trace.specs.Line.{sender_of, IsWell}
-use Rattle.am32trace.specs.Flown.{Keeps, GoesOn, Ends, Follows, IsFlight}
+use Rattle.am32trace.specs.Flown.{Keeps, GoesOn, Ends, Follows, IsLast, IsFlight}
 use Rattle.am32trace.proofs.Flying.{nowhere}
 
 -- what these lines ask for was followed
@@ -40,13 +40,15 @@ followed asked d f g first a b u l = record {
       ∙ sym (append_assoc u.due l.due (asked_by (sender_of g.signal) more));
 }
 
-pub ended : (asked : List Directive) (d : Option Directive) (f : Flight) (first a b : Option (List ℕ)) → Under asked f first a
-    → ((more : List Directive) → Ends f a b (asked_by (sender_of f.signal) (option_to_list d ++ more)))
-    → IsFlight first b (asked_by no_signal (asked ++ option_to_list d))
-ended asked d f first a b u l =
-    subst (λ (ds : List Due). IsFlight first b ds)
-    (sym (u.adds (option_to_list d ++ [])) ∙ ap (λ (ls : List Directive). asked_by no_signal (asked ++ ls)) (append-nil (option_to_list d)))
-    (l [] first u.due u.keeps)
+end_asks : (s : Sender) (t : Tick) (lines : List Directive) → asked_by s (line.End t ∷ lines) ≡ due_before s t.0
+unfolding asked_by
+end_asks s t lines = refl
+
+pub ended : (asked : List Directive) (f : Flight) (first a b : Option (List ℕ)) (t : Tick) → Under asked f first a
+    → Ends f a b (due_before (sender_of f.signal) t.0) t.0 → IsFlight first b (asked_by no_signal (asked ++ line.End t ∷ [])) t.0
+ended asked f first a b t u x =
+    subst (λ (ds : List Due). IsFlight first b ds t.0)
+    (sym (u.adds (line.End t ∷ []) ∙ ap (λ (ds : List Due). u.due ++ ds) (end_asks (sender_of f.signal) t []))) (x first u.due u.keeps)
 
 -- ---- each kind of line
 
@@ -57,10 +59,6 @@ signal_asks s m period lines = refl
 action_asks : (s : Sender) (t : Tick) (x : Action) (lines : List Directive) → asked_by s (line.At t x ∷ lines) ≡ due_by s t.0 x ++ asked_by (sender_by s t.0 x) lines
 unfolding asked_by
 action_asks s t x lines = refl
-
-end_asks : (s : Sender) (t : Tick) (lines : List Directive) → asked_by s (line.End t ∷ lines) ≡ due_before s t.0
-unfolding asked_by
-end_asks s t lines = refl
 
 pub signal_line : (f g : Flight) (a b : Option (List ℕ)) (m : Mode) (period : ℕ) → GoesOn f a g b (at_rest m) (fresh m period)
     → Follows (Some (line.Signal m period)) f a g b
@@ -83,6 +81,5 @@ action_line f g a b t y x = record {
 pub blank_line : (f : Flight) (a : Option (List ℕ)) → IsWell f.signal → Follows None f a f a
 blank_line f a well = record { due = []; goes_on = nowhere f a well; adds = λ lines. refl }
 
-pub end_line : (f : Flight) (a b : Option (List ℕ)) (t : Tick) → Ends f a b (due_before (sender_of f.signal) t.0)
-    → (more : List Directive) → Ends f a b (asked_by (sender_of f.signal) (line.End t ∷ more))
-end_line f a b t x more = subst (λ (ds : List Due). Ends f a b ds) (sym (end_asks (sender_of f.signal) t more)) x
+pub end_line : (f : Flight) (a b : Option (List ℕ)) (t : Tick) → Ends f a b (due_before (sender_of f.signal) t.0) t.0 → IsLast (Some (line.End t)) f a b
+end_line f a b t x = record { end = t; is = refl; ends = x }

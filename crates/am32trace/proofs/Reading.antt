@@ -9,10 +9,8 @@ use Rattle.trace_text.specs.Ahead.{ahead}
 use Rattle.am32trace.specs.declared.action.Directive.{Directive}
 use Rattle.am32trace.specs.declared.flight.Flight.{Flight}
 use Rattle.am32trace.specs.declared.script_lines.ScriptLines.{ScriptLines}
-use Rattle.am32trace.specs.Asked.{asked_by}
-use Rattle.am32trace.specs.Line.{sender_of}
 use Rattle.am32trace.specs.Script.{HasRead, Reads, Splits, IsRest, asked_in}
-use Rattle.am32trace.specs.Flown.{Ends, Follows, IsFlown}
+use Rattle.am32trace.specs.Flown.{Follows, IsLast, IsFlown}
 use Rattle.am32trace.proofs.Following.{Under, followed, ended}
 use Rattle.am32trace.proofs.LinesCut.{no_line}
 
@@ -28,7 +26,8 @@ rose_since a b c le (inl less) = inl (omega (arith, le, less))
 rose_since a b c le (inr most) = grind (arith, le, most.0, most.1)
 
 -- ---- lines that ask for nothing
-pub record Rest (says : List ℕ → Option Directive → Type 0) (l : ScriptLines) (before : Option (List ℕ)) (m : ScriptLines) (after : Option (List ℕ)) : Type 0 where
+pub record Rest (says : List ℕ → Option Directive → Type 0) (l : ScriptLines) (before : Option (List ℕ))
+    (m : ScriptLines) (after : Option (List ℕ)) : Type 0 where
   pub lines : List (List ℕ)
   pub said : List (Option Directive)
   pub read : Reads l before m after lines
@@ -36,7 +35,8 @@ pub record Rest (says : List ℕ → Option Directive → Type 0) (l : ScriptLin
   pub blank : asked_in said ≡ []
 
 -- ---- some lines were read, and what they ask for was followed
-pub record Going (says : List ℕ → Option Directive → Type 0) (l : ScriptLines) (source left : Option (List ℕ)) (f : Flight) (first now : Option (List ℕ)) : Type 0 where
+pub record Going (says : List ℕ → Option Directive → Type 0) (l : ScriptLines) (source left : Option (List ℕ))
+    (f : Flight) (first now : Option (List ℕ)) : Type 0 where
   pub lines : List (List ℕ)
   pub said : List (Option Directive)
   pub read : HasRead l source left lines
@@ -57,7 +57,8 @@ module _ (says : List ℕ → Option Directive → Type 0) where
   reads_both l m n a b c xs ys x y = λ first lines h.
       subst (λ (ls : List (List ℕ)). HasRead n first c ls) (append_assoc lines xs ys) (y first (lines ++ xs) (x first lines h))
 
-  pub rest_one : (l m n : ScriptLines) (a b c : Option (List ℕ)) (line : List ℕ) → Rest says l a m b → Reads m b n c (line ∷ []) → says line None → Rest says l a n c
+  pub rest_one : (l m n : ScriptLines) (a b c : Option (List ℕ)) (line : List ℕ) → Rest says l a m b → Reads m b n c (line ∷ [])
+      → says line None → Rest says l a n c
   rest_one l m n a b c line r x said = record {
     lines = r.lines ++ line ∷ [];
     said = r.said ++ None ∷ [];
@@ -80,7 +81,8 @@ module _ (says : List ℕ → Option Directive → Type 0) where
       → Going says l source source f first first
   going_first l source f first read under = record { lines = []; said = []; read = read; each = tt; under = under }
 
-  pub going_on : (l m : ScriptLines) (source a b : Option (List ℕ)) (f g : Flight) (first now after : Option (List ℕ)) (line : List ℕ) (d : Option Directive)
+  pub going_on : (l m : ScriptLines) (source a b : Option (List ℕ)) (f g : Flight) (first now after : Option (List ℕ))
+      (line : List ℕ) (d : Option Directive)
       → Going says l source a f first now → Reads l a m b (line ∷ []) → says line d → Follows d f now g after → Going says m source b g first after
   going_on l m source a b f g first now after line d h x said y = record {
     lines = h.lines ++ line ∷ [];
@@ -90,14 +92,16 @@ module _ (says : List ℕ → Option Directive → Type 0) where
     under = subst (λ (ds : List Directive). Under ds g first after) (sym (asked_more h.said d)) (followed (asked_in h.said) d f g first now after h.under y);
   }
 
-  pub going_ends : (l m n : ScriptLines) (source a b c : Option (List ℕ)) (f : Flight) (first now after : Option (List ℕ)) (line : List ℕ) (d : Option Directive)
+  pub going_ends : (l m n : ScriptLines) (source a b c : Option (List ℕ)) (f : Flight) (first now after : Option (List ℕ))
+      (line : List ℕ) (d : Option Directive)
       → Going says l source a f first now → Reads l a m b (line ∷ []) → says line d
-      → ((more : List Directive) → Ends f now after (asked_by (sender_of f.signal) (option_to_list d ++ more))) → IsRest says m b n c → IsFlown says source first after
+      → IsLast d f now after → IsRest says m b n c → IsFlown says source first after
   going_ends l m n source a b c f first now after line d h x said y rest =
       let read = rest.read source (h.lines ++ line ∷ []) (x source h.lines h.read) in
       let before = h.said ++ d ∷ [] in
       record {
-        asked = asked_in h.said ++ option_to_list d;
+        lines = asked_in h.said;
+        end = y.end;
         script = record {
           text = read.text;
           behind = ahead n.held c;
@@ -111,7 +115,7 @@ module _ (says : List ℕ → Option Directive → Type 0) where
               both_zip says (h.lines ++ line ∷ []) rest.lines before rest.said (all_zipped_more says h.lines h.said line d h.each said) rest.each;
           all =
               sym (asked_both before rest.said ∙ ap (λ (ds : List Directive). asked_in before ++ ds) rest.blank ∙ append-nil (asked_in before)
-              ∙ asked_more h.said d);
+              ∙ asked_more h.said d ∙ ap (λ (o : Option Directive). asked_in h.said ++ option_to_list o) y.is);
         };
-        flight = ended (asked_in h.said) d f first now after h.under y;
+        flight = ended (asked_in h.said) f first now after y.end h.under y.ends;
       }

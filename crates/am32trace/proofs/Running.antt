@@ -113,8 +113,10 @@ line_late l t well reached = late l.mode l.period well.rate.positive t l.sending
 
 still : (s : Sender) (t : ℕ) → 0 < s.period → ((r : Repeated) → s.repeated ≡ Some r → t ≤ r.next.0) → moved_on s t ≡ s
 still s t positive h =
-    ap (λ (o : Option Repeated). record { mode = s.mode; period = s.period; repeated = o; spoil = spoil_left s.period t s.spoil s.repeated }) (none_delayed s.period positive s.repeated t h)
-    ∙ ap (λ (x : Option Spoil). record { mode = s.mode; period = s.period; repeated = s.repeated; spoil = x }) (none_spoil s.period positive s.spoil s.repeated t h)
+    ap (λ (o : Option Repeated). record { mode = s.mode; period = s.period; repeated = o; spoil = spoil_left s.period t s.spoil s.repeated })
+    (none_delayed s.period positive s.repeated t h)
+    ∙ ap (λ (x : Option Spoil). record { mode = s.mode; period = s.period; repeated = s.repeated; spoil = x })
+    (none_spoil s.period positive s.spoil s.repeated t h)
 
 pub ran_end : (f g : Flight) (a b : Option (List ℕ)) (t : ℕ) → Ran f a g b t → IsReached t (next_edge g.signal)
     → GoesOn f a g b (due_before (sender_of f.signal) t) (moved_on (sender_of f.signal) t)

@@ -11,7 +11,9 @@ use Rattle.am32trace.specs.declared.flight.Planned.{Planned}
 use Rattle.am32trace.specs.declared.flight.Planned.TheVariants as planned
 use Rattle.esc_base.specs.Trace.{tick_of}
 use Rattle.am32trace.specs.declared.action.Directive.{Directive}
-use Rattle.am32trace.specs.Asked.{Due, Sender, asked_by, no_signal}
+use Rattle.am32trace.specs.declared.action.Directive.TheVariants as line
+use Rattle.esc_base.specs.declared.tick.Tick.{Tick}
+use Rattle.am32trace.specs.Asked.{Due, Sender, asked_by, due_before, no_signal}
 use Rattle.std.specs.Option.{option_to_list}
 use Rattle.am32trace.specs.Script.{IsScript}
 use Rattle.am32trace.specs.Line.{Transmission, IsHeard, all_edges, messages_of, pending, next_edge, sender_of, sender_after, due_now, Begins, IsWell}
@@ -29,9 +31,8 @@ edges_in (event.Stall t n ∷ events) = edges_in events
 -- A trace that the reader accepts was appended. Its edges are those of some transmissions, one after the other, up to what its
 -- end cuts off of the last one. Each of them that is a frame as it should be is heard as that frame. The messages among them are
 -- these, no fewer and no more.
-pub record IsFlight (first now : Option (List ℕ)) (due : List Due) : Type 0 where
+pub record IsFlight (first now : Option (List ℕ)) (due : List Due) (end : ℕ) : Type 0 where
   pub events : List Event
-  pub end : ℕ
   pub log : List Transmission
   pub cut_off : List Edge
   pub accepted : IsTrace first now events end
@@ -39,11 +40,12 @@ pub record IsFlight (first now : Option (List ℕ)) (due : List Due) : Type 0 wh
   pub heard : All IsHeard log
   pub messages : messages_of log ≡ due
 
--- the messages are those that a script's lines ask for
+-- the messages are those that a script's lines ask for, of which the last one that says anything ends the trace
 pub record IsFlown (says : List ℕ → Option Directive → Type 0) (left first now : Option (List ℕ)) : Type 0 where
-  pub asked : List Directive
-  pub script : IsScript says left asked
-  pub flight : IsFlight first now (asked_by no_signal asked)
+  pub lines : List Directive
+  pub end : Tick
+  pub script : IsScript says left (lines ++ line.End end ∷ [])
+  pub flight : IsFlight first now (asked_by no_signal (lines ++ line.End end ∷ [])) end.0
 
 -- ---- a flight on its way
 
@@ -62,8 +64,8 @@ pub record GoesOn (f : Flight) (before : Option (List ℕ)) (g : Flight) (after 
   pub well : IsWell g.signal
   pub is : sender_of g.signal ≡ sender
 
-abbrev pub Ends : Flight → Option (List ℕ) → Option (List ℕ) → List Due → Type 0
-Ends f before after due = (first : Option (List ℕ)) (sent : List Due) → Keeps f first before sent → IsFlight first after (sent ++ due)
+abbrev pub Ends : Flight → Option (List ℕ) → Option (List ℕ) → List Due → ℕ → Type 0
+Ends f before after due end = (first : Option (List ℕ)) (sent : List Due) → Keeps f first before sent → IsFlight first after (sent ++ due) end
 
 -- the messages are those that a line asks for, if anything
 pub record Follows (asked : Option Directive) (f : Flight) (before : Option (List ℕ)) (g : Flight) (after : Option (List ℕ)) : Type 0 where
@@ -71,9 +73,15 @@ pub record Follows (asked : Option Directive) (f : Flight) (before : Option (Lis
   pub goes_on : GoesOn f before g after due (sender_of g.signal)
   pub adds : (more : List Directive) → asked_by (sender_of f.signal) (option_to_list asked ++ more) ≡ due ++ asked_by (sender_of g.signal) more
 
+-- it is a line that ends the trace
+pub record IsLast (asked : Option Directive) (f : Flight) (before after : Option (List ℕ)) : Type 0 where
+  pub end : Tick
+  pub is : asked ≡ Some (line.End end)
+  pub ends : Ends f before after (due_before (sender_of f.signal) end.0) end.0
+
 -- a line of a script was followed, and the flight has ended or not
 abbrev pub Followed : Bool → Option Directive → Flight → Option (List ℕ) → Flight → Option (List ℕ) → Type 0
-Followed true asked f before g after = (more : List Directive) → Ends f before after (asked_by (sender_of f.signal) (option_to_list asked ++ more))
+Followed true asked f before g after = IsLast asked f before after
 Followed false asked f before g after = Follows asked f before g after
 
 -- one event was written

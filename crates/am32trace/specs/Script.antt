@@ -46,7 +46,8 @@ abbrev pub asked_in : List (Option Directive) → List Directive
 asked_in said = flat_map option_to_list said
 
 -- lines that ask for nothing, up to the end
-pub record IsRest (says : List ℕ → Option Directive → Type 0) (l : ScriptLines) (before : Option (List ℕ)) (m : ScriptLines) (after : Option (List ℕ)) : Type 0 where
+pub record IsRest (says : List ℕ → Option Directive → Type 0) (l : ScriptLines) (before : Option (List ℕ)) (m : ScriptLines)
+    (after : Option (List ℕ)) : Type 0 where
   pub lines : List (List ℕ)
   pub said : List (Option Directive)
   pub read : Reads l before m after lines

@@ -1,9 +1,11 @@
 //! A flight: the sender, the comparator and the serial line, whose events are written in the order of their times.
 ghost use Rattle.std.specs.Prelude.{◌≡◌, ◌≤◌, ◌<◌, ◌+◌, ◌⊎◌, ◌∷◌, [], ℕ, true, List, Option, OnOk, IfSome, IfNone};
 ghost use Rattle.esc_base.specs.Trace.{tick_of};
-ghost use Rattle.am32trace.specs.Asked.{LevelAt, at_rest, no_signal, fresh, says, due_of, due_before, moved_on, due_by, sender_by, told, at_once, IsRate, IsSoundAction};
+ghost use Rattle.am32trace.specs.Asked.{LevelAt, at_rest, no_signal, fresh, says, due_of, due_before, moved_on, due_by, sender_by};
+ghost use Rattle.am32trace.specs.Asked.{told, at_once, IsRate, IsSoundAction};
 ghost use Rattle.am32trace.specs.Line.{next_edge, sender_of, IsShort, IsWell};
-ghost use Rattle.am32trace.specs.Flown.{edges_in, event_of, due_with, sender_with, IsPlanned, NoneBefore, NotLater, IsReached, Writes, Keeps, GoesOn, Ends, Sets};
+ghost use Rattle.am32trace.specs.Flown.{edges_in, event_of, due_with, sender_with, IsPlanned, NoneBefore, NotLater, IsReached};
+ghost use Rattle.am32trace.specs.Flown.{Writes, Keeps, GoesOn, Ends, Sets};
 
 use crate::action::Action;
 use crate::comparator::Comparator;
@@ -190,7 +192,8 @@ impl Flight {
         requires planned { IsPlanned self.old.signal planned }
         requires early { tick_of (event_of planned) ≤ 1073741824 }
         requires well { IsWell self.old.signal }
-        ensures ok { OnOk result (GoesOn self.old (K.given out.old) self.new (K.given out.new) (due_with self.old.signal planned) (sender_with self.old.signal planned)) }
+        ensures ok { OnOk result (GoesOn self.old (K.given out.old) self.new (K.given out.new)
+            (due_with self.old.signal planned) (sender_with self.old.signal planned)) }
         ensures line { OnOk result (self.new.writer.place.line ≡ self.old.writer.place.line + 1) }
     {
         self.put(planned.event(), out)?;
@@ -206,7 +209,8 @@ impl Flight {
     fn run_until<K: Sink>(&mut self, t: Tick, out: &mut K) -> Result<(), Fault>
         requires early { t.0 ≤ 1073741824 }
         requires well { IsWell self.old.signal }
-        ensures { OnOk result (GoesOn self.old (K.given out.old) self.new (K.given out.new) (due_before (sender_of self.old.signal) t.0) (moved_on (sender_of self.old.signal) t.0)) }
+        ensures { OnOk result (GoesOn self.old (K.given out.old) self.new (K.given out.new)
+            (due_before (sender_of self.old.signal) t.0) (moved_on (sender_of self.old.signal) t.0)) }
     {
         while let Some(planned) = self.next_before(t) {
             self.step(planned, out)?;
@@ -217,7 +221,8 @@ impl Flight {
     /// Writes all up to the time of a line.
     fn reach<K: Sink>(&mut self, t: Tick, out: &mut K) -> Result<(), Fault>
         requires { IsWell self.old.signal }
-        ensures goes_on { OnOk result (GoesOn self.old (K.given out.old) self.new (K.given out.new) (due_before (sender_of self.old.signal) t.0) (moved_on (sender_of self.old.signal) t.0)) }
+        ensures goes_on { OnOk result (GoesOn self.old (K.given out.old) self.new (K.given out.new)
+            (due_before (sender_of self.old.signal) t.0) (moved_on (sender_of self.old.signal) t.0)) }
         ensures early { OnOk result (t.0 ≤ 1073741824) }
     {
         if t < self.reached {
@@ -235,7 +240,8 @@ impl Flight {
     pub fn act<K: Sink>(&mut self, t: Tick, action: Action, out: &mut K) -> Result<(), Fault>
         requires sound { IsSoundAction action }
         requires well { IsWell self.old.signal }
-        ensures { OnOk result (GoesOn self.old (K.given out.old) self.new (K.given out.new) (due_by (sender_of self.old.signal) t.0 action) (sender_by (sender_of self.old.signal) t.0 action)) }
+        ensures { OnOk result (GoesOn self.old (K.given out.old) self.new (K.given out.new)
+            (due_by (sender_of self.old.signal) t.0 action) (sender_by (sender_of self.old.signal) t.0 action)) }
     {
         self.reach(t, out)?;
         match action {
@@ -255,7 +261,7 @@ impl Flight {
     /// Writes all up to a time, and ends the trace.
     pub fn end<K: Sink>(&mut self, t: Tick, out: &mut K) -> Result<(), Fault>
         requires { IsWell self.old.signal }
-        ensures { OnOk result (Ends self.old (K.given out.old) (K.given out.new) (due_before (sender_of self.old.signal) t.0)) }
+        ensures { OnOk result (Ends self.old (K.given out.old) (K.given out.new) (due_before (sender_of self.old.signal) t.0) t.0) }
     {
         self.reach(t, out)?;
         match self.writer.end(t, out) {

@@ -2,7 +2,8 @@
 ghost use Rattle.std.specs.Prelude.{◌≡◌, ◌≤◌, ◌<◌, ◌+◌, ◌*◌, ◌∷◌, [], ℕ, true, drop, slice_get, None, Some, All};
 ghost use Rattle.edge_capture.specs.Modes.{numbers};
 ghost use Rattle.am32trace.specs.Asked.{beat_from, fresh, says, with_repeated, with_spoil, due_of, delayed, IsRate};
-ghost use Rattle.am32trace.specs.Line.{left_of, pending, next_edge, next_message, sender_of, sender_after, stepped, due_now, first_due, Adds, Begins, IsOn, IsMessage, IsShort, IsWell};
+ghost use Rattle.am32trace.specs.Line.{left_of, pending, next_edge, next_message, sender_of, sender_after, stepped, due_now, first_due};
+ghost use Rattle.am32trace.specs.Line.{Adds, Begins, IsOn, IsMessage, IsShort, IsWell};
 ghost use Rattle.am32trace.specs.Frames.{rest_of, first_edge, IsBefore};
 
 use crate::frame_out::{FrameOut, Payload, Spoil};

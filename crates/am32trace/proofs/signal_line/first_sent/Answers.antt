@@ -11,7 +11,8 @@ returns-in-Frame-clause-adds c =
 
 pub returns-in-Frame-clause-within : goal.returns-in-Frame-clause-within
 returns-in-Frame-clause-within c = λ period fits short.
-    later_edges _ (c.args.t.0 + period) (rest_of c.frame_at.result) (left_of c.after_edge.result) (omega (arith, fits)) c.frame_at.ensures.within c.after_edge.ensures.left
+    later_edges _ (c.args.t.0 + period) (rest_of c.frame_at.result) (left_of c.after_edge.result) (omega (arith, fits))
+    c.frame_at.ensures.within c.after_edge.ensures.left
 
 pub returns-in-Pulse-clause-adds : goal.returns-in-Pulse-clause-adds
 returns-in-Pulse-clause-adds c =

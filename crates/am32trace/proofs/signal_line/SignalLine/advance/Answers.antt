@@ -11,7 +11,8 @@ returns-in-Frame-clause-well c =
     record {
       rate = c.requires.well.rate;
       on = c.after_edge-self.ensures.on;
-      ready = ready_rest l.repeated l.period (pending l) (left_of c.after_edge-self.result) (c.after_edge-self.ensures.left ∙ ap (drop 1) (sym was)) c.requires.well.ready;
+      ready = ready_rest l.repeated l.period (pending l) (left_of c.after_edge-self.result)
+          (c.after_edge-self.ensures.left ∙ ap (drop 1) (sym was)) c.requires.well.ready;
     }
 
 pub returns-in-Noise-clause-adds : goal.returns-in-Noise-clause-adds
