@@ -94,7 +94,8 @@ no_edge_stall t n = refl
 -- a level of the line, on which nothing is
 pub level_begun : (e : Edge) (before after : List Edge) → before ≡ [] → after ≡ before → Adds e before after (LevelAt e.t.0 e.level ∷ [])
 level_begun e before after quiet same =
-    subst (λ (xs : List Edge). Adds e xs after (LevelAt e.t.0 e.level ∷ [])) (sym quiet) (one_begun (Level e) (e ∷ after) tt (ap (λ (xs : List Edge). e ∷ xs) (same ∙ quiet)))
+    subst (λ (xs : List Edge). Adds e xs after (LevelAt e.t.0 e.level ∷ [])) (sym quiet)
+    (one_begun (Level e) (e ∷ after) tt (ap (λ (xs : List Edge). e ∷ xs) (same ∙ quiet)))
 
 -- nothing was written
 pub sets_only : (f g : Flight) (a : Option (List ℕ)) (due : List Due) (s : Sender) → Sets f g due s → GoesOn f a g a due s

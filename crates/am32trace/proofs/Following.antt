@@ -52,11 +52,13 @@ ended asked f first a b t u x =
 
 -- ---- each kind of line
 
-signal_asks : (s : Sender) (m : Mode) (period : ℕ) (lines : List Directive) → asked_by s (line.Signal m period ∷ lines) ≡ at_rest m ++ asked_by (fresh m period) lines
+signal_asks : (s : Sender) (m : Mode) (period : ℕ) (lines : List Directive)
+    → asked_by s (line.Signal m period ∷ lines) ≡ at_rest m ++ asked_by (fresh m period) lines
 unfolding asked_by
 signal_asks s m period lines = refl
 
-action_asks : (s : Sender) (t : Tick) (x : Action) (lines : List Directive) → asked_by s (line.At t x ∷ lines) ≡ due_by s t.0 x ++ asked_by (sender_by s t.0 x) lines
+action_asks : (s : Sender) (t : Tick) (x : Action) (lines : List Directive)
+    → asked_by s (line.At t x ∷ lines) ≡ due_by s t.0 x ++ asked_by (sender_by s t.0 x) lines
 unfolding asked_by
 action_asks s t x lines = refl
 

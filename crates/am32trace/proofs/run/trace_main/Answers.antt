@@ -22,7 +22,8 @@ loop-line-preserved g c =
       going_on says c.loop-line.lines c.next.new.self (g.S.Source.left c.args.src.now) (g.S.Source.left c.loop-line.src) (g.S.Source.left c.next.new.src)
           c.loop-line.flight c.follow.new.flight (g.K.Sink.given c.args.out.now) now after c.next.new.self.line.items c.in-Ok.asked c.loop-line.invariant.0
           (c.in-Ok-true.ensures.some c.in-Ok-true.field-0-test) (subst (λ (line : List ℕ). says line c.in-Ok.asked) c.line.ensures c.in-Ok.ensures.said)
-          (subst (λ (b : Bool). Followed b c.in-Ok.asked c.loop-line.flight now c.follow.new.flight after) c.in-Ok-false-follow.field-0-test c.in-Ok-false-follow.ensures),
+          (subst (λ (b : Bool). Followed b c.in-Ok.asked c.loop-line.flight now c.follow.new.flight after) c.in-Ok-false-follow.field-0-test
+          c.in-Ok-false-follow.ensures),
       omega (arith, c.loop-line.invariant.1, c.in-Ok-true.ensures.no_fewer),
     )
 
@@ -36,6 +37,7 @@ returns-in-Ok-true-follow-clause-done g c =
     (g.S.Source.left c.next.new.src) (g.S.Source.left c.read_rest.new.src) c.loop-line.flight (g.K.Sink.given c.args.out.now) now after
     c.next.new.self.line.items c.in-Ok.asked c.loop-line.invariant.0 (c.in-Ok-true.ensures.some c.in-Ok-true.field-0-test)
     (subst (λ (line : List ℕ). says line c.in-Ok.asked) c.line.ensures c.in-Ok.ensures.said)
-    (subst (λ (b : Bool). Followed b c.in-Ok.asked c.loop-line.flight now c.follow.new.flight after) c.in-Ok-true-follow.field-0-test c.in-Ok-true-follow.ensures)
+    (subst (λ (b : Bool). Followed b c.in-Ok.asked c.loop-line.flight now c.follow.new.flight after) c.in-Ok-true-follow.field-0-test
+    c.in-Ok-true-follow.ensures)
     rest)
     c.read_rest.ensures.done
