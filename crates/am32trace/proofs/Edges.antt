@@ -1,7 +1,9 @@
 -- The edges of a frame, from the front on.
-use Rattle.std.proofs.Common.{◌≡◌, ◌<◌, ℕ, zero, suc, ◌+◌, ◌-◌, ◌*◌, ◌/◌, ◌%◌, ◌^◌, Bool, true, false, not, ◌==◌, if◌then◌else◌, List, [], ◌∷◌, length, take, drop, Option, Some, None, refl, ◌∙◌, ap, arith}
+use Rattle.std.proofs.Common.{◌≡◌, ◌<◌, ◌≤◌, ℕ, zero, suc, ◌+◌, ◌-◌, ◌*◌, ◌/◌, ◌%◌, ◌^◌, Bool, true, false, not, ◌==◌, if◌then◌else◌, List, [], ◌∷◌, length, take, drop, Option, Some, None, refl, ◌∙◌, ap, arith}
 use Rattle.std.specs.Prelude.{slice_get}
 use Rattle.std.proofs.lemmas.List.{take_all}
+use Rattle.std.specs.Prelude.{All}
+use Rattle.std.proofs.lemmas.List.Elements.{All-nil, All-cons, All-take, All-drop}
 use Rattle.esc_base.specs.declared.signal.Edge.{Edge}
 use Rattle.esc_base.specs.declared.signal.Frame.{Frame}
 use Rattle.esc_base.specs.declared.signal.Mode.{Mode}
@@ -10,7 +12,7 @@ use Rattle.edge_capture.specs.Modes.{numbers}
 use Rattle.dshot_frame.specs.Bits.{low_bits}
 use Rattle.dshot_frame.specs.Sent.{active_width, edges_from, sent}
 use Rattle.dshot_frame.specs.Verdict.{verdict_of}
-use Rattle.am32trace.specs.Frames.{width_of, edges_left, IsSent}
+use Rattle.am32trace.specs.Frames.{is_wide, width_of, edges_left, IsSent, IsBefore}
 
 -- with no pulse too wide they are those that the frame's sender makes
 pub left_exact : (bit : ℕ) (inverted : Bool) (s k word : ℕ) → edges_left bit inverted None s k word ≡ edges_from bit inverted s (low_bits k word)
@@ -23,10 +25,43 @@ left_exact bit inverted s (suc k) word =
     ∷ rest)
     (left_exact bit inverted (s + bit) k word)
 
+active_most : (bit : ℕ) (one : Bool) → active_width bit one ≤ bit
+active_most bit true = omega arith
+active_most bit false = omega arith
+
+either_most : (b : Bool) (bit active : ℕ) → active ≤ bit → (if b then bit - 2 else active) ≤ bit
+either_most true bit active h = omega arith
+either_most false bit active h = h
+
+width_most : (bit : ℕ) (wide : Option ℕ) (k word : ℕ) → width_of bit wide k word ≤ bit
+width_most bit wide k word = either_most (is_wide wide k) bit (active_width bit (word / 2 ^ k % 2 == 1)) (active_most bit (word / 2 ^ k % 2 == 1))
+
 length-left : (bit : ℕ) (inverted : Bool) (wide : Option ℕ) (s k word : ℕ) → length (edges_left bit inverted wide s k word) ≡ 2 * k
 unfolding edges_left
 length-left bit inverted wide s zero word = refl
 length-left bit inverted wide s (suc k) word = let l = length-left bit inverted wide (s + bit) k word in omega arith
+
+-- no edge comes behind the end of the last bit
+within_left : (bit : ℕ) (inverted : Bool) (wide : Option ℕ) (s k word end : ℕ) → s + k * bit ≤ end → All (IsBefore end) (edges_left bit inverted wide s k word)
+unfolding edges_left
+within_left bit inverted wide s zero word end h = All-nil (IsBefore end)
+within_left bit inverted wide s (suc k) word end h =
+    let e : suc k * bit ≡ k * bit + bit = grind arith in
+    let w = width_most bit wide k word in
+    let begins : s ≤ end = omega (arith, e, h) in
+    let falls : s + width_of bit wide k word ≤ end = omega (arith, e, h, w) in
+    let first : Edge = record { t = record { 0 = s }; level = not inverted } in
+    let second : Edge = record { t = record { 0 = s + width_of bit wide k word }; level = inverted } in
+    let rest = edges_left bit inverted wide (s + bit) k word in
+    All-cons (IsBefore end) first (second ∷ rest) begins
+    (All-cons (IsBefore end) second rest falls (within_left bit inverted wide (s + bit) k word end (omega (arith, e, h))))
+
+pub within_frame : (m : Mode) (wide : Option ℕ) (s word n : ℕ)
+    → All (IsBefore (s + 16 * (numbers m).bit)) (take n (drop 0 (edges_left (numbers m).bit (numbers m).inverted wide s 16 word)))
+within_frame m wide s word n =
+    let end = s + 16 * (numbers m).bit in
+    All-take (IsBefore end) n _
+    (All-drop (IsBefore end) 0 _ (within_left (numbers m).bit (numbers m).inverted wide s 16 word end (omega arith)))
 
 -- a whole frame, and what its receiver hears
 pub is_sent : (m : Mode) (s word : ℕ) (frame : Frame) → verdict_of m (sent m s word) ≡ Good frame

@@ -1,5 +1,11 @@
 pub mod Edges
+pub mod Beats
+pub mod Trains
+pub mod LinesCut
 pub mod Begun
 pub mod Flying
+pub mod Running
+pub mod Following
+pub mod Reading
 pub mod Endings
 pub mod Requests

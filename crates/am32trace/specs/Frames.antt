@@ -1,5 +1,5 @@
 -- The edges of a frame on its way.
-use Rattle.std.specs.Prelude.{◌≡◌, ℕ, zero, suc, ◌+◌, ◌-◌, ◌/◌, ◌%◌, ◌^◌, Bool, false, not, ◌==◌, if◌then◌else◌, List, [], ◌∷◌, take, drop, bit_xor, Option, Some, None}
+use Rattle.std.specs.Prelude.{◌≡◌, ℕ, zero, suc, ◌≤◌, ◌+◌, ◌-◌, ◌/◌, ◌%◌, ◌^◌, Bool, false, not, ◌==◌, if◌then◌else◌, List, [], ◌∷◌, take, drop, bit_xor, Option, Some, None}
 use Rattle.esc_base.specs.declared.tick.Tick.{Tick}
 use Rattle.esc_base.specs.declared.signal.Edge.{Edge}
 use Rattle.esc_base.specs.declared.signal.Frame.{Frame}
@@ -50,3 +50,7 @@ pub record IsSpoilt (m : Mode) (s : ℕ) (frame : Frame) (spoil : Spoil) (edges 
 -- the edge that begins a message
 abbrev pub first_edge : Mode → Tick → Edge
 first_edge m t = record { t = t; level = not (numbers m).inverted }
+
+-- an edge comes at a tick or earlier
+abbrev pub IsBefore : ℕ → Edge → Type 0
+IsBefore t e = e.t.0 ≤ t

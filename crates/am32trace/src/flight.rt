@@ -1,13 +1,19 @@
 //! A flight: the sender, the comparator and the serial line, whose events are written in the order of their times.
-ghost use Rattle.std.specs.Prelude.{◌≡◌, ◌≤◌, ◌+◌, ◌⊎◌, ◌∷◌, [], ℕ, List, Option, OnOk, IfSome};
+ghost use Rattle.std.specs.Prelude.{◌≡◌, ◌≤◌, ◌<◌, ◌+◌, ◌⊎◌, ◌∷◌, [], ℕ, true, List, Option, OnOk, IfSome, IfNone};
 ghost use Rattle.esc_base.specs.Trace.{tick_of};
-ghost use Rattle.am32trace.specs.Flown.{edges_in, event_of, IsPlanned, Writes, Keeps, GoesOn, Ends, Sets};
+ghost use Rattle.am32trace.specs.Asked.{LevelAt, at_rest, no_signal, fresh, says, due_of, due_before, moved_on, due_by, sender_by};
+ghost use Rattle.am32trace.specs.Asked.{told, at_once, IsRate, IsSoundAction};
+ghost use Rattle.am32trace.specs.Line.{next_edge, sender_of, IsShort, IsWell};
+ghost use Rattle.am32trace.specs.Flown.{edges_in, event_of, due_with, sender_with, IsPlanned, NoneBefore, NotLater, IsReached};
+ghost use Rattle.am32trace.specs.Flown.{Writes, Keeps, GoesOn, Ends, Sets};
 
 use crate::action::Action;
 use crate::comparator::Comparator;
 use crate::expected::Expected;
+use crate::frame_out::{Payload, Spoil};
 use crate::serial_line::SerialLine;
 use crate::signal_line::{Message, SignalLine};
+use arrayvec::ArrayVec;
 use esc_base::{Edge, Event, Mode, Sink, Tick};
 use trace_tools::{LAST_TICK, Unwritten, Writer};
 
@@ -76,7 +82,9 @@ impl Planned {
 
 /// The one that comes first; the first argument where both come at once.
 fn earlier(first: Option<Planned>, second: Option<Planned>) -> Option<Planned>
-    ensures { (result ≡ first) ⊎ (result ≡ second) }
+    ensures one { (result ≡ first) ⊎ (result ≡ second) }
+    ensures first { NotLater result first }
+    ensures second { NotLater result second }
 {
     match (first, second) {
         (Some(a), Some(b)) => { if b.t() < a.t() { second } else { first } }
@@ -88,7 +96,9 @@ fn earlier(first: Option<Planned>, second: Option<Planned>) -> Option<Planned>
 impl Flight {
     /// A flight without a signal.
     pub fn new() -> Flight
-        ensures { (given : Option (List ℕ)) → Keeps result given given }
+        ensures keeps { (given : Option (List ℕ)) → Keeps result given given [] }
+        ensures well { IsWell result.signal }
+        ensures sender { sender_of result.signal ≡ no_signal }
     {
         Flight {
             signal: SignalLine::new(Mode::Unknown, 1),
@@ -102,7 +112,8 @@ impl Flight {
 
     /// Sets the signal, whose line goes to its resting level.
     pub fn set_signal<K: Sink>(&mut self, mode: Mode, period: u64, out: &mut K) -> Result<(), Fault>
-        ensures { OnOk result (GoesOn self.old (K.given out.old) self.new (K.given out.new)) }
+        requires { IsRate mode period }
+        ensures { OnOk result (GoesOn self.old (K.given out.old) self.new (K.given out.new) (at_rest mode) (fresh mode period)) }
     {
         if self.has_begun || self.signal.mode != Mode::Unknown || !self.signal.is_quiet() {
             return Err(Fault::Expected(Expected::SignalAbove));
@@ -127,7 +138,8 @@ impl Flight {
 
     /// Writes a level of the signal line, on which nothing is.
     fn put_level<K: Sink>(&mut self, t: Tick, level: bool, out: &mut K) -> Result<(), Fault>
-        ensures { OnOk result (GoesOn self.old (K.given out.old) self.new (K.given out.new)) }
+        requires { IsWell self.old.signal }
+        ensures { OnOk result (GoesOn self.old (K.given out.old) self.new (K.given out.new) (LevelAt t.0 level ∷ []) (sender_of self.old.signal)) }
     {
         if !self.signal.is_quiet() {
             return Err(Fault::Expected(Expected::QuietLine));
@@ -138,8 +150,9 @@ impl Flight {
 
     /// Writes an event that isn't the signal line's.
     fn put_other<K: Sink>(&mut self, event: Event, out: &mut K) -> Result<(), Fault>
-        requires { edges_in (event ∷ []) ≡ [] }
-        ensures { OnOk result (GoesOn self.old (K.given out.old) self.new (K.given out.new)) }
+        requires other { edges_in (event ∷ []) ≡ [] }
+        requires well { IsWell self.old.signal }
+        ensures { OnOk result (GoesOn self.old (K.given out.old) self.new (K.given out.new) [] (sender_of self.old.signal)) }
     {
         self.put(event, out)?;
         Ok(())
@@ -147,7 +160,8 @@ impl Flight {
 
     /// The next event that is planned.
     fn next(&self) -> Option<Planned>
-        ensures { IfSome result (IsPlanned self.now.signal) }
+        ensures planned { IfSome result (IsPlanned self.now.signal) }
+        ensures first { NoneBefore result (next_edge self.now.signal) }
     {
         let edge = self.signal.next().map(|edge| Planned::Signal(edge));
         let change = self
@@ -161,11 +175,25 @@ impl Flight {
         earlier(earlier(edge, change), byte)
     }
 
+    /// The next event that is planned, if it comes before `t`.
+    fn next_before(&self, t: Tick) -> Option<Planned>
+        ensures planned { IfSome result (IsPlanned self.now.signal) }
+        ensures early { IfSome result (λ p. tick_of (event_of p) < t.0) }
+        ensures reached { IfNone result (IsReached t.0 (next_edge self.now.signal)) }
+    {
+        let Some(planned) = self.next() else {
+            return None;
+        };
+        if planned.t() < t { Some(planned) } else { None }
+    }
+
     /// Writes the next event, which is planned.
     fn step<K: Sink>(&mut self, planned: Planned, out: &mut K) -> Result<(), Fault>
         requires planned { IsPlanned self.old.signal planned }
         requires early { tick_of (event_of planned) ≤ 1073741824 }
-        ensures ok { OnOk result (GoesOn self.old (K.given out.old) self.new (K.given out.new)) }
+        requires well { IsWell self.old.signal }
+        ensures ok { OnOk result (GoesOn self.old (K.given out.old) self.new (K.given out.new)
+            (due_with self.old.signal planned) (sender_with self.old.signal planned)) }
         ensures line { OnOk result (self.new.writer.place.line ≡ self.old.writer.place.line + 1) }
     {
         self.put(planned.event(), out)?;
@@ -179,13 +207,12 @@ impl Flight {
 
     /// Writes the events before `t`.
     fn run_until<K: Sink>(&mut self, t: Tick, out: &mut K) -> Result<(), Fault>
-        requires { t.0 ≤ 1073741824 }
-        ensures { OnOk result (GoesOn self.old (K.given out.old) self.new (K.given out.new)) }
+        requires early { t.0 ≤ 1073741824 }
+        requires well { IsWell self.old.signal }
+        ensures { OnOk result (GoesOn self.old (K.given out.old) self.new (K.given out.new)
+            (due_before (sender_of self.old.signal) t.0) (moved_on (sender_of self.old.signal) t.0)) }
     {
-        while let Some(planned) = self.next() {
-            if planned.t() >= t {
-                break;
-            }
+        while let Some(planned) = self.next_before(t) {
             self.step(planned, out)?;
         }
         Ok(())
@@ -193,7 +220,9 @@ impl Flight {
 
     /// Writes all up to the time of a line.
     fn reach<K: Sink>(&mut self, t: Tick, out: &mut K) -> Result<(), Fault>
-        ensures goes_on { OnOk result (GoesOn self.old (K.given out.old) self.new (K.given out.new)) }
+        requires { IsWell self.old.signal }
+        ensures goes_on { OnOk result (GoesOn self.old (K.given out.old) self.new (K.given out.new)
+            (due_before (sender_of self.old.signal) t.0) (moved_on (sender_of self.old.signal) t.0)) }
         ensures early { OnOk result (t.0 ≤ 1073741824) }
     {
         if t < self.reached {
@@ -209,7 +238,10 @@ impl Flight {
 
     /// Writes all up to a line's time, and then does what the line says.
     pub fn act<K: Sink>(&mut self, t: Tick, action: Action, out: &mut K) -> Result<(), Fault>
-        ensures { OnOk result (GoesOn self.old (K.given out.old) self.new (K.given out.new)) }
+        requires sound { IsSoundAction action }
+        requires well { IsWell self.old.signal }
+        ensures { OnOk result (GoesOn self.old (K.given out.old) self.new (K.given out.new)
+            (due_by (sender_of self.old.signal) t.0 action) (sender_by (sender_of self.old.signal) t.0 action)) }
     {
         self.reach(t, out)?;
         match action {
@@ -228,7 +260,8 @@ impl Flight {
 
     /// Writes all up to a time, and ends the trace.
     pub fn end<K: Sink>(&mut self, t: Tick, out: &mut K) -> Result<(), Fault>
-        ensures { OnOk result (Ends self.old (K.given out.old) (K.given out.new)) }
+        requires { IsWell self.old.signal }
+        ensures { OnOk result (Ends self.old (K.given out.old) (K.given out.new) (due_before (sender_of self.old.signal) t.0) t.0) }
     {
         self.reach(t, out)?;
         match self.writer.end(t, out) {
@@ -239,70 +272,124 @@ impl Flight {
 
     /// What goes on from `t` on.
     fn set(&mut self, t: Tick, action: Action) -> Result<(), Expected>
-        requires { t.0 ≤ 1073741824 }
-        ensures { OnOk result (Sets self.old self.new) }
+        requires early { t.0 ≤ 1073741824 }
+        requires sound { IsSoundAction action }
+        requires well { IsWell self.old.signal }
+        ensures { OnOk result (Sets self.old self.new (at_once self.old.signal.mode t.0 action) (told (sender_of self.old.signal) t.0 action)) }
     {
         match action {
-            Action::Change(beat) => self.comparator.change(t, beat),
-            Action::Serial(bytes) => {
-                if self.serial.next().is_some() {
-                    return Err(Expected::QuietSerial);
-                }
-                self.serial.send(t, bytes);
+            Action::Change(beat) => {
+                self.comparator.change(t, beat);
+                Ok(())
             }
-            Action::Pulse(width) => {
-                if self.signal.mode != Mode::Servo {
-                    return Err(Expected::Pulses);
-                }
-                return self.repeat(t, Message::Pulse(width));
+            Action::Serial(bytes) => self.send_bytes(t, bytes),
+            Action::Pulse(width) => self.repeat_pulse(t, width),
+            Action::Off => {
+                self.signal.stop();
+                Ok(())
             }
-            Action::Off => self.signal.stop(),
-            Action::Noise(ticks) => {
-                if !self.signal.is_quiet() {
-                    return Err(Expected::QuietLine);
-                }
-                self.signal.make_noise(t, ticks);
-            }
-            action => return self.set_frames(t, action),
+            Action::Noise(ticks) => self.make_noise(t, ticks),
+            action => self.set_frames(t, action),
         }
+    }
+
+    /// Sends bytes on the serial line from `t` on.
+    fn send_bytes(&mut self, t: Tick, bytes: ArrayVec<u8, 263>) -> Result<(), Expected>
+        requires { IsWell self.old.signal }
+        ensures { OnOk result (Sets self.old self.new [] (sender_of self.old.signal)) }
+    {
+        if self.serial.next().is_some() {
+            return Err(Expected::QuietSerial);
+        }
+        self.serial.send(t, bytes);
+        Ok(())
+    }
+
+    /// Puts noise on the signal line.
+    fn make_noise(&mut self, t: Tick, ticks: u64) -> Result<(), Expected>
+        requires early { t.0 ≤ 1073741824 }
+        requires short { ticks ≤ 4294967296 }
+        requires well { IsWell self.old.signal }
+        ensures { OnOk result (Sets self.old self.new [] (told (sender_of self.old.signal) t.0 (Action.Noise ticks))) }
+    {
+        if !self.signal.is_quiet() {
+            return Err(Expected::QuietLine);
+        }
+        self.signal.make_noise(t, ticks);
         Ok(())
     }
 
     /// Sends a message again and again from `t` on.
     fn repeat(&mut self, t: Tick, message: Message) -> Result<(), Expected>
-        ensures { OnOk result (Sets self.old self.new) }
+        requires early { t.0 ≤ 1073741824 }
+        requires short { IsShort self.old.signal.period message }
+        requires well { IsWell self.old.signal }
+        ensures { OnOk result (Sets self.old self.new [] (says (sender_of self.old.signal) t.0 message)) }
     {
-        if !self.signal.repeats() && !self.signal.is_quiet() {
+        if !self.signal.may_repeat() {
             return Err(Expected::QuietLine);
         }
         self.signal.repeat(t, message);
         Ok(())
     }
 
+    /// Sends servo pulses from `t` on.
+    fn repeat_pulse(&mut self, t: Tick, width: u64) -> Result<(), Expected>
+        requires early { t.0 ≤ 1073741824 }
+        requires short { width ≤ 115200 }
+        requires well { IsWell self.old.signal }
+        ensures { OnOk result (Sets self.old self.new [] (says (sender_of self.old.signal) t.0 (Message.Pulse width))) }
+    {
+        match self.signal.mode {
+            Mode::Servo => self.repeat(t, Message::Pulse(width)),
+            _ => Err(Expected::Pulses),
+        }
+    }
+
     /// What frames are sent from `t` on.
     fn set_frames(&mut self, t: Tick, action: Action) -> Result<(), Expected>
-        requires { t.0 ≤ 1073741824 }
-        ensures { OnOk result (Sets self.old self.new) }
+        requires early { t.0 ≤ 1073741824 }
+        requires well { IsWell self.old.signal }
+        ensures { OnOk result (Sets self.old self.new (at_once self.old.signal.mode t.0 action) (told (sender_of self.old.signal) t.0 action)) }
     {
         if !self.signal.has_frames() {
             return Err(Expected::Frames);
         }
         match action {
-            Action::Send(payload) => return self.repeat(t, Message::Frame(payload)),
-            Action::Frame { payload, spoil } => {
-                if self.signal.repeats() || !self.signal.is_quiet() {
-                    return Err(Expected::FreeLine);
-                }
-                self.signal.send_frame(t, payload, spoil);
-            }
-            Action::Spoil(spoil) => {
-                if !self.signal.repeats() {
-                    return Err(Expected::Sender);
-                }
-                self.signal.spoil_next(spoil);
-            }
-            _ => {}
+            Action::Send(payload) => self.repeat(t, Message::Frame(payload)),
+            Action::Frame { payload, spoil } => self.send_frame(t, payload, spoil),
+            Action::Spoil(spoil) => self.spoil_next(spoil),
+            _ => Err(Expected::Action),
         }
+    }
+
+    /// Sends one frame at `t`.
+    fn send_frame(
+        &mut self,
+        t: Tick,
+        payload: Payload,
+        spoil: Option<Spoil>,
+    ) -> Result<(), Expected>
+        requires early { t.0 ≤ 1073741824 }
+        requires well { IsWell self.old.signal }
+        ensures { OnOk result (Sets self.old self.new (due_of self.old.signal.mode (Message.Frame payload) spoil t.0 ∷ []) (sender_of self.old.signal)) }
+    {
+        if !self.signal.is_free() {
+            return Err(Expected::FreeLine);
+        }
+        self.signal.send_frame(t, payload, spoil);
+        Ok(())
+    }
+
+    /// Something is wrong with the next of the repeated frames.
+    fn spoil_next(&mut self, spoil: Spoil) -> Result<(), Expected>
+        requires { IsWell self.old.signal }
+        ensures { OnOk result (Sets self.old self.new [] (told (sender_of self.old.signal) 0 (Action.Spoil spoil))) }
+    {
+        if !self.signal.repeats() {
+            return Err(Expected::Sender);
+        }
+        self.signal.spoil_next(spoil);
         Ok(())
     }
 }

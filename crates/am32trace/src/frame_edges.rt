@@ -1,5 +1,5 @@
 //! The edges of a frame, one after the other.
-ghost use Rattle.std.specs.Prelude.{◌≡◌, ◌≤◌, ◌<◌, ◌-◌, drop, slice_get};
+ghost use Rattle.std.specs.Prelude.{◌≡◌, ◌≤◌, ◌<◌, ◌-◌, ◌+◌, ◌*◌, drop, slice_get, All};
 ghost use Rattle.edge_capture.specs.Modes.{numbers};
 ghost use Rattle.dshot_frame.specs.Sent.{active_width, HasFrames};
 ghost use Rattle.am32trace.specs.Frames.{width_of};
@@ -22,13 +22,14 @@ fn active_width(bit: u32, is_one: bool) -> u32
 }
 
 impl FrameOut {
-    ghost use Rattle.am32trace.specs.Frames.{rest_of, first_edge, IsSent, IsSpoilt};
+    ghost use Rattle.am32trace.specs.Frames.{rest_of, first_edge, IsBefore, IsSent, IsSpoilt};
 
     /// A frame as it should be, from `start` on.
     pub fn whole(mode: Mode, start: Tick, payload: Payload) -> FrameOut
         requires { start.0 ≤ 1073741824 }
         ensures sent { HasFrames mode → IsSent mode start.0 payload.frame (rest_of result) }
         ensures begins { slice_get (rest_of result) 0 ≡ Some (first_edge mode start) }
+        ensures within { All (IsBefore (start.0 + 16 * (numbers mode).bit)) (rest_of result) }
     {
         FrameOut {
             mode,
@@ -46,6 +47,7 @@ impl FrameOut {
         requires { start.0 ≤ 1073741824 }
         ensures spoilt { HasFrames mode → IsSpoilt mode start.0 payload.frame spoil (rest_of result) }
         ensures begins { slice_get (rest_of result) 0 ≡ Some (first_edge mode start) }
+        ensures within { All (IsBefore (start.0 + 16 * (numbers mode).bit)) (rest_of result) }
     {
         let word = encode(payload.frame, mode_numbers(mode).inverted);
         FrameOut {

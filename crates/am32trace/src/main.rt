@@ -7,10 +7,14 @@ mod expected;
 mod flight;
 mod frame_edges;
 mod frame_out;
+mod grammar;
+mod laws;
+mod line_reader;
 mod noise;
 mod packet;
 mod run;
 mod script;
+mod script_lines;
 mod serial_line;
 mod signal_line;
 mod status;
@@ -20,6 +24,8 @@ mod usage;
 
 use esc_base::{InSource, OutSink};
 pub use expected::Expected;
+pub use grammar::{Grammar, ScriptWords};
+pub use laws::messages_keep_the_beat;
 pub use run::trace_main;
 pub use status::Status;
 use std::cell::Cell;
@@ -71,7 +77,7 @@ fn write_trace(rt: &HostRuntime) -> Status {
     let is_gone = Cell::new(false);
     let mut src = InSource::new(rt);
     let mut out = OutSink::new(PipeEnd::new(io::writer(rt), &is_gone));
-    let mut status = trace_main(&mut src, &mut out);
+    let mut status = trace_main(&ScriptWords {}, &mut src, &mut out);
     if out.flush().is_err() {
         status = Status::WriteFault;
     }

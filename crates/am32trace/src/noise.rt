@@ -1,4 +1,5 @@
 //! Noise on the signal line.
+ghost use Rattle.std.specs.Prelude.{◌≡◌, ◌≤◌, ◌+◌, IfSome};
 
 use esc_base::{Edge, Tick};
 
@@ -16,7 +17,12 @@ pub struct Noise {
 
 impl Noise {
     /// Noise from `t` on for so many ticks.
-    pub fn new(t: Tick, ticks: u64, rest: bool) -> Noise {
+    pub fn new(t: Tick, ticks: u64, rest: bool) -> Noise
+        requires early { t.0 ≤ 1073741824 }
+        requires short { ticks ≤ 4294967296 }
+        ensures until { result.until.0 ≡ t.0 + ticks }
+        ensures next { result.next.t.0 ≡ t.0 }
+    {
         Noise {
             next: Edge { t, level: !rest },
             until: Tick(t.0.saturating_add(ticks)),
@@ -26,7 +32,11 @@ impl Noise {
     }
 
     /// The noise behind its next edge, until the line rests again: the distance to the edge after that is 24 to 279 ticks.
-    pub fn after(self) -> Option<Noise> {
+    pub fn after(self) -> Option<Noise>
+        requires { self.next.t.0 ≤ self.until.0 }
+        ensures until { IfSome result (λ n. n.until ≡ self.until) }
+        ensures next { IfSome result (λ n. n.next.t.0 ≤ n.until.0) }
+    {
         if self.next.level == self.rest && self.next.t.0 >= self.until.0 {
             return None;
         }

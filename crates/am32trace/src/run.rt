@@ -1,23 +1,30 @@
-ghost use Rattle.std.specs.Prelude.{IfOk};
-ghost use Rattle.am32trace.specs.Flown.{Followed, IsFlight};
-ghost use Rattle.am32trace.specs.Status.{OnDone, IsUnfinished};
+ghost use Rattle.std.specs.Prelude.{◌≡◌, ◌≤◌, true, IfOk, IfSome};
+ghost use Rattle.esc_base.specs.Outside.{Rose};
+ghost use Rattle.am32trace.specs.Asked.{IsSound};
+ghost use Rattle.am32trace.specs.Line.{IsWell};
+ghost use Rattle.am32trace.specs.Script.{IsRest};
+ghost use Rattle.am32trace.specs.Flown.{Followed, IsFlown};
+ghost use Rattle.am32trace.specs.Status.{OnDone, OnReadFault, IsUnfinished};
 
 use crate::Status;
 use crate::action::Directive;
 use crate::expected::Expected;
 use crate::flight::{Fault, Flight};
-use crate::script::directive;
+use crate::grammar::Grammar;
+use crate::script_lines::ScriptLines;
 use esc_base::{Sink, Source};
-use trace_tools::{LineFault, TextLines};
+use trace_tools::LineFault;
 
 fn refused(line: u32, expected: Expected) -> Status
-    ensures { IsUnfinished result }
+    ensures unfinished { IsUnfinished result }
+    ensures no_read_fault { OnReadFault result ⊥ }
 {
     Status::Refused { line, expected }
 }
 
 fn status_of(line: u32, fault: Fault) -> Status
-    ensures { IsUnfinished result }
+    ensures unfinished { IsUnfinished result }
+    ensures no_read_fault { OnReadFault result ⊥ }
 {
     match fault {
         Fault::Expected(expected) => refused(line, expected),
@@ -25,30 +32,36 @@ fn status_of(line: u32, fault: Fault) -> Status
     }
 }
 
-/// Follows one line of a script, and answers whether the flight has ended.
-fn follow<K: Sink>(flight: &mut Flight, line: &[u8], out: &mut K) -> Result<bool, Fault>
-    ensures { IfOk result (λ ended. Followed ended flight.old (K.given out.old) flight.new (K.given out.new)) }
+/// Follows what a line asks for, and answers whether the flight has ended.
+fn follow<K: Sink>(
+    flight: &mut Flight,
+    asked: Option<Directive>,
+    out: &mut K,
+) -> Result<bool, Fault>
+    requires sound { IfSome asked IsSound }
+    requires well { IsWell flight.old.signal }
+    ensures { IfOk result (λ ended. Followed ended asked flight.old (K.given out.old) flight.new (K.given out.new)) }
 {
-    match directive(line) {
-        Ok(None) => Ok(false),
-        Ok(Some(Directive::Signal { mode, period })) => {
+    match asked {
+        None => Ok(false),
+        Some(Directive::Signal { mode, period }) => {
             flight.set_signal(mode, period, out)?;
             Ok(false)
         }
-        Ok(Some(Directive::At { t, action })) => {
+        Some(Directive::At { t, action }) => {
             flight.act(t, action, out)?;
             Ok(false)
         }
-        Ok(Some(Directive::End { t })) => {
+        Some(Directive::End { t }) => {
             flight.end(t, out)?;
             Ok(true)
         }
-        Err(expected) => Err(Fault::Expected(expected)),
     }
 }
 
 fn line_fault(line: u32, fault: LineFault) -> Status
-    ensures { IsUnfinished result }
+    ensures unfinished { IsUnfinished result }
+    ensures source { OnReadFault result (fault ≡ LineFault.Source) }
 {
     match fault {
         LineFault::Source => Status::ReadFault,
@@ -57,15 +70,23 @@ fn line_fault(line: u32, fault: LineFault) -> Status
 }
 
 /// Reads what stands behind `end`: blank lines and comments.
-fn read_rest<S: Source>(lines: &mut TextLines, from: u32, src: &mut S) -> Status {
+fn read_rest<G: Grammar, S: Source>(
+    grammar: &G,
+    lines: &mut ScriptLines,
+    from: u32,
+    src: &mut S,
+) -> Status
+    ensures done { OnDone result (IsRest (G.says grammar.now) lines.old (S.left src.old) lines.new (S.left src.new)) }
+    ensures no_fewer { S.faults src.old ≤ S.faults src.new }
+    ensures read_fault { OnReadFault result (Rose (S.faults src.old) (S.faults src.new)) }
+{
     for line in from..u32::MAX {
         match lines.next(src) {
             Ok(false) => return Status::Done,
-            Ok(true) => {
-                if !matches!(directive(lines.line()), Ok(None)) {
-                    return refused(line, Expected::NoLine);
-                }
-            }
+            Ok(true) => match grammar.directive(lines.line()) {
+                Ok(None) => {}
+                _ => return refused(line, Expected::NoLine),
+            },
             Err(fault) => return line_fault(line, fault),
         }
     }
@@ -73,18 +94,24 @@ fn read_rest<S: Source>(lines: &mut TextLines, from: u32, src: &mut S) -> Status
 }
 
 /// Writes the trace of the flight that a script describes.
-pub fn trace_main<S: Source, K: Sink>(src: &mut S, out: &mut K) -> Status
-    ensures done { OnDone result (IsFlight (K.given out.old) (K.given out.new)) }
+pub fn trace_main<G: Grammar, S: Source, K: Sink>(grammar: &G, src: &mut S, out: &mut K) -> Status
+    // The whole script was read, and what was written is the trace of the flight that its lines ask for.
+    ensures done { OnDone result (IsFlown (G.says grammar.now) (S.left src.old) (K.given out.old) (K.given out.new)) }
+    // A read fault is the source's own.
+    ensures read_fault { OnReadFault result (Rose (S.faults src.old) (S.faults src.new)) }
 {
-    let mut lines = TextLines::new();
+    let mut lines = ScriptLines::new();
     let mut flight = Flight::new();
     for line in 1..u32::MAX {
         match lines.next(src) {
             Ok(false) => return refused(line, Expected::End),
-            Ok(true) => match follow(&mut flight, lines.line(), out) {
-                Ok(false) => {}
-                Ok(true) => return read_rest(&mut lines, line + 1, src),
-                Err(fault) => return status_of(line, fault),
+            Ok(true) => match grammar.directive(lines.line()) {
+                Ok(asked) => match follow(&mut flight, asked, out) {
+                    Ok(false) => {}
+                    Ok(true) => return read_rest(grammar, &mut lines, line + 1, src),
+                    Err(fault) => return status_of(line, fault),
+                },
+                Err(expected) => return refused(line, expected),
             },
             Err(fault) => return line_fault(line, fault),
         }

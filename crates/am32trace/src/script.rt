@@ -1,5 +1,6 @@
 //! The lines of a script, read.
-ghost use Rattle.std.specs.Prelude.{◌≤◌, IfOk};
+ghost use Rattle.std.specs.Prelude.{◌≤◌, ℕ, IfOk, IfSome};
+ghost use Rattle.am32trace.specs.Asked.{IsRate, IsSound, IsSoundAction};
 
 use crate::action::{Action, Directive};
 use crate::comparator::Beat;
@@ -13,7 +14,9 @@ use trace_text::number_in;
 use trace_tools::{Words, duration_in};
 
 /// What a line asks for; nothing where it is blank or a comment.
-pub fn directive(line: &[u8]) -> Result<Option<Directive>, Expected> {
+pub fn directive(line: &[u8]) -> Result<Option<Directive>, Expected>
+    ensures { IfOk result (λ d. IfSome d IsSound) }
+{
     let mut words = Words::of(line);
     let Some(first) = words.next() else {
         return Ok(None);
@@ -31,7 +34,9 @@ pub fn directive(line: &[u8]) -> Result<Option<Directive>, Expected> {
 }
 
 /// What happens at `t`.
-fn timed(t: Tick, words: &mut Words) -> Result<Directive, Expected> {
+fn timed(t: Tick, words: &mut Words) -> Result<Directive, Expected>
+    ensures { IfOk result IsSound }
+{
     match words.next() {
         Some(b"end") => Ok(Directive::End { t }),
         Some(word) => Ok(Directive::At {
@@ -42,11 +47,21 @@ fn timed(t: Tick, words: &mut Words) -> Result<Directive, Expected> {
     }
 }
 
-fn time(words: &mut Words) -> Result<u64, Expected> {
-    words
-        .next()
-        .and_then(|word| duration_in(word))
-        .ok_or(Expected::Duration)
+/// The longest duration that a word says, in ticks.
+const LONGEST: u64 = 4294967296;
+
+fn time(words: &mut Words) -> Result<u64, Expected>
+    ensures { IfOk result (λ t. t ≤ 4294967296) }
+{
+    match words.next().and_then(|word| duration_in(word)) {
+        Some(ticks) => {
+            if ticks > LONGEST {
+                return Err(Expected::Duration);
+            }
+            Ok(ticks)
+        }
+        None => Err(Expected::Duration),
+    }
 }
 
 fn number(words: &mut Words, low: u32, high: u32, expected: Expected) -> Result<u32, Expected>
@@ -73,7 +88,9 @@ const RIGHT: Spoil = Spoil {
 // ---- the signal
 
 /// The least ticks from one message to the next: 31.25 us, 62.5 us and 2.5 ms.
-fn least_period(mode: Mode) -> u64 {
+fn least_period(mode: Mode) -> u64
+    ensures { (period : ℕ) → result ≤ period → period ≤ 4294967296 → IsRate mode period }
+{
     match mode {
         Mode::D600 | Mode::D600Inv => 1500,
         Mode::D300 | Mode::D300Inv => 3000,
@@ -89,7 +106,9 @@ fn inverted(mode: Mode) -> Mode {
     }
 }
 
-fn signal(words: &mut Words) -> Result<Directive, Expected> {
+fn signal(words: &mut Words) -> Result<Directive, Expected>
+    ensures { IfOk result IsSound }
+{
     let kind = match words.next() {
         Some(b"dshot300") => Mode::D300,
         Some(b"dshot600") => Mode::D600,
@@ -112,7 +131,9 @@ fn signal(words: &mut Words) -> Result<Directive, Expected> {
 
 // ---- what happens at a time
 
-fn action(word: &[u8], words: &mut Words) -> Result<Action, Expected> {
+fn action(word: &[u8], words: &mut Words) -> Result<Action, Expected>
+    ensures { IfOk result IsSoundAction }
+{
     match word {
         b"throttle" => throttle(words),
         b"command" => {
@@ -135,7 +156,9 @@ fn action(word: &[u8], words: &mut Words) -> Result<Action, Expected> {
     }
 }
 
-fn throttle(words: &mut Words) -> Result<Action, Expected> {
+fn throttle(words: &mut Words) -> Result<Action, Expected>
+    ensures { IfOk result IsSoundAction }
+{
     let value = number(words, 0, 2047, Expected::Throttle)? as u16;
     if 0 < value && value < 48 {
         return Err(Expected::Throttle);
@@ -146,6 +169,7 @@ fn throttle(words: &mut Words) -> Result<Action, Expected> {
 /// Frames with this value, with a telemetry request where the line says so.
 fn repeated(words: &mut Words, value: u16) -> Result<Action, Expected>
     requires { value ≤ 2047 }
+    ensures { IfOk result IsSoundAction }
 {
     let telemetry = match words.next() {
         None => false,
@@ -157,7 +181,9 @@ fn repeated(words: &mut Words, value: u16) -> Result<Action, Expected>
     }))
 }
 
-fn pulse(words: &mut Words) -> Result<Action, Expected> {
+fn pulse(words: &mut Words) -> Result<Action, Expected>
+    ensures { IfOk result IsSoundAction }
+{
     let width = time(words)?;
     if width < 48 || width > 115200 {
         return Err(Expected::Width);
@@ -165,7 +191,9 @@ fn pulse(words: &mut Words) -> Result<Action, Expected> {
     Ok(Action::Pulse(width))
 }
 
-fn frame(words: &mut Words) -> Result<Action, Expected> {
+fn frame(words: &mut Words) -> Result<Action, Expected>
+    ensures { IfOk result IsSoundAction }
+{
     let value = number(words, 0, 2047, Expected::Value)? as u16;
     let mut telemetry = false;
     let mut spoil = None;
@@ -221,7 +249,9 @@ fn level(words: &mut Words) -> Result<bool, Expected> {
     }
 }
 
-fn comparator(words: &mut Words) -> Result<Action, Expected> {
+fn comparator(words: &mut Words) -> Result<Action, Expected>
+    ensures { IfOk result IsSoundAction }
+{
     match words.next() {
         Some(b"high") => Ok(Action::Hold(true)),
         Some(b"low") => Ok(Action::Hold(false)),
@@ -293,7 +323,9 @@ fn address(word: &[u8]) -> Option<u16> {
     }
 }
 
-fn packet(words: &mut Words) -> Result<Action, Expected> {
+fn packet(words: &mut Words) -> Result<Action, Expected>
+    ensures { IfOk result IsSoundAction }
+{
     let cmd = words.next().and_then(|word| byte(word));
     let addr = words.next().and_then(|word| address(word));
     let (Some(cmd), Some(addr)) = (cmd, addr) else {
@@ -306,7 +338,9 @@ fn packet(words: &mut Words) -> Result<Action, Expected> {
     }
 }
 
-fn stall(words: &mut Words) -> Result<Action, Expected> {
+fn stall(words: &mut Words) -> Result<Action, Expected>
+    ensures { IfOk result IsSoundAction }
+{
     let ticks = time(words)?;
     if ticks < 1 || ticks > 16777216 {
         return Err(Expected::Stall);

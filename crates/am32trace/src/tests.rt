@@ -10,7 +10,7 @@ fn refused(line: u32, expected: Expected) -> Status {
 fn outcome(rt: &HostRuntime, script: &str, wanted: &str) -> Result<(Status, bool), Fail> {
     let mut src = MemSource::new(rt.alloc(), script.as_bytes(), 7, &[])?;
     let mut out = MemSink::new(rt.alloc(), 10000, &[])?;
-    let status = trace_main(&mut src, &mut out);
+    let status = trace_main(&ScriptWords {}, &mut src, &mut out);
     Ok((status, out.given() == wanted.as_bytes()))
 }
 
@@ -193,10 +193,16 @@ fn faults_have_statuses_of_their_own(rt: HostRuntime) -> Result<(), Fail> {
     let script = b"0us line high\n1us end\n";
     let mut src = MemSource::new(rt.alloc(), script, 5, &[2])?;
     let mut out = MemSink::new(rt.alloc(), 100, &[])?;
-    assert_eq!(rt; trace_main(&mut src, &mut out), Status::ReadFault);
+    assert_eq!(rt;
+        trace_main(&ScriptWords {}, &mut src, &mut out),
+        Status::ReadFault
+    );
     let mut src = MemSource::new(rt.alloc(), script, 5, &[])?;
     let mut out = MemSink::new(rt.alloc(), 100, &[2])?;
-    assert_eq!(rt; trace_main(&mut src, &mut out), Status::WriteFault);
+    assert_eq!(rt;
+        trace_main(&ScriptWords {}, &mut src, &mut out),
+        Status::WriteFault
+    );
     assert_eq!(rt; out.given(), b"0 E 1\n".as_slice());
     assert_eq!(rt; Status::WriteFault.exit_number(), 4);
     Ok(())

@@ -2,6 +2,6 @@ use Rattle.am32trace.proofs.Flying.{flight_ends}
 use Rattle.am32trace.proofs.flight.Flight.end.Goals as goal
 
 pub returns-in-Ok : goal.returns-in-Ok
-returns-in-Ok g c = λ first k.
-    flight_ends c.reach.new.self (g.K.Sink.given c.reach.new.out) (g.K.Sink.given c.end.new.out) c.args.t.0 c.in-Ok.ensures.ok first
-    (c.in_ok-reach.ensures.goes_on first k)
+returns-in-Ok g c =
+    flight_ends c.args.self.now c.reach.new.self (g.K.Sink.given c.args.out.now) (g.K.Sink.given c.reach.new.out) (g.K.Sink.given c.end.new.out) c.args.t.0
+    _ _ c.in_ok-reach.ensures.goes_on c.in-Ok.ensures.ok

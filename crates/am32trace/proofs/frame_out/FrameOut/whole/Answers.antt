@@ -1,6 +1,6 @@
-use Rattle.std.proofs.Common.{refl, sym, arith}
+use Rattle.std.proofs.Common.{None, refl, sym, arith}
 use Rattle.edge_capture.specs.Modes.{numbers}
-use Rattle.am32trace.proofs.Edges.{is_sent, begins_bit}
+use Rattle.am32trace.proofs.Edges.{within_frame, is_sent, begins_bit}
 use Rattle.am32trace.proofs.frame_out.FrameOut.whole.Goals as goal
 
 pub returns-clause-sent : goal.returns-clause-sent
@@ -11,3 +11,6 @@ returns-clause-sent c = λ frames.
 pub returns-clause-begins : goal.returns-clause-begins
 returns-clause-begins c =
     begins_bit (numbers c.args.mode).bit (numbers c.args.mode).inverted _ c.args.start.0 _ 16 32 (omega arith) (omega arith)
+
+pub returns-clause-within : goal.returns-clause-within
+returns-clause-within c = within_frame c.args.mode None c.args.start.0 _ 32

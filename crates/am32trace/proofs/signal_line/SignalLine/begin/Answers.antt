@@ -1,17 +1,24 @@
-use Rattle.std.proofs.Common.{◌∙◌, ap, Some}
-use Rattle.am32trace.specs.Line.{left_of}
-use Rattle.am32trace.specs.Frames.{rest_of}
-use Rattle.am32trace.proofs.Begun.{edge_is, no_message, frame_first, pulse_begun}
+use Rattle.std.proofs.Common.{◌≡◌, ◌≤◌, ◌+◌, ℕ, sym, subst, Option, arith}
+use Rattle.std.specs.Prelude.{IfSome, All}
+use Rattle.am32trace.specs.declared.signal_line.Repeated.{Repeated}
+use Rattle.am32trace.specs.Frames.{IsBefore}
+use Rattle.am32trace.specs.Line.{left_of, pending, IsReady}
+use Rattle.am32trace.proofs.Begun.{next_is}
 use Rattle.am32trace.proofs.signal_line.SignalLine.begin.Goals as goal
 
-pub returns-in-None : goal.returns-in-None
-returns-in-None c = no_message c.args.self.now.mode c.args.self.now.repeated c.args.edge _ c.in-None.is c.requires.next
-
-pub returns-in-Frame : goal.returns-in-Frame
-returns-in-Frame c =
-    let e = edge_is c.args.self.now.mode c.args.self.now.repeated c.in-Some.repeated c.args.edge c.in-Some.is c.requires.next in
-    frame_first c.args.edge (rest_of c.frame_at.result) (left_of c.after_edge.result)
-    (c.frame_at.ensures.begins ∙ ap (λ x. Some x) e) c.frame_at.ensures.sent c.after_edge.ensures
-
-pub returns-in-Pulse : goal.returns-in-Pulse
-returns-in-Pulse c = pulse_begun c.args.edge _
+pub returns-clause-well : goal.returns-clause-well
+returns-clause-well c =
+    let l = c.args.self.now in
+    let r = c.in-Some.repeated in
+    let well = c.requires.well in
+    let ready : IsReady l.period (pending l) r = subst (λ (o : Option Repeated). IfSome o (IsReady l.period (pending l))) c.in-Some.is well.ready in
+    let at : r.next.0 ≡ c.args.edge.t.0 = next_is l.mode l.repeated r c.args.edge c.in-Some.is c.requires.next in
+    let most = well.rate.most in
+    let sum : c.saturating_add.result ≡ r.next.0 + l.period = omega (arith, c.saturating_add.ensures, at, most, c.requires.early) in
+    let near : c.saturating_add.result ≤ 17179869184 = omega (arith, sum, at, most, c.requires.early) in
+    let apart = c.first_sent-self.ensures.within l.period well.rate.frames ready.short in
+    record {
+      rate = well.rate;
+      on = c.first_sent-self.ensures.on;
+      ready = record { short = ready.short; near = near; apart = subst (λ (n : ℕ). All (IsBefore n) (left_of c.first_sent-self.result)) (sym sum) apart };
+    }
