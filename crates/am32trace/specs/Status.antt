@@ -1,8 +1,8 @@
 -- How the program ended.
 use Rattle.am32trace.specs.declared.status.Status.{Status}
 use Rattle.am32trace.specs.declared.status.Status.TheVariants as status
-use Rattle.trace_tools.specs.declared.line_reader.LineFault.{LineFault}
-use Rattle.trace_tools.specs.declared.line_reader.LineFault.TheVariants as fault
+use Rattle.am32trace.specs.declared.line_reader.LineFault.{LineFault}
+use Rattle.am32trace.specs.declared.line_reader.LineFault.TheVariants as fault
 
 -- a fact where the whole script was followed
 abbrev pub OnDone : Status → Type 0 → Type 0

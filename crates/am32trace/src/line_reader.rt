@@ -10,10 +10,18 @@ use crate::script_lines::ScriptLines;
 use arrayvec::ArrayVec;
 use esc_base::Source;
 use trace_text::Held;
-use trace_tools::LineFault;
 
 /// The most bytes of a line.
 const LONGEST_LINE: usize = 1200;
+
+/// Why there is no next line.
+#[derive(Clone, Copy, Debug, PartialEq, Eq, Drop)]
+pub enum LineFault {
+    /// The source failed.
+    Source,
+    /// The line has more than 1200 bytes.
+    TooLong,
+}
 
 impl ScriptLines {
     /// Before the first line.

@@ -11,9 +11,9 @@ use crate::action::Directive;
 use crate::expected::Expected;
 use crate::flight::{Fault, Flight};
 use crate::grammar::Grammar;
+use crate::line_reader::LineFault;
 use crate::script_lines::ScriptLines;
 use esc_base::{Sink, Source};
-use trace_tools::LineFault;
 
 fn refused(line: u32, expected: Expected) -> Status
     ensures unfinished { IsUnfinished result }

@@ -1,5 +1,5 @@
 use super::*;
-use esc_base::{Event, MemSink, MemSource, Tick};
+use esc_base::{Event, MemSink, Tick};
 use std::test::Fail;
 
 #[test]
@@ -34,20 +34,6 @@ fn durations_are_rounded_to_the_nearest_tick(rt: HostRuntime) {
     for (word, ticks) in &DURATIONS {
         assert_eq!(rt; duration_in(word.as_bytes()), *ticks, "{word}");
     }
-}
-
-#[test]
-fn lines_may_end_in_any_way(rt: HostRuntime) -> Result<(), Fail> {
-    let mut src = MemSource::new(rt.alloc(), b"ab\r\n\ncd", 1, &[])?;
-    let mut lines = TextLines::new();
-    assert_eq!(rt; lines.next(&mut src), Ok(true));
-    assert_eq!(rt; lines.line(), b"ab".as_slice());
-    assert_eq!(rt; lines.next(&mut src), Ok(true));
-    assert_eq!(rt; lines.line(), b"".as_slice());
-    assert_eq!(rt; lines.next(&mut src), Ok(true));
-    assert_eq!(rt; lines.line(), b"cd".as_slice());
-    assert_eq!(rt; lines.next(&mut src), Ok(false));
-    Ok(())
 }
 
 fn edge(t: u64, level: bool) -> Event {
