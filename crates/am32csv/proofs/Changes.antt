@@ -1,12 +1,12 @@
 -- The changes of the line that were written, one by one.
-use Rattle.std.proofs.Common.{◌≡◌, ℕ, Bool, true, false, not, List, [], ◌∷◌, ◌++◌, Option, refl, sym, ◌∙◌, ap, subst}
+use Rattle.std.proofs.Common.{◌≡◌, ℕ, Bool, true, false, not, List, [], ◌∷◌, ◌++◌, Option, refl, sym, ◌∙◌, ap}
 use mathlib.Core.Bool.{beq}
 use Rattle.esc_base.specs.declared.tick.Tick.{Tick}
 use Rattle.esc_base.specs.declared.event.Event.{Event}
 use Rattle.esc_base.specs.declared.event.Event.TheVariants as event
-use Rattle.trace_tools.specs.Written.{HasWritten, IsTrace}
+use Rattle.trace_tools.specs.Written.{HasWritten}
 use Rattle.am32csv.specs.declared.capture.Capture.{Capture}
-use Rattle.am32csv.specs.Captured.{AreChanges, level_behind, Keeps, GoesOn, Ends}
+use Rattle.am32csv.specs.Captured.{AreChanges, level_behind, Keeps, GoesOn}
 
 changes_more : (level : Bool) (events : List Event) (t : Tick) (changed : Bool) → AreChanges level events → changed ≡ not (level_behind level events)
     → AreChanges level (events ++ event.Edge t changed ∷ [])
@@ -35,15 +35,6 @@ one_change c d a b t level w other same first k = record {
   written = w first k.events k.written;
   changes = changes_more false k.events t level k.changes (other ∙ ap not k.level);
   level = same ∙ sym (level_more false k.events t level);
-}
-
--- nothing was written
-pub no_change : (c d : Capture) (a : Option (List ℕ)) → d.writer ≡ c.writer → d.written ≡ c.written → GoesOn c a d a
-no_change c d a w same first k = record {
-  events = k.events;
-  written = subst (λ x. HasWritten x first a k.events) (sym w) k.written;
-  changes = k.changes;
-  level = same ∙ k.level;
 }
 
 pub other_level : (a b : Bool) → beq a b ≡ false → a ≡ not b

@@ -46,10 +46,6 @@ pub frame_first : (e : Edge) (frame left : List Edge) (due : List Due) → slice
 frame_first e frame left due first begins rest =
     subst (λ (xs : List Edge). Begins [] xs due) (sym (ap (λ (xs : List Edge). e ∷ xs) rest ∙ first_and_rest e frame first)) begins
 
--- the next edge of a frame was sent
-pub frame_next : (e : Edge) (frame left : List Edge) → slice_get frame 0 ≡ Some e → left ≡ drop 1 frame → Adds e frame left []
-frame_next e frame left first rest = nothing_begun frame (e ∷ left) (ap (λ (xs : List Edge). e ∷ xs) rest ∙ first_and_rest e frame first)
-
 -- a pulse has risen
 pub pulse_begun : (e : Edge) (width : ℕ) → Adds e [] (record { t = record { 0 = e.t.0 + width }; level = false } ∷ []) (PulseAt e.t.0 width ∷ [])
 pulse_begun e width = one_begun (Pulse e width) (e ∷ record { t = record { 0 = e.t.0 + width }; level = false } ∷ []) tt refl
@@ -57,16 +53,6 @@ pulse_begun e width = one_begun (Pulse e width) (e ∷ record { t = record { 0 =
 -- an edge of noise
 pub noise_edge : (e : Edge) (left : List Edge) → left ≡ [] → Adds e [] left []
 noise_edge e left none = one_begun (Noise e) (e ∷ left) tt (ap (λ (xs : List Edge). e ∷ xs) none)
-
--- the next message begins with its first edge
-pub edge_is : (m : Mode) (o : Option Repeated) (r : Repeated) (e : Edge) → o ≡ Some r → next_message m o ≡ Some e → first_edge m e.t ≡ e
-edge_is m o r e is h =
-    let at : next_message m (Some r) ≡ Some e = subst (λ (x : Option Repeated). next_message m x ≡ Some e) is h in
-    let same : first_edge m r.next ≡ e = cc in
-    ap (λ (x : Edge). first_edge m x.t) (sym same) ∙ same
-
-pub no_message : (m : Mode) (o : Option Repeated) (e : Edge) (P : Type 0) → o ≡ None → next_message m o ≡ Some e → P
-no_message m o e P is h = let at : next_message m None ≡ Some e = subst (λ (x : Option Repeated). next_message m x ≡ Some e) is h in absurd (cc)
 
 -- no edge comes later than the last one
 raise : (n more : ℕ) (xs : List Edge) → n ≤ more → All (IsBefore n) xs → All (IsBefore more) xs

@@ -123,16 +123,6 @@ sets_other f g writer same well = record {
   is = ap sender_of same;
 }
 
--- another sender, and nothing has begun
-pub sets_sender : (f g : Flight) (s : Sender) → g.writer ≡ f.writer → pending g.signal ≡ pending f.signal → sender_of g.signal ≡ s → IsWell g.signal
-    → Sets f g [] s
-sets_sender f g s writer same is well = record {
-  writer = writer;
-  begins = nothing_begun (pending f.signal) (pending g.signal) same;
-  well = well;
-  is = is;
-}
-
 pub goes_on_both : (f g h : Flight) (a b c : Option (List ℕ)) (due more both : List Due) (s t : Sender) → GoesOn f a g b due s → GoesOn g b h c more t
     → due ++ more ≡ both → GoesOn f a h c both t
 goes_on_both f g h a b c due more both s t x y e = record {

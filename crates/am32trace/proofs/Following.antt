@@ -1,6 +1,6 @@
 -- The lines of a script are followed, one after the other.
 use Rattle.std.specs.Option.{option_to_list}
-use Rattle.std.proofs.Common.{◌≡◌, Some, None, ℕ, List, [], ◌∷◌, ◌++◌, Option, refl, sym, ◌∙◌, ap, subst, append_assoc}
+use Rattle.std.proofs.Common.{◌≡◌, Some, ℕ, List, [], ◌∷◌, ◌++◌, Option, refl, sym, ◌∙◌, ap, subst, append_assoc}
 use Rattle.esc_base.specs.declared.tick.Tick.{Tick}
 use Rattle.esc_base.specs.declared.signal.Mode.{Mode}
 use Rattle.am32trace.specs.declared.action.Action.{Action}
@@ -10,7 +10,6 @@ use Rattle.am32trace.specs.declared.flight.Flight.{Flight}
 use Rattle.am32trace.specs.Asked.{Due, at_rest, Sender, asked_by, no_signal, fresh, due_by, sender_by, due_before}
 use Rattle.am32trace.specs.Line.{sender_of, IsWell}
 use Rattle.am32trace.specs.Flown.{Keeps, GoesOn, Ends, Follows, IsLast, IsFlight}
-use Rattle.am32trace.proofs.Flying.{nowhere}
 
 -- what these lines ask for was followed
 pub record Under (asked : List Directive) (f : Flight) (first now : Option (List ℕ)) : Type 0 where
@@ -79,9 +78,6 @@ action_line f g a b t y x = record {
       action_asks (sender_of f.signal) t y lines
       ∙ ap (λ (s : Sender). due_by (sender_of f.signal) t.0 y ++ asked_by s lines) (sym x.is);
 }
-
-pub blank_line : (f : Flight) (a : Option (List ℕ)) → IsWell f.signal → Follows None f a f a
-blank_line f a well = record { due = []; goes_on = nowhere f a well; adds = λ lines. refl }
 
 pub end_line : (f : Flight) (a b : Option (List ℕ)) (t : Tick) → Ends f a b (due_before (sender_of f.signal) t.0) t.0 → IsLast (Some (line.End t)) f a b
 end_line f a b t x = record { end = t; is = refl; ends = x }

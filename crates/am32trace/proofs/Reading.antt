@@ -1,10 +1,9 @@
 -- The lines of a script are read, and what they ask for is followed.
 use Rattle.std.specs.Option.{option_to_list}
 use Rattle.std.specs.List.{AllZip}
-use Rattle.std.proofs.Common.{◌≡◌, ◌≤◌, inl, inr, true, Bool, None, ℕ, List, [], ◌∷◌, ◌++◌, Option, refl, sym, ◌∙◌, ap, subst, append_assoc, append-nil, arith}
+use Rattle.std.proofs.Common.{◌≡◌, true, Bool, None, ℕ, List, [], ◌∷◌, ◌++◌, Option, refl, sym, ◌∙◌, ap, subst, append_assoc, append-nil}
 use Rattle.std.proofs.lemmas.Grind.{flat_map-append}
 use Rattle.std.proofs.lemmas.Slice.Zip.{all_zipped_more}
-use Rattle.esc_base.specs.Outside.{Rose}
 use Rattle.trace_text.specs.Ahead.{ahead}
 use Rattle.am32trace.specs.declared.action.Directive.{Directive}
 use Rattle.am32trace.specs.declared.flight.Flight.{Flight}
@@ -19,11 +18,6 @@ both_zip R [] us [] vs h k = k
 both_zip R [] us (y ∷ ys) vs h k = absurd h
 both_zip R (x ∷ xs) us [] vs h k = absurd h
 both_zip R (x ∷ xs) us (y ∷ ys) vs h k = (h.0, both_zip R xs us ys vs h.1 k)
-
--- a later failure is one since an earlier time
-pub rose_since : (a b c : ℕ) → a ≤ b → Rose b c → Rose a c
-rose_since a b c le (inl less) = inl (omega (arith, le, less))
-rose_since a b c le (inr most) = grind (arith, le, most.0, most.1)
 
 -- ---- lines that ask for nothing
 pub record Rest (says : List ℕ → Option Directive → Type 0) (l : ScriptLines) (before : Option (List ℕ))
