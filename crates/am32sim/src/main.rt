@@ -25,6 +25,7 @@ pub use status::{Status, status_text};
 use std::cell::Cell;
 use std::process::ExitCode;
 use std::{env, io};
+use trace_runner::Room;
 use trace_tools::PipeEnd;
 use usage::usage_text;
 pub use words::{Asked, Words};
@@ -54,7 +55,10 @@ fn command<S: Source, K: Sink>(rt: &HostRuntime, src: &mut S, out: &mut K) -> St
     let Ok(mut flash) = FileFlash::new(rt, rt.alloc()) else {
         return Status::NoMemory;
     };
-    sim_main(&words, src, out, &mut flash)
+    let Ok(room) = Room::new(rt.alloc()) else {
+        return Status::NoMemory;
+    };
+    sim_main(&words, src, out, &mut flash, room)
 }
 
 /// Says on standard error how the run ended, and after `Usage` how the program is used.

@@ -15,7 +15,7 @@ use crate::show::show_text;
 use crate::{Status, Words};
 use esc_base::{FlashDev, Sink, Source};
 use settings_block::{Loaded, load};
-use trace_runner::{RunConfig, Runner, WriteFault};
+use trace_runner::{Room, RunConfig, Runner, WriteFault};
 use trace_text::{Item, Lines};
 
 /// Runs the core with the loaded settings on the trace that the source gives, and writes the journal. An `Err` is the
@@ -26,6 +26,7 @@ fn run<S: Source, K: Sink, F: FlashDev>(
     src: &mut S,
     out: &mut K,
     flash: &mut F,
+    room: Room,
 ) -> Result<Status, WriteFault>
     requires some { 1 ≤ cfg.cost }
     requires most { cfg.cost ≤ 16 }
@@ -38,7 +39,7 @@ fn run<S: Source, K: Sink, F: FlashDev>(
         (K.given out.old) (K.given out.new)) }
     ensures write_fault { OnErr result (Rose (K.faults out.old) (K.faults out.new)) }
 {
-    let mut runner = Runner::start(cfg, loaded);
+    let mut runner = Runner::start(cfg, loaded, room);
     runner.begin(out)?;
     let mut lines = Lines::new();
     loop {
@@ -82,6 +83,7 @@ pub fn sim_main<S: Source, K: Sink, F: FlashDev>(
     src: &mut S,
     out: &mut K,
     flash: &mut F,
+    room: Room,
 ) -> Status
     // Words that ask for nothing are refused, and no others, before anything is read, written or loaded.
     ensures usage { (result ≡ Status.Usage) ↔ (asked words.now ≡ None) }
@@ -115,7 +117,7 @@ pub fn sim_main<S: Source, K: Sink, F: FlashDev>(
         return Status::AttachFault;
     };
     match asked.command {
-        Command::Run => match run(asked.config(), loaded, src, out, flash) {
+        Command::Run => match run(asked.config(), loaded, src, out, flash, room) {
             Ok(status) => status,
             Err(WriteFault) => Status::WriteFault,
         },

@@ -98,9 +98,14 @@ asked_at (n ∷ back) = asked_at back
 abbrev pub fuse_at : List Note → Bool
 fuse_at back = false
 
--- 4, session: so far no packet stands in a journal
+-- 4, session: a four-way session is active. An acknowledged 37 begins one, and an acknowledged 34 or 35 ends it
+abbrev pub session_next : ℕ → Bool → Bool
+session_next cc active = if cc == 0x37 then true else (if (cc == 0x34) || (cc == 0x35) then false else active)
+
 abbrev pub session_at : List Note → Bool
-session_at back = false
+session_at [] = false
+session_at (note.Packet t cc kk ∷ back) = if kk == 0 then session_next cc (session_at back) else session_at back
+session_at (n ∷ back) = session_at back
 
 abbrev pub marks_at : List Note → ℕ
 marks_at back = (if stuck_at back then 1 else 0) + (if fuse_at back then 2 else 0) + (if session_at back then 4 else 0)

@@ -13,6 +13,13 @@ pub enum Event {
     Stall { t: Tick, n: u32 },
 }
 
+/// A serial byte, and when it arrived.
+#[derive(Clone, Copy, Debug, PartialEq, Eq, Drop)]
+pub struct Received {
+    pub t: Tick,
+    pub byte: u8,
+}
+
 /// Whether a serial byte was kept.
 #[derive(Clone, Copy, Debug, PartialEq, Eq, Drop)]
 pub enum Arrived {

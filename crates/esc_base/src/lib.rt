@@ -19,7 +19,7 @@ mod stdio;
 mod tests;
 mod tick;
 
-pub use event::{Arrived, Event};
+pub use event::{Arrived, Event, Received};
 pub use file_flash::FileFlash;
 pub use flash::{FlashDev, FlashOp, MemFlash};
 pub use gate::{Block48, GateWord, Leg, Sector};

@@ -35,9 +35,12 @@ use Rattle.esc_core.specs.Pwm.{chopped, pwm_step}
 use Rattle.esc_core.specs.Cmp.{ready_step, judged_step, blank_step, filter_step, look_step, may_filter, ack_step, cmp_step}
 use Rattle.esc_core.specs.Comm.{comm_step}
 use Rattle.esc_core.specs.Calls.{Call, Answer, CallDid, DeviceDid}
-use Rattle.esc_core.specs.Background.{main_step}
+use Rattle.esc_core.specs.declared.state.MainAt.{MainAt}
+use Rattle.esc_core.specs.declared.state.MainAt.TheVariants as main
+use Rattle.esc_core.specs.Background.{main_step, main_asked}
 use Rattle.esc_core.specs.Firmware.{tick_left, pwm_left, cmp_left, left_of, need_of, tick_need, pwm_need, cmp_need, shut, kind_step, kind_asked, counted_down, is_stray, stray_step, core_step, core_asked}
-use Rattle.esc_core.proofs.Moves.{Moves, PlainMoves, cap_moves, tick_moves, pwm_moves, cmp_moves, arms_mask, comm_moves, main_moves}
+use Rattle.esc_core.proofs.Moves.{Moves, PlainMoves, cap_moves, tick_moves, pwm_moves, cmp_moves, arms_mask, comm_moves, main_moves, uart_moves}
+use Rattle.esc_core.specs.Uart.{uart_step}
 
 -- ---- any kind
 
@@ -72,9 +75,14 @@ pub core_asked-goes : (k : Kind) (c : Brain) (b : Bank) (answers : List Answer) 
 unfolding core_asked
 core_asked-goes k c b answers e = rw e refl
 
+counted_main : (at : MainAt) (c : Brain) (b : Bank) (answers : List Answer) → main_asked at (counted_down c b) answers ≡ main_asked at c answers
+counted_main main.Shut c b answers = refl
+counted_main main.Work c b answers = refl
+counted_main main.Back c b answers = refl
+
 -- counting a masked step leaves what is asked of the flash
 pub counted_asked : (k : Kind) (c : Brain) (b : Bank) (answers : List Answer) → kind_asked k (counted_down c b) answers ≡ kind_asked k c answers
-counted_asked kind.Main c b answers = refl
+counted_asked kind.Main c b answers = counted_main c.main_at c b answers
 counted_asked k c b answers = refl
 
 -- a step that asked for nothing left the flash
@@ -277,7 +285,7 @@ tick_masks tick.Shut c b l le e = absurd (omega arith)
 tick_masks tick.Raise c b l le e = raises_mask kind.Tick c b _ refl refl refl (lit≤ tt) le e
 tick_masks tick.Read c b l le e =
     let state = read_value b reg.TickState in
-    number_masks (nat_lt c.control.number (number_in state)) (number_in state) (marks_in state) c b le e
+    number_masks (nat_lt c.control.number (number_in state)) (number_in state) (marks_in state c.line.active) c b le e
 tick_masks (tick.Off at) c b l le e = off_masks at c b le e
 tick_masks tick.DutyOff c b l le e = under_mask kind.Tick 3 c b _ refl refl refl (lit< tt) (lit≤ tt) le e
 tick_masks tick.DriveOff c b l le e = under_mask kind.Tick 2 c b _ refl refl refl (lit< tt) (lit≤ tt) le e
@@ -354,16 +362,6 @@ cmp_masks cmp.Commute c b l le e = under_mask kind.Cmp 2 c b _ refl refl refl (l
 cmp_masks cmp.Lower c b l le e = lowers_mask kind.Cmp 1 c b _ refl refl refl le
 cmp_masks cmp.Back c b l le e = without_mask kind.Cmp c b _ refl refl refl le e
 
--- a handler that isn't built
-bare_moves : (k : Kind) (c : Brain) (b : Bank) → 0 < left_of c k → PlainMoves k (left_of c k) (counted_down c b) b (goes_back (shut (counted_down c b) k))
-bare_moves k c b l =
-    let m = shut_moves k (counted_down c b) (goes_back (shut (counted_down c b) k)) refl refl (rw (counted_left k c b) l) in
-    record {
-      moves = record { less = rw (← counted_left k c b) m.less; more = m.more; shut = m.shut; others = m.others };
-      masked = refl;
-      hold = shut_hold k (counted_down c b);
-    }
-
 pub goes_bounds : (k : Kind) (answers : List Answer) (c : Brain) (b : Bank) → 0 < left_of c k → c.hold ≤ 8 → is_stray k c b ≡ false
     → Bounds k c b (kind_step k answers (counted_down c b) b)
 goes_bounds kind.Tick answers c b l le e = record {
@@ -384,7 +382,8 @@ goes_bounds kind.Comm answers c b l le e =
     plain_bounds kind.Comm c b (comm_step c.comm_at (counted_down c b) b) refl refl le e (comm_moves c.comm_at (counted_down c b) b l)
 goes_bounds kind.Main answers c b l le e =
     plain_bounds kind.Main c b (main_step answers c.main_at (counted_down c b) b) refl refl le e (main_moves c.main_at answers (counted_down c b) b l)
-goes_bounds k answers c b l le e = plain_bounds k c b (goes_back (shut (counted_down c b) k)) refl refl le e (bare_moves k c b l)
+goes_bounds kind.Uart answers c b l le e =
+    plain_bounds kind.Uart c b (uart_step c.uart_at (counted_down c b) b) refl refl le e (uart_moves c.uart_at (counted_down c b) b l)
 
 -- each step of the core, in every state
 bounds : (k : Kind) (answers : List Answer) (c : Brain) (b : Bank) → 0 < left_of c k → c.hold ≤ 8 → Bounds k c b (core_step k answers c b)

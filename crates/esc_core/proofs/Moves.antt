@@ -1,5 +1,5 @@
 -- How far each handler's steps take its activation, and what they do to the mask.
-use Rattle.std.proofs.Common.{◌≡◌, ◌≢◌, ◌<◌, ◌+◌, ◌-◌, ℕ, Bool, true, false, ◌==◌, nat_lt, nat_le, min, if◌then◌else◌, Option, Some, None, List, [], ◌∷◌, ◌++◌, length, refl, ap, arith, lit<}
+use Rattle.std.proofs.Common.{◌≡◌, ◌≢◌, ◌<◌, ◌+◌, ◌-◌, ℕ, Bool, true, false, ◌==◌, nat_lt, nat_le, min, if◌then◌else◌, Option, Some, None, List, [], ◌∷◌, ◌++◌, length, Result, refl, ap, arith, lit<}
 use Rattle.std.proofs.lemmas.Bool.Decides.{nat_tests}
 use Rattle.esc_base.specs.declared.gate.Leg.{Leg}
 use Rattle.esc_base.specs.declared.kind.Kind.{Kind}
@@ -37,6 +37,10 @@ use Rattle.esc_core.specs.declared.state.CmpAt.{CmpAt}
 use Rattle.esc_core.specs.declared.state.CmpAt.TheVariants as cmp
 use Rattle.esc_core.specs.declared.state.CommAt.{CommAt}
 use Rattle.esc_core.specs.declared.state.CommAt.TheVariants as comm
+use Rattle.esc_core.specs.declared.state.UartAt.{UartAt}
+use Rattle.esc_core.specs.declared.state.UartAt.TheVariants as uart
+use Rattle.timer_regs.specs.Uart.{is_full}
+use Rattle.esc_core.specs.Uart.{see_step, push_step, uart_step}
 use Rattle.esc_core.specs.declared.drive.Drive.{Drive}
 use Rattle.esc_core.specs.declared.state.MainAt.{MainAt}
 use Rattle.esc_core.specs.declared.state.MainAt.TheVariants as main
@@ -52,9 +56,12 @@ use Rattle.esc_core.specs.Pwm.{chopped, pwm_step}
 use Rattle.esc_core.specs.Cmp.{ready_step, judged_step, blank_step, filter_step, look_step, may_filter, ack_step, cmp_step}
 use Rattle.esc_core.specs.Drive.{arms}
 use Rattle.esc_core.specs.Comm.{waits_for, decided, turned, turn_step, resumed_step, comm_step}
-use Rattle.esc_core.specs.Calls.{Answer, took_first}
-use Rattle.esc_core.specs.Background.{saving_step, main_step}
-use Rattle.esc_core.specs.Firmware.{cap_left, tick_left, pwm_left, cmp_left, comm_left, main_left, left_of, need_of}
+use Rattle.esc_core.specs.Calls.{Answer, took_first, said_first}
+use Rattle.esc_core.specs.Background.{saving_step, main_step, taking_by}
+use Rattle.esc_core.specs.Firmware.{cap_left, tick_left, pwm_left, cmp_left, comm_left, main_left, uart_left, left_of, need_of}
+use Rattle.fourway_packet.specs.declared.packet.Packet.{Packet}
+use Rattle.fourway_packet.specs.declared.ack.Ack.{Ack}
+use Rattle.fourway_packet.specs.Queue.{packet_taken}
 
 -- ---- CAP
 
@@ -252,7 +259,7 @@ tick_moves tick.Shut c b l = absurd (omega arith)
 tick_moves tick.Raise c b l = tick_goes 9 _ _ _ _ _ _ c refl (lit< tt) (lit< tt)
 tick_moves tick.Read c b l =
     let state = read_value b reg.TickState in
-    number_moves (nat_lt c.control.number (number_in state)) (number_in state) (marks_in state) c b
+    number_moves (nat_lt c.control.number (number_in state)) (number_in state) (marks_in state c.line.active) c b
 tick_moves (tick.Off at) c b l = off_moves at c b
 tick_moves tick.DutyOff c b l = tick_goes 4 _ _ _ _ _ _ c refl (lit< tt) (lit< tt)
 tick_moves tick.DriveOff c b l = tick_goes 3 _ _ _ _ _ _ c refl (lit< tt) (lit< tt)
@@ -475,25 +482,76 @@ comm_moves comm.Back c b l = record {
 
 -- ---- MAIN
 
-work_moves : (v saved : Bool) (c : Brain) (b : Bank)
-    → PlainMoves kind.Main 2 c b (if v then saving_step saved (record c { main_at = main.Back }) b else goes_on (record c { main_at = main.Back }) NoAccess)
-work_moves true saved c b = record {
+takes_moves : (o : Option Packet) (outcome : Result (List ℕ) Ack) (c : Brain) (b : Bank)
+    → PlainMoves kind.Main 2 c b (taking_by o outcome (record c { main_at = main.Back }) b)
+takes_moves None outcome c b = record {
   moves = record { less = lit< tt; more = λ e. lit< tt; shut = λ e. cc; others = elim [ kind.Main ↦ λ ne. absurd (ne refl) | j ↦ λ ne. (refl, refl) ] };
   masked = refl;
   hold = refl;
 }
-work_moves false saved c b = record {
+takes_moves (Some packet) outcome c b = record {
   moves = record { less = lit< tt; more = λ e. lit< tt; shut = λ e. cc; others = elim [ kind.Main ↦ λ ne. absurd (ne refl) | j ↦ λ ne. (refl, refl) ] };
   masked = refl;
   hold = refl;
 }
 
+work_moves : (v saved : Bool) (o : Option Packet) (outcome : Result (List ℕ) Ack) (c : Brain) (b : Bank)
+    → PlainMoves kind.Main 2 c b
+    (if v then saving_step saved (record c { main_at = main.Back }) b else taking_by o outcome (record c { main_at = main.Back }) b)
+work_moves true saved o outcome c b = record {
+  moves = record { less = lit< tt; more = λ e. lit< tt; shut = λ e. cc; others = elim [ kind.Main ↦ λ ne. absurd (ne refl) | j ↦ λ ne. (refl, refl) ] };
+  masked = refl;
+  hold = refl;
+}
+work_moves false saved o outcome c b = takes_moves o outcome c b
+
 pub main_moves : (at : MainAt) (answers : List Answer) (c : Brain) (b : Bank) → 0 < main_left at
     → PlainMoves kind.Main (main_left at) c b (main_step answers at c b)
 main_moves main.Shut answers c b l = absurd (omega arith)
-main_moves main.Work answers c b l = work_moves c.orders.save_asked (took_first answers) c b
+main_moves main.Work answers c b l = work_moves c.orders.save_asked (took_first answers) (packet_taken c.line.packets) (said_first answers) c b
 main_moves main.Back answers c b l = record {
   moves = record { less = lit< tt; more = λ e. cc; shut = λ e. refl; others = elim [ kind.Main ↦ λ ne. absurd (ne refl) | j ↦ λ ne. (refl, refl) ] };
+  masked = refl;
+  hold = refl;
+}
+
+-- ---- UART
+
+see_moves : (v : Bool) (c : Brain) (b : Bank) → PlainMoves kind.Uart 4 c b (see_step v c)
+see_moves true c b = record {
+  moves = record { less = lit< tt; more = λ e. lit< tt; shut = λ e. cc; others = elim [ kind.Uart ↦ λ ne. absurd (ne refl) | j ↦ λ ne. (refl, refl) ] };
+  masked = refl;
+  hold = refl;
+}
+see_moves false c b = record {
+  moves = record { less = lit< tt; more = λ e. lit< tt; shut = λ e. cc; others = elim [ kind.Uart ↦ λ ne. absurd (ne refl) | j ↦ λ ne. (refl, refl) ] };
+  masked = refl;
+  hold = refl;
+}
+
+push_moves : (v : Bool) (t : ℕ) (c : Brain) (b : Bank) → PlainMoves kind.Uart 2 c b (push_step v t c b)
+push_moves true t c b = record {
+  moves = record { less = lit< tt; more = λ e. lit< tt; shut = λ e. cc; others = elim [ kind.Uart ↦ λ ne. absurd (ne refl) | j ↦ λ ne. (refl, refl) ] };
+  masked = refl;
+  hold = refl;
+}
+push_moves false t c b = record {
+  moves = record { less = lit< tt; more = λ e. lit< tt; shut = λ e. cc; others = elim [ kind.Uart ↦ λ ne. absurd (ne refl) | j ↦ λ ne. (refl, refl) ] };
+  masked = refl;
+  hold = refl;
+}
+
+pub uart_moves : (at : UartAt) (c : Brain) (b : Bank) → 0 < uart_left at → PlainMoves kind.Uart (uart_left at) c b (uart_step at c b)
+uart_moves uart.Shut c b l = absurd (omega arith)
+uart_moves uart.Look c b l = see_moves (is_full b.receive) c b
+uart_moves uart.Time c b l = record {
+  moves = record { less = lit< tt; more = λ e. lit< tt; shut = λ e. cc; others = elim [ kind.Uart ↦ λ ne. absurd (ne refl) | j ↦ λ ne. (refl, refl) ] };
+  masked = refl;
+  hold = refl;
+}
+uart_moves (uart.Data t) c b l = push_moves (length c.line.packets.waiting == 512) t c b
+uart_moves uart.Back c b l = record {
+  moves = record { less = lit< tt; more = λ e. cc; shut = λ e. refl; others = elim [ kind.Uart ↦ λ ne. absurd (ne refl) | j ↦ λ ne. (refl, refl) ] };
   masked = refl;
   hold = refl;
 }

@@ -9,15 +9,17 @@ use Rattle.esc_core.specs.declared.state.PwmAt.{PwmAt}
 use Rattle.esc_core.specs.declared.state.CmpAt.{CmpAt}
 use Rattle.esc_core.specs.declared.state.CommAt.{CommAt}
 use Rattle.esc_core.specs.declared.state.MainAt.{MainAt}
-use Rattle.esc_core.specs.declared.state.BareAt.{BareAt}
+use Rattle.fourway_packet.specs.Queue.{Queue}
+use Rattle.esc_core.specs.declared.state.UartAt.{UartAt}
 use Rattle.esc_core.specs.declared.orders.Orders.{Orders}
 use Rattle.esc_core.specs.declared.drive.Drive.{Drive}
+use Rattle.esc_core.specs.Line.{Line}
 
 pub record Brain : Type 0 where
   pub cap_at : CapAt
   pub tick_at : TickAt
   pub main_at : MainAt
-  pub uart_at : BareAt
+  pub uart_at : UartAt
   pub cmp_at : CmpAt
   pub pwm_at : PwmAt
   pub comm_at : CommAt
@@ -32,3 +34,4 @@ pub record Brain : Type 0 where
   pub control : Kept
   pub orders : Orders
   pub drive : Drive
+  pub line : Line

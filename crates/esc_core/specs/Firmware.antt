@@ -19,8 +19,9 @@ use Rattle.esc_core.specs.declared.state.CommAt.{CommAt}
 use Rattle.esc_core.specs.declared.state.CommAt.TheVariants as comm
 use Rattle.esc_core.specs.declared.state.MainAt.{MainAt}
 use Rattle.esc_core.specs.declared.state.MainAt.TheVariants as main
-use Rattle.esc_core.specs.declared.state.BareAt.{BareAt}
-use Rattle.esc_core.specs.declared.state.BareAt.TheVariants as bare
+use Rattle.fourway_packet.specs.Queue.{Queue}
+use Rattle.esc_core.specs.declared.state.UartAt.{UartAt}
+use Rattle.esc_core.specs.declared.state.UartAt.TheVariants as uart
 use Rattle.settings_block.specs.declared.settings.Settings.{Settings}
 use Rattle.esc_core.specs.Orders.{first_orders}
 use Rattle.gate_driver.specs.declared.chop.Chop.TheVariants as chop
@@ -29,12 +30,15 @@ use Rattle.gate_driver.specs.AllOff.{all_off_left}
 use Rattle.gate_driver.specs.Chop.{chop_left}
 use Rattle.gate_driver.specs.Change.{change_left}
 use Rattle.esc_core.specs.Drive.{first_drive}
+use Rattle.fourway_packet.specs.Queue.{Queue}
+use Rattle.esc_core.specs.Line.{first_line, line_waits}
 use Rattle.esc_core.specs.Brain.{Brain}
 use Rattle.esc_core.specs.Stepped.{Stepped, goes_back}
 use Rattle.esc_core.specs.Cap.{cap_step}
 use Rattle.esc_core.specs.Tick.{tick_step}
 use Rattle.esc_core.specs.Pwm.{pwm_step}
 use Rattle.esc_core.specs.Cmp.{cmp_step}
+use Rattle.esc_core.specs.Uart.{uart_step}
 use Rattle.esc_core.specs.Comm.{comm_step}
 use Rattle.esc_core.specs.Calls.{Call, Answer}
 use Rattle.esc_core.specs.Background.{main_step, main_asked}
@@ -96,13 +100,16 @@ main_left main.Shut = 0
 main_left main.Work = 2
 main_left main.Back = 1
 
-abbrev pub bare_left : BareAt → ℕ
-bare_left bare.Shut = 0
-bare_left bare.Back = 1
+abbrev pub uart_left : UartAt → ℕ
+uart_left uart.Shut = 0
+uart_left uart.Look = 4
+uart_left uart.Time = 3
+uart_left (uart.Data t) = 2
+uart_left uart.Back = 1
 
 abbrev pub left_of : Brain → Kind → ℕ
 left_of c kind.Main = main_left c.main_at
-left_of c kind.Uart = bare_left c.uart_at
+left_of c kind.Uart = uart_left c.uart_at
 left_of c kind.Tick = tick_left c.tick_at
 left_of c kind.Cap = cap_left c.cap_at
 left_of c kind.Cmp = cmp_left c.cmp_at
@@ -152,7 +159,7 @@ need_of c k = 9
 
 abbrev pub shut : Brain → Kind → Brain
 shut c kind.Main = record c { main_at = main.Shut }
-shut c kind.Uart = record c { uart_at = bare.Shut }
+shut c kind.Uart = record c { uart_at = uart.Shut }
 shut c kind.Tick = record c { tick_at = tick.Shut }
 shut c kind.Cap = record c { cap_at = cap.Shut }
 shut c kind.Cmp = record c { cmp_at = cmp.Shut }
@@ -161,14 +168,13 @@ shut c kind.Comm = record c { comm_at = comm.Shut }
 
 abbrev pub entered_core : Brain → Kind → Brain
 entered_core c kind.Main = record c { main_at = main.Work }
-entered_core c kind.Uart = record c { uart_at = bare.Back }
+entered_core c kind.Uart = record c { uart_at = uart.Look }
 entered_core c kind.Tick = record c { tick_at = tick.Raise }
 entered_core c kind.Cap = record c { cap_at = cap.Start }
 entered_core c kind.Cmp = record c { cmp_at = cmp.Raise }
 entered_core c kind.Pwm = record c { pwm_at = pwm.Run chop.Raise }
 entered_core c kind.Comm = record c { comm_at = comm.Decide }
 
--- a handler that isn't built returns at once
 abbrev pub kind_step : Kind → List Answer → Brain → Bank → Stepped
 kind_step kind.Tick answers c b = tick_step c.tick_at c b
 kind_step kind.Cap answers c b = cap_step c.cap_at c b
@@ -176,11 +182,11 @@ kind_step kind.Pwm answers c b = pwm_step c.pwm_at c b
 kind_step kind.Cmp answers c b = cmp_step c.cmp_at c b
 kind_step kind.Comm answers c b = comm_step c.comm_at c b
 kind_step kind.Main answers c b = main_step answers c.main_at c b
-kind_step k answers c b = goes_back (shut c k)
+kind_step kind.Uart answers c b = uart_step c.uart_at c b
 
 -- the calls of the flash that a step makes; those of most kinds make none
 abbrev pub kind_asked : Kind → Brain → List Answer → List Call
-kind_asked kind.Main c answers = main_asked c.main_at c.orders answers
+kind_asked kind.Main c answers = main_asked c.main_at c answers
 kind_asked k c answers = []
 
 -- the masked steps are counted
@@ -202,12 +208,16 @@ core_step k answers c b = if is_stray k c b then stray_step k c else kind_step k
 unfoldable pub core_asked : Kind → Brain → Bank → List Answer → List Call
 core_asked k c b answers = if is_stray k c b then [] else kind_asked k c answers
 
-abbrev pub new_core : Settings → Brain
-new_core settings = record {
+-- MAIN is due: a save is asked for, or a byte is to be taken
+abbrev pub waits_of : Brain → Bool
+waits_of c = if c.orders.save_asked then true else line_waits c.line
+
+abbrev pub new_core : Settings → Queue → Brain
+new_core settings packets = record {
   cap_at = cap.Shut;
   tick_at = tick.Shut;
   main_at = main.Shut;
-  uart_at = bare.Shut;
+  uart_at = uart.Shut;
   cmp_at = cmp.Shut;
   pwm_at = pwm.Shut;
   comm_at = comm.Shut;
@@ -218,4 +228,5 @@ new_core settings = record {
   control = start;
   orders = first_orders settings;
   drive = first_drive settings.advance;
+  line = first_line packets;
 }

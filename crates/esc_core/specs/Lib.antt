@@ -1,5 +1,6 @@
 pub mod Orders
 pub mod Drive
+pub mod Line
 pub mod Brain
 pub mod Stepped
 pub mod Reply
@@ -8,6 +9,7 @@ pub mod Tick
 pub mod Pwm
 pub mod Comm
 pub mod Cmp
+pub mod Uart
 pub mod Calls
 pub mod Background
 pub mod Firmware

@@ -1,6 +1,6 @@
 -- The steps of TICK: under the mask it reads the control tick's number, asks control, and sets the duty to the demand; or with
 -- demand 0 it turns all off.
-use Rattle.std.specs.Prelude.{ℕ, ◌-◌, ◌==◌, Bool, true, false, nat_lt, if◌then◌else◌, List, [], ◌∷◌, Option, Some, None}
+use Rattle.std.specs.Prelude.{ℕ, ◌+◌, ◌-◌, ◌==◌, Bool, true, false, nat_lt, if◌then◌else◌, List, [], ◌∷◌, Option, Some, None}
 use Rattle.esc_base.specs.declared.note.Cause.{Cause}
 use Rattle.esc_base.specs.declared.note.Note.{Note}
 use Rattle.esc_base.specs.declared.note.Note.TheVariants as note
@@ -40,8 +40,9 @@ ticked c n marks = answer_of (decide (view_of c.control) n marks) c.control.dema
 abbrev pub number_in : ℕ → ℕ
 number_in state = if nat_lt state 1073741824 then state else state - 1073741824
 
-abbrev pub marks_in : ℕ → ℕ
-marks_in state = if nat_lt state 1073741824 then 0 else 1
+-- and 4 where a session is active
+abbrev pub marks_in : ℕ → Bool → ℕ
+marks_in state active = (if nat_lt state 1073741824 then 0 else 1) + (if active then 4 else 0)
 
 -- with demand 0 all goes off; else the duty is set, and on a start the commutation timer
 abbrev pub after_number : Ticked → TickAt
@@ -81,7 +82,7 @@ off_step s c = goes_on (record c { drive = record c.drive { gates = s.gates }; t
 
 abbrev pub tick_step : TickAt → Brain → Bank → Stepped
 tick_step tick.Raise c b = goes_on (record c { hold = 8; tick_at = tick.Read }) (Writes reg.Mask 1)
-tick_step tick.Read c b = number_step (number_in (read_value b reg.TickState)) (marks_in (read_value b reg.TickState)) c b
+tick_step tick.Read c b = number_step (number_in (read_value b reg.TickState)) (marks_in (read_value b reg.TickState) c.line.active) c b
 tick_step (tick.Off at) c b = off_step (all_off_step at c.drive.gates b) c
 tick_step tick.DutyOff c b = goes_on (record c { tick_at = tick.DriveOff }) (Writes reg.Duty 0)
 tick_step tick.DriveOff c b = goes_on (record c { drive = record c.drive { postponed = false }; tick_at = tick.Lower }) (Writes reg.DriveOff 1)

@@ -4,13 +4,14 @@ ghost use Rattle.esc_base.specs.Flash.{Told};
 ghost use Rattle.esc_base.specs.Range.{InRange};
 ghost use Rattle.interrupt_machine.specs.Did.{notes_of};
 ghost use Rattle.esc_core.specs.Calls.{IsMade};
-ghost use Rattle.esc_core.specs.Firmware.{core_step, entered_core, left_of, need_of, tick_need, pwm_need, cmp_need, is_stray, counted_down, shut, kind_step, kind_asked, core_asked, new_core};
+ghost use Rattle.esc_core.specs.Firmware.{core_step, entered_core, left_of, need_of, tick_need, pwm_need, cmp_need, is_stray, counted_down, shut, kind_step, kind_asked, core_asked, waits_of, new_core};
 
 use crate::own::no_note;
-use crate::{BareAt, CapAt, CmpAt, CommAt, Core, Drive, MainAt, Orders, PwmAt, TickAt};
+use crate::{CapAt, CmpAt, CommAt, Core, Drive, MainAt, Orders, PwmAt, Serial, TickAt, UartAt};
 use arming::Control;
 use edge_capture::Burst;
 use esc_base::{FlashDev, Kind, Mode};
+use fourway_packet::Packets;
 use gate_driver::{AllOff, Chop};
 use interrupt_machine::{Did, Firmware};
 use settings_block::Settings;
@@ -18,14 +19,14 @@ use timer_regs::{Reg, Regs};
 
 impl Core {
     /// No handler is open, nothing is detected, control isn't armed, and no command has acted.
-    pub fn new(settings: Settings) -> Core
-        ensures { result ≡ new_core settings }
+    pub fn new(settings: Settings, packets: Packets) -> Core
+        ensures { result ≡ new_core settings packets }
     {
         Core {
             cap_at: CapAt::Shut,
             tick_at: TickAt::Shut,
             main_at: MainAt::Shut,
-            uart_at: BareAt::Shut,
+            uart_at: UartAt::Shut,
             cmp_at: CmpAt::Shut,
             pwm_at: PwmAt::Shut,
             comm_at: CommAt::Shut,
@@ -36,6 +37,7 @@ impl Core {
             control: Control::new(),
             drive: Drive::new(settings.advance),
             orders: Orders::new(settings),
+            serial: Serial::new(packets),
         }
     }
 
@@ -55,7 +57,7 @@ impl Core {
     {
         match kind {
             Kind::Main => self.main_at = MainAt::Shut,
-            Kind::Uart => self.uart_at = BareAt::Shut,
+            Kind::Uart => self.uart_at = UartAt::Shut,
             Kind::Tick => self.tick_at = TickAt::Shut,
             Kind::Cap => self.cap_at = CapAt::Shut,
             Kind::Cmp => self.cmp_at = CmpAt::Shut,
@@ -77,10 +79,7 @@ impl Core {
             Kind::Pwm => self.pwm_step(regs),
             Kind::Comm => self.comm_step(regs),
             Kind::Cmp => self.cmp_step(regs),
-            Kind::Uart => {
-                self.shut(kind);
-                Did::Return(no_note())
-            }
+            Kind::Uart => self.uart_step(regs),
         }
     }
 
@@ -168,12 +167,12 @@ impl Firmware for Core {
 
     ghost hold = { λ c. c.hold };
 
-    ghost waits = { λ c. c.orders.save_asked };
+    ghost waits = { waits_of };
 
     fn enter(&mut self, kind: Kind) {
         match kind {
             Kind::Main => self.main_at = MainAt::Work,
-            Kind::Uart => self.uart_at = BareAt::Back,
+            Kind::Uart => self.uart_at = UartAt::Look,
             Kind::Tick => self.tick_at = TickAt::Raise,
             Kind::Cap => self.cap_at = CapAt::Start,
             Kind::Cmp => self.cmp_at = CmpAt::Raise,
@@ -189,6 +188,6 @@ impl Firmware for Core {
     }
 
     fn waiting(&self) -> bool {
-        self.orders.save_asked
+        self.orders.save_asked || self.serial.waits()
     }
 }

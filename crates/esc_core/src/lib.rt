@@ -17,11 +17,14 @@ mod pwm;
 mod reply;
 #[cfg(test)]
 mod reply_tests;
+mod serial;
 mod state;
 #[cfg(test)]
 mod tests;
 mod tick;
+mod uart;
 
 pub use drive::Drive;
 pub use orders::Orders;
-pub use state::{BareAt, CapAt, CmpAt, CommAt, Core, MainAt, PwmAt, TickAt};
+pub use serial::Serial;
+pub use state::{CapAt, CmpAt, CommAt, Core, MainAt, PwmAt, TickAt, UartAt};

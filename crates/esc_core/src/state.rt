@@ -1,8 +1,9 @@
 //! Where each open activation stands, and what the core keeps.
-use crate::{Drive, Orders};
+use crate::{Drive, Orders, Serial};
 use arming::Control;
 use edge_capture::Burst;
 use esc_base::Mode;
+use fourway_packet::Packets;
 use gate_driver::{AllOff, Chop};
 use std::marker::Model;
 
@@ -110,10 +111,16 @@ pub enum MainAt {
     Back,
 }
 
-/// Where an open handler stands that does nothing yet.
+/// Where an open UART stands.
 #[derive(Clone, Copy, Debug, PartialEq, Eq, Drop)]
-pub enum BareAt {
+pub enum UartAt {
     Shut,
+    /// Reads whether a byte waits.
+    Look,
+    /// Reads when it arrived.
+    Time,
+    /// Reads the byte that arrived at this tick, and pushes it.
+    Data(u32),
     Back,
 }
 
@@ -123,7 +130,7 @@ pub struct Core {
     pub(crate) cap_at: CapAt,
     pub(crate) tick_at: TickAt,
     pub(crate) main_at: MainAt,
-    pub(crate) uart_at: BareAt,
+    pub(crate) uart_at: UartAt,
     pub(crate) cmp_at: CmpAt,
     pub(crate) pwm_at: PwmAt,
     pub(crate) comm_at: CommAt,
@@ -138,6 +145,7 @@ pub struct Core {
     pub(crate) control: Control,
     pub(crate) orders: Orders,
     pub(crate) drive: Drive,
+    pub(crate) serial: Serial,
 }
 
 impl Model for Core {
@@ -161,6 +169,7 @@ impl Model for Core {
       control = c.control;
       orders = c.orders;
       drive = c.drive;
+      line = c.serial;
     } };
 
     ghost invariant = { λ c. c.hold ≤ 8 };

@@ -78,7 +78,7 @@ impl Core {
             self.tick_at = TickAt::Lower;
             return Did::More(no_note());
         }
-        let marks = marks(state);
+        let marks = marks(state, self.serial.is_active());
         let answer = self.control.tick(n, marks);
         let t = regs.now();
         if answer.start {
@@ -116,13 +116,15 @@ fn number(state: u32) -> u32
     if state < STUCK { state } else { state - STUCK }
 }
 
-fn marks(state: u32) -> Marks
-    ensures { bits_of result ≡ marks_in state }
+fn marks(state: u32, is_session: bool) -> Marks
+    ensures marks { bits_of result ≡ marks_in state is_session }
+    ensures most { bits_of result ≤ 7 }
 {
-    if state < STUCK {
-        Marks::empty()
-    } else {
-        Marks::STUCK
+    match (state < STUCK, is_session) {
+        (true, false) => Marks::empty(),
+        (true, true) => Marks::SESSION,
+        (false, false) => Marks::STUCK,
+        (false, true) => Marks::STUCK.union(Marks::SESSION),
     }
 }
 

@@ -33,11 +33,12 @@ use Rattle.esc_laws.specs.Legal.{Legal}
 use Rattle.esc_laws.specs.Chopped.{disturbs}
 use Rattle.esc_laws.specs.Refused.{enters, leaves, nothing, ticks, entry, own, two_edges}
 use Rattle.esc_laws.specs.Allowed.{tick_and_verdict, SomeAreLegal}
-use Rattle.esc_laws.proofs.Notes.{Said, said_push}
-use Rattle.esc_laws.proofs.Start.{first_in_range, logged_start, start_said}
-use Rattle.esc_laws.proofs.Carried.{legal_chopped}
+use Rattle.esc_laws.specs.Said.{Said}
+use Rattle.esc_laws.proofs.Notes.{said_push, lawful_of}
+use Rattle.esc_laws.proofs.Opening.{first_in_range, start_said}
 use Rattle.esc_laws.proofs.ChopFront.{chopped_none}
 use Rattle.esc_laws.proofs.RefusedSteps.{none_open, no_stall_there}
+use Rattle.esc_laws.specs.NoteLaw as owed
 
 -- no Q stands in them, and no step of COMM
 none_opening : (loaded : Loaded) → All (λ n. disturbs n ≡ false) (opening loaded)
@@ -66,8 +67,23 @@ none_all loaded =
     refl
 
 no_time : (loaded : Loaded) (nest : Nest) (cost : ℕ) → Legal loaded nest cost [] 0 (opening loaded)
-no_time loaded nest cost = legal_chopped loaded nest cost [] 0 _ _ [] [] 0 (omega arith) (All-nil (λ (e : Turned). e.tick < 0))
-    (first_in_range loaded.fault) (λ full. chopped_none cost [] 0 (opening loaded) (none_opening loaded)) (logged_start loaded nest cost)
+no_time loaded nest cost =
+    let said = start_said loaded nest [] 0 in
+    record {
+      rest = [];
+      begins = refl;
+      in_range = first_in_range loaded.fault;
+      in_time = said.in_time;
+      lawful = lawful_of loaded nest [] [] said.keeps;
+      controlled = (record { paid = refl; tick = tt; save = tt }, (record { paid = refl; tick = tt; save = tt }, tt));
+      chopped = λ full. chopped_none cost [] 0 (opening loaded) (none_opening loaded);
+      log = [];
+      steps_are = refl;
+      fits = tt;
+      below = All-nil (λ (e : Turned). e.tick < 0);
+      all_made = record { open_step = λ o. omega arith; idle = λ o t le lt. absurd (omega arith) };
+      open_few = λ k o. absurd (let z : is_open [] k ≡ true = subst (λ (st : List Kind). is_open st k ≡ true) (none_open loaded) o in cc);
+    }
 
 -- ---- the steps
 
@@ -292,16 +308,7 @@ said_at : (loaded : Loaded) (nest : Nest) (t u : ℕ) (rest : List Note) → t �
 said_at loaded nest t u rest le s =
     record {
       in_time = s.in_time;
-      windowed = s.windowed;
-      replied = s.replied;
-      dead_safe = s.dead_safe;
-      driven = s.driven;
-      commutated = s.commutated;
-      crossed =
-          s.crossed;
-      searched = s.searched;
-      nested = s.nested;
-      waits = s.waits;
+      keeps = s.keeps;
       past = λ k d l. (let a = s.past k d l in omega arith);
     }
 
@@ -366,87 +373,21 @@ none_owed loaded = tt
 
 one_said : (loaded : Loaded) (nest : Nest) → Said loaded nest two_edges 2400 (enters 2400 2 ∷ [])
 one_said loaded nest =
-    said_push loaded nest two_edges 2400 [] (enters 2400 2) (start_said loaded nest two_edges 2400) refl (record {
-      window = (rules_1 loaded nest).0;
-      replies = tt;
-      safe =
-          tt;
-      driven = tt;
-      turns = tt;
-      crossed = tt;
-      searched = λ e. cc;
-      nesting = (rules_1 loaded nest).1;
-      waits = tt;
-    })
+    said_push loaded nest two_edges 2400 [] (enters 2400 2) (start_said loaded nest two_edges 2400) refl (record { laws = elim [ owed.Windows ↦ (rules_1 loaded nest).0 | owed.Searches ↦ λ e. cc | owed.Nests ↦ (rules_1 loaded nest).1 | l ↦ tt ]; waits = tt })
 
 all_said : (loaded : Loaded) (nest : Nest) → Said loaded nest two_edges 4202 tick_and_verdict
 all_said loaded nest =
     let s2 = said_push loaded nest two_edges 2402 (enters 2400 2 ∷ []) (ticks 2402 1 0 0)
-    (said_at loaded nest 2400 2402 (enters 2400 2 ∷ []) (omega arith) (one_said loaded nest)) refl (record {
-      window = (rules_2 loaded nest).0;
-      replies = tt;
-      safe =
-          tt;
-      driven = tt;
-      turns = tt;
-      crossed = tt;
-      searched = tt;
-      nesting = (rules_2 loaded nest).1;
-      waits = tt;
-    }) in
+    (said_at loaded nest 2400 2402 (enters 2400 2 ∷ []) (omega arith) (one_said loaded nest)) refl (record { laws = elim [ owed.Windows ↦ (rules_2 loaded nest).0 | owed.Nests ↦ (rules_2 loaded nest).1 | l ↦ tt ]; waits = tt }) in
     let s3 = said_push loaded nest two_edges 2402 (enters 2400 2 ∷ ticks 2402 1 0 0 ∷ []) (leaves 2402 2) s2 refl
-    (record {
-      window = (rules_3 loaded nest).0;
-      replies = λ e. cc;
-      safe = tt;
-      driven = λ e d. (refl, refl);
-      turns = tt;
-      crossed = tt;
-      searched = λ e. cc;
-      nesting =
-          (rules_3 loaded nest).1;
-      waits = tt;
-    }) in
+    (record { laws = elim [ owed.Windows ↦ (rules_3 loaded nest).0 | owed.Replies ↦ λ e. cc | owed.Drives ↦ λ e d. (refl, refl) | owed.Searches ↦ λ e. cc | owed.Nests ↦ (rules_3 loaded nest).1 | l ↦ tt ]; waits = tt }) in
     let s4 = said_push loaded nest two_edges 4200 (enters 2400 2 ∷ ticks 2402 1 0 0 ∷ leaves 2402 2 ∷ []) (enters 4200 3)
-    (said_at loaded nest 2402 4200 (enters 2400 2 ∷ ticks 2402 1 0 0 ∷ leaves 2402 2 ∷ []) (omega arith) s3) refl (record {
-      window =
-          (rules_4 loaded nest).0;
-      replies = tt;
-      safe = tt;
-      driven = tt;
-      turns = tt;
-      crossed = tt;
-      searched = λ e. cc;
-      nesting = (rules_4 loaded nest).1;
-      waits = tt;
-    }) in
+    (said_at loaded nest 2402 4200 (enters 2400 2 ∷ ticks 2402 1 0 0 ∷ leaves 2402 2 ∷ []) (omega arith) s3) refl (record { laws = elim [ owed.Windows ↦ (rules_4 loaded nest).0 | owed.Searches ↦ λ e. cc | owed.Nests ↦ (rules_4 loaded nest).1 | l ↦ tt ]; waits = tt }) in
     let s5 = said_push loaded nest two_edges 4202 (enters 2400 2 ∷ ticks 2402 1 0 0 ∷ leaves 2402 2 ∷ enters 4200 3 ∷ []) (nothing 4202)
     (said_at loaded nest 4200 4202 (enters 2400 2 ∷ ticks 2402 1 0 0 ∷ leaves 2402 2 ∷ enters 4200 3 ∷ []) (omega arith) s4) refl
-    (record {
-      window = (rules_5 loaded nest).0;
-      replies = tt;
-      safe = tt;
-      driven = tt;
-      turns = tt;
-      crossed = tt;
-      searched = tt;
-      nesting = (rules_5 loaded nest).1;
-      waits =
-          tt;
-    }) in
+    (record { laws = elim [ owed.Windows ↦ (rules_5 loaded nest).0 | owed.Nests ↦ (rules_5 loaded nest).1 | l ↦ tt ]; waits = tt }) in
     said_push loaded nest two_edges 4202 (enters 2400 2 ∷ ticks 2402 1 0 0 ∷ leaves 2402 2 ∷ enters 4200 3 ∷ nothing 4202 ∷ []) (leaves 4202 3) s5 refl
-    (record {
-      window = (rules_6 loaded nest).0;
-      replies = λ e. none_owed loaded;
-      safe = tt;
-      driven = λ e. cc;
-      turns = tt;
-      crossed = tt;
-      searched = λ e. cc;
-      nesting =
-          (rules_6 loaded nest).1;
-      waits = tt;
-    })
+    (record { laws = elim [ owed.Windows ↦ (rules_6 loaded nest).0 | owed.Replies ↦ λ e. none_owed loaded | owed.Drives ↦ λ e. cc | owed.Searches ↦ λ e. cc | owed.Nests ↦ (rules_6 loaded nest).1 | l ↦ tt ]; waits = tt })
 
 one_controlled : (loaded : Loaded) → Controlled (opening loaded ++ enters 2400 2 ∷ [])
 one_controlled loaded =
@@ -514,16 +455,9 @@ tick_enters loaded nest =
       begins = refl;
       in_range = one_in_range loaded;
       in_time = (one_said loaded nest).in_time;
-      windowed = (one_said loaded nest).windowed;
-      replied = (one_said loaded nest).replied;
+      lawful = lawful_of loaded nest two_edges (enters 2400 2 ∷ []) (one_said loaded nest).keeps;
       controlled = one_controlled loaded;
-      dead_safe = (one_said loaded nest).dead_safe;
-      driven = (one_said loaded nest).driven;
-      commutated = (one_said loaded nest).commutated;
-      crossed = (one_said loaded nest).crossed;
-      searched = (one_said loaded nest).searched;
       chopped = λ full. chopped_none 2 two_edges 2401 (opening loaded ++ enters 2400 2 ∷ []) (none_one loaded);
-      nested = (one_said loaded nest).nested;
       log = one;
       steps_are = refl;
       fits = (fits_tick_in loaded nest, tt);
@@ -540,16 +474,9 @@ window_judged loaded nest =
       begins = refl;
       in_range = all_in_range loaded;
       in_time = (all_said loaded nest).in_time;
-      windowed = (all_said loaded nest).windowed;
-      replied = (all_said loaded nest).replied;
+      lawful = lawful_of loaded nest two_edges tick_and_verdict (all_said loaded nest).keeps;
       controlled = all_controlled loaded;
-      dead_safe = (all_said loaded nest).dead_safe;
-      driven = (all_said loaded nest).driven;
-      commutated = (all_said loaded nest).commutated;
-      crossed = (all_said loaded nest).crossed;
-      searched = (all_said loaded nest).searched;
       chopped = λ full. chopped_none 2 two_edges 4203 (opening loaded ++ tick_and_verdict) (none_all loaded);
-      nested = (all_said loaded nest).nested;
       log = four;
       steps_are = refl;
       fits = (fits_tick_in loaded nest, (fits_tick_out loaded nest, (fits_cap_in loaded nest, (fits_cap_out loaded nest, tt))));

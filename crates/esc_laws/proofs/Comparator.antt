@@ -11,7 +11,7 @@ use Rattle.esc_base.specs.declared.tick.Tick.{Tick}
 use Rattle.esc_base.specs.Trace.{tick_of, differ}
 use Rattle.timer_regs.specs.Bank.{Bank}
 use Rattle.timer_regs.specs.Effects.{after_comp}
-use Rattle.esc_laws.specs.Rooms.{IsInTime}
+use Rattle.esc_laws.specs.InTime.{IsInTime}
 use Rattle.zero_cross.specs.Comparator.{Held, held_to, held_next, held, HasLevel, Steady, is_steady}
 use Rattle.std.proofs.lemmas.Bool.{le-leb}
 

@@ -1,18 +1,17 @@
 -- Later events change nothing of the crossings and of the search for them before.
-use Rattle.std.proofs.Common.{◌≡◌, ◌<◌, ◌-◌, ℕ, Bool, true, false, ◌==◌, if◌then◌else◌, List, [], ◌∷◌, ◌++◌, All, reverse, arith}
+use Rattle.std.proofs.Common.{◌≡◌, ◌<◌, ◌-◌, ℕ, Bool, true, false, ◌==◌, if◌then◌else◌, List, [], ◌∷◌, ◌++◌, All, arith}
 use Rattle.std.proofs.lemmas.List.Elements.{All-nil, All-cons, All-head, All-tail}
 use Rattle.esc_base.specs.declared.event.Event.{Event}
 use Rattle.esc_base.specs.declared.note.Note.{Note}
 use Rattle.esc_base.specs.declared.note.Note.TheVariants as note
-use Rattle.esc_base.specs.Journal.{Each, time_of}
+use Rattle.esc_base.specs.Journal.{time_of}
 use Rattle.esc_base.specs.Trace.{tick_of}
 use Rattle.settings_block.specs.declared.stored.Loaded.{Loaded}
 use Rattle.commutation.specs.Commutated.{Turn, Idle, Started, Turned, Crossed, turn_at}
 use Rattle.interrupt_machine.specs.declared.nest.Nest.{Nest}
-use Rattle.arming.proofs.InOrder.{reverse-push}
-use Rattle.esc_laws.specs.Crossed.{blanked_at, expects_at, MayCross, CrossRule, Crossed as CrossedAll}
-use Rattle.esc_laws.specs.Searched.{Sight, Away, Begun, Awaits, First, Settles, Second, sight_at, sight_entered, sight_left, sight_begun, sight_crossed, cmp_open_at, HasCrossed, SearchRule, Searched}
-use Rattle.esc_laws.specs.Steps.{Turned as Step, opening, notes_in, EachStep, StepFits, Below}
+use Rattle.esc_laws.specs.Crossed.{blanked_at, expects_at, MayCross, CrossRule}
+use Rattle.esc_laws.specs.Searched.{Sight, Away, Begun, Awaits, First, Settles, Second, sight_at, sight_entered, sight_left, sight_begun, sight_crossed, cmp_open_at, HasCrossed, SearchRule}
+use Rattle.esc_laws.specs.Steps.{Turned as Step, notes_in, EachStep, StepFits, Below}
 use Rattle.esc_laws.proofs.Comparator.{held_before, steady_grows, steady_was}
 
 -- ---- Z
@@ -25,28 +24,16 @@ may_cross_grows trace e expects blanked z (Turned q) l c =
     record { steady = steady_grows trace e expects (z - 24) z (omega arith) l c.steady; blanked_before = c.blanked_before }
 may_cross_grows trace e expects blanked z (Crossed q y) l c = c
 
-cross_rule_grows : (trace : List Event) (e : Event) (forward : List Note → Bool) (back : List Note) (n : Note) → time_of n < tick_of e
+pub cross_rule_grows : (trace : List Event) (e : Event) (forward : List Note → Bool) (back : List Note) (n : Note) → time_of n < tick_of e
     → CrossRule trace forward back n → CrossRule (trace ++ e ∷ []) forward back n
 cross_rule_grows trace e forward back (note.Cross t) l c =
     may_cross_grows trace e (expects_at forward back) (blanked_at back) t.0 (turn_at back) l c
 cross_rule_grows trace e forward back n l c = c
 
-cross_from : (trace : List Event) (e : Event) (forward : List Note → Bool) (before notes : List Note) → All (λ n. time_of n < tick_of e) notes
-    → Each (λ b n. CrossRule trace forward (reverse b) n) before notes → Each (λ b n. CrossRule (trace ++ e ∷ []) forward (reverse b) n) before notes
-cross_from trace e forward before [] below c = tt
-cross_from trace e forward before (n ∷ notes) below c = (
-  cross_rule_grows trace e forward (reverse before) n (All-head (λ x. time_of x < tick_of e) n notes below) c.0,
-  cross_from trace e forward (before ++ n ∷ []) notes (All-tail (λ x. time_of x < tick_of e) n notes below) c.1,
-)
-
-pub crossed_grows : (loaded : Loaded) (trace : List Event) (e : Event) (forward : List Note → Bool) (rest : List Note)
-    → All (λ n. time_of n < tick_of e) rest → CrossedAll trace forward (opening loaded ++ rest) → CrossedAll (trace ++ e ∷ []) forward (opening loaded ++ rest)
-crossed_grows loaded trace e forward rest below c = (c.0, (c.1.0, cross_from trace e forward (opening loaded) rest below c.1.1))
-
 -- ---- the activations of CMP
 
 -- the first one was entered below this tick
-abbrev EntersBelow : ℕ → Sight → Type 0
+abbrev pub EntersBelow : ℕ → Sight → Type 0
 EntersBelow t (First i) = i < t
 EntersBelow t (Settles i u) = i < t
 EntersBelow t (Second i z) = i < t
@@ -88,7 +75,7 @@ either_below : (v : Bool) (s s' : Sight) (t : ℕ) → EntersBelow t s → Enter
 either_below true s s' t b b' = b
 either_below false s s' t b b' = b'
 
-sight_below : (n : Note) (back : List Note) (t : ℕ) → time_of n < t → EntersBelow t (sight_at back) → EntersBelow t (sight_at (n ∷ back))
+pub sight_below : (n : Note) (back : List Note) (t : ℕ) → time_of n < t → EntersBelow t (sight_at back) → EntersBelow t (sight_at (n ∷ back))
 sight_below (note.Enter u k) back t l b = either_below (k == 4) (sight_entered (sight_at back) u.0) (sight_at back) t
     (entered_below (sight_at back) t u.0 l b) b
 sight_below (note.Leave u k) back t l b =
@@ -109,26 +96,11 @@ has_crossed_grows trace e expects (Awaits u) t b h = tt
 has_crossed_grows trace e expects (First i) t b h = tt
 has_crossed_grows trace e expects (Settles i u) t b h = tt
 
-search_rule_grows : (trace : List Event) (e : Event) (forward : List Note → Bool) (back : List Note) (n : Note) → time_of n < tick_of e
+pub search_rule_grows : (trace : List Event) (e : Event) (forward : List Note → Bool) (back : List Note) (n : Note) → time_of n < tick_of e
     → EntersBelow (tick_of e) (sight_at back) → SearchRule trace forward back n → SearchRule (trace ++ e ∷ []) forward back n
 search_rule_grows trace e forward back (note.Enter t k) l b s = λ is. rw (held_before trace e t.0 l) (s is)
 search_rule_grows trace e forward back (note.Leave t k) l b s = λ is. has_crossed_grows trace e (expects_at forward back) (sight_at back) t.0 b (s is)
 search_rule_grows trace e forward back n l b s = s
-
-search_from : (trace : List Event) (e : Event) (forward : List Note → Bool) (before notes : List Note) → All (λ n. time_of n < tick_of e) notes
-    → EntersBelow (tick_of e) (sight_at (reverse before))
-    → Each (λ b n. SearchRule trace forward (reverse b) n) before notes → Each (λ b n. SearchRule (trace ++ e ∷ []) forward (reverse b) n) before notes
-search_from trace e forward before [] below b c = tt
-search_from trace e forward before (n ∷ notes) below b c =
-    let l : time_of n < tick_of e = All-head (λ x. time_of x < tick_of e) n notes below in (
-      search_rule_grows trace e forward (reverse before) n l b c.0,
-      search_from trace e forward (before ++ n ∷ []) notes (All-tail (λ x. time_of x < tick_of e) n notes below)
-          (rw (reverse-push before n) (sight_below n (reverse before) (tick_of e) l b)) c.1,
-    )
-
-pub searched_grows : (loaded : Loaded) (trace : List Event) (e : Event) (forward : List Note → Bool) (rest : List Note)
-    → All (λ n. time_of n < tick_of e) rest → Searched trace forward (opening loaded ++ rest) → Searched (trace ++ e ∷ []) forward (opening loaded ++ rest)
-searched_grows loaded trace e forward rest below c = (c.0, (c.1.0, search_from trace e forward (opening loaded) rest below tt c.1.1))
 
 -- ---- the notes of steps that stand below a tick
 

@@ -1,7 +1,6 @@
 -- Later events change nothing of what the notes and the steps before them said.
-use Rattle.std.proofs.Common.{◌≡◌, ◌≤◌, ◌<◌, ◌+◌, ℕ, Bool, true, false, not, ◌&&◌, ◌==◌, nat_le, nat_lt, max, if◌then◌else◌, List, [], ◌∷◌, ◌++◌, reverse, length, Some, None, refl, sym, ◌∙◌, ap, arith, All, ◌-◌, length-append, true≢false, inl, inr}
+use Rattle.std.proofs.Common.{◌≡◌, ◌≤◌, ◌<◌, ◌+◌, ℕ, Bool, true, false, not, ◌&&◌, ◌==◌, nat_le, nat_lt, max, if◌then◌else◌, List, [], ◌∷◌, ◌++◌, reverse, length, Some, None, refl, sym, ◌∙◌, ap, arith, ◌-◌, length-append, true≢false, inl, inr}
 use Rattle.std.proofs.lemmas.Bool.{not-true, and_parts, false_from_ne_true}
-use Rattle.std.proofs.lemmas.List.Elements.{All-head, All-tail}
 use Rattle.std.proofs.lemmas.List.{get_or_push}
 use Rattle.std.proofs.lemmas.Bool.Decides.{nat_tests}
 use Rattle.esc_base.specs.declared.kind.Kind.{Kind}
@@ -12,7 +11,7 @@ use Rattle.esc_base.specs.declared.event.Event.{Event}
 use Rattle.esc_base.specs.declared.event.Event.TheVariants as event
 use Rattle.esc_base.specs.declared.note.Note.{Note}
 use Rattle.esc_base.specs.declared.note.Note.TheVariants as note
-use Rattle.esc_base.specs.Journal.{Each, time_of}
+use Rattle.esc_base.specs.Journal.{time_of}
 use Rattle.esc_base.specs.Trace.{line, tick_of, differ}
 use Rattle.esc_base.proofs.TraceLaws.{line-push}
 use Rattle.esc_base.specs.Numbers.{mode_of}
@@ -29,7 +28,7 @@ use Rattle.esc_laws.specs.Searched.{sight_at, calls_cmp}
 use Rattle.esc_laws.proofs.Comparator.{held_before}
 use Rattle.esc_laws.specs.Place.{Signal, Listens, Rests, place}
 use Rattle.esc_laws.specs.Rested.{first_rested}
-use Rattle.esc_laws.specs.Windowed.{Answers, AnswersAt, OpensAt, WindowRule, Windowed}
+use Rattle.esc_laws.specs.Windowed.{Answers, AnswersAt, OpensAt, WindowRule}
 use Rattle.esc_laws.specs.Seen.{calls_cap, sees}
 use Rattle.esc_laws.proofs.Rests.{first_stays, first_before}
 
@@ -78,31 +77,18 @@ opens_grow trace e (Rests from latest r) entered t le o = record {
 }
 opens_grow trace e s entered t le o = o
 
-rule_grows : (loaded : Loaded) (trace : List Event) (e : Event) (before : List Note) (n : Note) → time_of n ≤ tick_of e → WindowRule loaded trace before n
+pub window_grows : (loaded : Loaded) (trace : List Event) (e : Event) (before : List Note) (n : Note) → time_of n ≤ tick_of e → WindowRule loaded trace before n
     → WindowRule loaded (trace ++ e ∷ []) before n
-rule_grows loaded trace e before (note.Good t v q) le r =
+window_grows loaded trace e before (note.Good t v q) le r =
     answers_at_grow loaded trace e (place before).signal (place before).cap_entered t.0 (note.Good t v q) le r
-rule_grows loaded trace e before (note.Detected t m) le r =
+window_grows loaded trace e before (note.Detected t m) le r =
     answers_at_grow loaded trace e (place before).signal (place before).cap_entered t.0 (note.Detected t m) le r
-rule_grows loaded trace e before (note.Nothing t) le r =
+window_grows loaded trace e before (note.Nothing t) le r =
     answers_at_grow loaded trace e (place before).signal (place before).cap_entered t.0 (note.Nothing t) le r
-rule_grows loaded trace e before (note.Bad t w) le r = answers_at_grow loaded trace e (place before).signal (place before).cap_entered t.0 (note.Bad t w) le r
-rule_grows loaded trace e before (note.Window t m) le r = (opens_grow trace e (place before).signal (place before).cap_entered t.0 le r.0, r.1)
-rule_grows loaded trace e before (note.Leave t k) le r = r
-rule_grows loaded trace e before n le r = r
-
-windowed_from : (loaded : Loaded) (trace : List Event) (e : Event) (before notes : List Note) → All (λ n. time_of n ≤ tick_of e) notes
-    → Each (WindowRule loaded trace) before notes → Each (WindowRule loaded (trace ++ e ∷ [])) before notes
-windowed_from loaded trace e before [] past w = tt
-windowed_from loaded trace e before (n ∷ notes) past w = (
-  rule_grows loaded trace e before n (All-head (λ x. time_of x ≤ tick_of e) n notes past) w.0,
-  windowed_from loaded trace e (before ++ n ∷ []) notes
-      (All-tail (λ x. time_of x ≤ tick_of e) n notes past) w.1,
-)
-
-pub windowed_grows : (loaded : Loaded) (trace : List Event) (e : Event) (notes : List Note) → All (λ n. time_of n ≤ tick_of e) notes
-    → Windowed loaded trace notes → Windowed loaded (trace ++ e ∷ []) notes
-windowed_grows loaded trace e notes past w = windowed_from loaded trace e [] notes past w
+window_grows loaded trace e before (note.Bad t w) le r = answers_at_grow loaded trace e (place before).signal (place before).cap_entered t.0 (note.Bad t w) le r
+window_grows loaded trace e before (note.Window t m) le r = (opens_grow trace e (place before).signal (place before).cap_entered t.0 le r.0, r.1)
+window_grows loaded trace e before (note.Leave t k) le r = r
+window_grows loaded trace e before n le r = r
 
 -- ---- what is seen due
 

@@ -9,7 +9,7 @@ use Rattle.settings_block.specs.declared.stored.Loaded.{Loaded}
 use Rattle.interrupt_machine.specs.declared.nest.Nest.{Nest}
 use Rattle.esc_laws.specs.Place.{next, nowhere, place}
 use Rattle.esc_laws.specs.Steps.{Turned, opening, notes_in, journal, past_stall, free, next_step, after, uses, own_next, own_steps, entered_next, entered_at, since_next, steps_since, called_next, called_from, called, EachStep}
-use Rattle.esc_laws.specs.World.{none_made, made_next, made}
+use Rattle.esc_laws.specs.Looks.{none_made, made_next, made}
 
 pub place-push : (notes : List Note) (n : Note) → place (notes ++ n ∷ []) ≡ next (place notes) n
 unfolding place

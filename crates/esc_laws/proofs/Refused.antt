@@ -31,11 +31,11 @@ use Rattle.esc_laws.specs.Windowed.{verdict_note, Answers, WindowRule, WindowRul
 use Rattle.esc_laws.specs.Saves.{advance_of}
 use Rattle.esc_laws.specs.Nested.{IsAboveAll, NestRule, NestRuleAt, NestedAfter}
 use Rattle.esc_laws.specs.Steps.{opening}
-use Rattle.esc_laws.specs.World.{placed}
+use Rattle.esc_laws.specs.Looks.{placed}
 use Rattle.esc_laws.specs.Rested.{first_rested}
 use Rattle.esc_laws.proofs.Rests.{first_more}
 use Rattle.esc_laws.specs.Refused.{first_two, rows, frames, armed, switches, turns, crosses, started, late_low, enters, leaves, window, good, bad, found, nothing, ticks, arms, loses, acts, saves, ControlRefuses, one_edge, late_edge, WindowsRefuse, NestingRefuses}
-use Rattle.esc_laws.proofs.Stages.{placed-is}
+use Rattle.esc_laws.proofs.Placed.{placed-is}
 
 -- ---- control
 

@@ -1,11 +1,10 @@
 -- Later events change nothing of what the notes said of replies: a frame's window has closed before its reply.
-use Rattle.std.proofs.Common.{◌≡◌, ◌≤◌, ℕ, Bool, true, false, ◌==◌, if◌then◌else◌, List, [], ◌∷◌, ◌++◌, reverse, Some, Option, refl, sym, subst, arith, All}
-use Rattle.std.proofs.lemmas.List.Elements.{All-head, All-tail}
+use Rattle.std.proofs.Common.{◌≡◌, ◌≤◌, ℕ, Bool, true, false, ◌==◌, if◌then◌else◌, List, [], ◌∷◌, ◌++◌, Some, Option, refl, sym, subst, arith}
 use Rattle.esc_base.specs.declared.kind.Kind.{Kind}
 use Rattle.esc_base.specs.declared.event.Event.{Event}
 use Rattle.esc_base.specs.declared.note.Note.{Note}
 use Rattle.esc_base.specs.declared.note.Note.TheVariants as note
-use Rattle.esc_base.specs.Journal.{Each, time_of}
+use Rattle.esc_base.specs.Journal.{time_of}
 use Rattle.esc_base.specs.Numbers.{mode_of}
 use Rattle.esc_base.specs.Trace.{line, tick_of}
 use Rattle.edge_capture.specs.Burst.{close}
@@ -13,17 +12,16 @@ use Rattle.edge_capture.proofs.Grows.{burst_grows}
 use Rattle.interrupt_machine.specs.Open.{kind_of}
 use Rattle.settings_block.specs.declared.stored.Loaded.{Loaded}
 use Rattle.esc_laws.specs.Place.{Signal, Listens, Judged, Owes, Tells, Replies, Place, is_answered, framed, told, replied, rested, place_entered, next, place}
-use Rattle.esc_laws.specs.Windowed.{AnswersAt, WindowRuleAt, WindowRule, Windowed}
-use Rattle.esc_laws.specs.Replied.{RepliesAt, ReplyRule, Replied}
-use Rattle.esc_laws.proofs.Pushes.{place-push}
+use Rattle.esc_laws.specs.Windowed.{AnswersAt, WindowRuleAt}
+use Rattle.esc_laws.specs.Replied.{RepliesAt, ReplyRule}
 
 -- the window of the frame that is answered has closed by u
-record HasClosed (trace : List Event) (w m u : ℕ) : Type 0 where
+pub record HasClosed (trace : List Event) (w m u : ℕ) : Type 0 where
   at : ℕ
   closes : close (line trace).edges w (mode_of m) ≡ Some at
   past : at ≤ u
 
-abbrev Settled : List Event → ℕ → Signal → Type 0
+abbrev pub Settled : List Event → ℕ → Signal → Type 0
 Settled trace u (Owes w m) = HasClosed trace w m u
 Settled trace u (Tells w m period) = HasClosed trace w m u
 Settled trace u s = Unit {0}
@@ -70,7 +68,7 @@ entered_signal p t k = by_tests (k == 3) (k == 2) (k == 0) (kind_of k ∷ p.stac
     by_tests false false true stack = refl
     by_tests false false false stack = refl
 
-settled_next : (loaded : Loaded) (trace : List Event) (u : ℕ) (p : Place) (back : List Note) (n : Note) → time_of n ≤ u
+pub settled_next : (loaded : Loaded) (trace : List Event) (u : ℕ) (p : Place) (back : List Note) (n : Note) → time_of n ≤ u
     → WindowRuleAt loaded trace p back n → Settled trace u p.signal → Settled trace u (next p n).signal
 settled_next loaded trace u p back (note.Enter t k) le r h = subst (λ (s : Signal). Settled trace u s) (sym (entered_signal p t.0 k)) h
 settled_next loaded trace u p back (note.Leave t k) le r h = left_settled (k == 3) trace u p.signal t.0 h
@@ -92,29 +90,9 @@ replies_grow trace e (Tells w m period) t start bits h r = record {
 }
 replies_grow trace e s t start bits h r = r
 
-rule_grows : (trace : List Event) (e : Event) (before : List Note) (n : Note) → Settled trace (tick_of e) (place before).signal → ReplyRule trace before n
+pub reply_grows : (trace : List Event) (e : Event) (before : List Note) (n : Note) → Settled trace (tick_of e) (place before).signal → ReplyRule trace before n
     → ReplyRule (trace ++ e ∷ []) before n
-rule_grows trace e before (note.Reply t s b) h r = replies_grow trace e (place before).signal t.0 s.0 b h r
-rule_grows trace e before (note.Period t period) h r = r
-rule_grows trace e before (note.Leave t k) h r = r
-rule_grows trace e before n h r = r
-
-replied_from : (loaded : Loaded) (trace : List Event) (e : Event) (before notes : List Note) → All (λ n. time_of n ≤ tick_of e) notes
-    → Settled trace (tick_of e) (place before).signal → Each (WindowRule loaded trace) before notes
-    → Each (ReplyRule trace) before notes → Each (ReplyRule (trace ++ e ∷ [])) before notes
-replied_from loaded trace e before [] past h w r = tt
-replied_from loaded trace e before (n ∷ notes) past h w r = (
-  rule_grows trace e before n h r.0,
-  replied_from loaded trace e (before ++ n ∷ []) notes (All-tail (λ x. time_of x ≤ tick_of e) n notes past)
-      (rw (place-push before n)
-      (settled_next loaded trace (tick_of e) (place before) (reverse before) n (All-head (λ x. time_of x ≤ tick_of e) n notes past) w.0 h))
-      w.1 r.1,
-)
-
-settled_none : (trace : List Event) (u : ℕ) → Settled trace u (place []).signal
-unfolding place
-settled_none trace u = tt
-
-pub replied_grows : (loaded : Loaded) (trace : List Event) (e : Event) (notes : List Note) → All (λ n. time_of n ≤ tick_of e) notes
-    → Windowed loaded trace notes → Replied trace notes → Replied (trace ++ e ∷ []) notes
-replied_grows loaded trace e notes past w r = replied_from loaded trace e [] notes past (settled_none trace (tick_of e)) w r
+reply_grows trace e before (note.Reply t s b) h r = replies_grow trace e (place before).signal t.0 s.0 b h r
+reply_grows trace e before (note.Period t period) h r = r
+reply_grows trace e before (note.Leave t k) h r = r
+reply_grows trace e before n h r = r

@@ -10,7 +10,7 @@ use Rattle.esc_base.specs.Times.{rest}
 use Rattle.timer_regs.specs.Rest.{put_off}
 use Rattle.edge_capture.specs.Edges.{Rising}
 use Rattle.esc_laws.specs.Rested.{IsRested, FirstRestedTick, past_change, first_rested}
-use Rattle.esc_laws.specs.Tied.{IsSet, IsRestFrom}
+use Rattle.esc_laws.specs.RestFrom.{IsSet, IsRestFrom}
 
 -- ---- one change
 

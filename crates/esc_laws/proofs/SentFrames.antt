@@ -22,7 +22,7 @@ use Rattle.servo_input.specs.declared.servo.Servo.{Servo}
 use Rattle.settings_block.specs.Settings.{servo_of}
 use Rattle.esc_laws.specs.Windowed.{verdict_note}
 use Rattle.esc_laws.specs.HeardWhole.{KeepsOn, StandsAlone, SentFrameIsRead}
-use Rattle.esc_laws.proofs.Facts.{mode_of-number}
+use Rattle.esc_laws.proofs.Modes.{mode_of-number}
 use Rattle.esc_laws.proofs.Growth.{last_at-push}
 use Rattle.esc_laws.proofs.HeardWhole.{whole_signal_is_heard}
 

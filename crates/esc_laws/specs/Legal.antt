@@ -9,16 +9,8 @@ use Rattle.settings_block.specs.declared.stored.Loaded.{Loaded}
 use Rattle.interrupt_machine.specs.declared.nest.Nest.{Nest}
 use Rattle.interrupt_machine.specs.declared.nest.Nest.TheVariants.{Full}
 use Rattle.arming.specs.Controlled.{Controlled}
-use Rattle.commutation.specs.Commutated.{Commutated}
-use Rattle.gate_driver.specs.DeadSafe.{DeadSafe}
-use Rattle.esc_laws.specs.Windowed.{Windowed}
-use Rattle.esc_laws.specs.Replied.{Replied}
-use Rattle.esc_laws.specs.Driven.{Driven}
-use Rattle.esc_laws.specs.Crossed.{Crossed}
-use Rattle.esc_laws.specs.Searched.{Searched}
-use Rattle.esc_laws.specs.Saves.{advance_of, forward_at}
 use Rattle.esc_laws.specs.Chopped.{Chopped}
-use Rattle.esc_laws.specs.Nested.{NestedAfter}
+use Rattle.esc_laws.specs.NoteLaw.{Lawful}
 use Rattle.esc_laws.specs.Steps.{Turned, opening, journal, notes_in, EachStep, StepFits, Awaits, OpenFew, Below}
 
 -- The journal is legal up to tick T for the settings that were loaded, a trace, a step cost and a nesting: it begins with
@@ -31,16 +23,9 @@ pub record Legal (loaded : Loaded) (nest : Nest) (cost : ℕ) (trace : List Even
   pub begins : notes ≡ opening loaded ++ rest
   pub in_range : All InRange notes
   pub in_time : Journal notes
-  pub windowed : Windowed loaded trace notes
-  pub replied : Replied trace notes
+  pub lawful : Lawful loaded nest trace rest
   pub controlled : Controlled notes
-  pub dead_safe : DeadSafe notes
-  pub driven : Driven notes
-  pub commutated : Commutated (advance_of loaded.settings) (forward_at loaded.settings) notes
-  pub crossed : Crossed trace (forward_at loaded.settings) notes
-  pub searched : Searched trace (forward_at loaded.settings) notes
   pub chopped : nest ≡ Full → Chopped cost trace until notes
-  pub nested : NestedAfter (advance_of loaded.settings) nest (opening loaded) rest
   pub log : List Turned
   pub steps_are : rest ≡ notes_in log
   pub fits : EachStep (StepFits loaded nest cost trace) [] log
@@ -59,16 +44,9 @@ pub record LegalFront (loaded : Loaded) (nest : Nest) (cost : ℕ) (trace : List
   pub notes_are : notes ≡ journal loaded log ++ front
   pub in_range : All InRange notes
   pub in_time : Journal notes
-  pub windowed : Windowed loaded trace notes
-  pub replied : Replied trace notes
+  pub lawful : Lawful loaded nest trace (notes_in log ++ front)
   pub controlled : Controlled notes
-  pub dead_safe : DeadSafe notes
-  pub driven : Driven notes
-  pub commutated : Commutated (advance_of loaded.settings) (forward_at loaded.settings) notes
-  pub crossed : Crossed trace (forward_at loaded.settings) notes
-  pub searched : Searched trace (forward_at loaded.settings) notes
   pub chopped : nest ≡ Full → Chopped cost trace broken.tick notes
-  pub nested : NestedAfter (advance_of loaded.settings) nest (opening loaded) (notes_in log ++ front)
   pub fits : EachStep (StepFits loaded nest cost trace) [] (log ++ broken ∷ [])
   pub below : Below broken.tick log
   pub all_made : Awaits loaded cost trace broken.tick log

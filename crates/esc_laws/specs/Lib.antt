@@ -1,4 +1,6 @@
--- the laws, which end in `Legal`, and what a journal says of the flash
+pub mod InTime
+pub mod Looks
+pub mod RestFrom
 pub mod Place
 pub mod Rested
 pub mod Windowed
@@ -14,32 +16,13 @@ pub mod Nested
 pub mod Seen
 pub mod Steps
 pub mod Chopped
+pub mod NoteLaw
+pub mod Said
 pub mod Legal
 pub mod Saves
--- what is shown of them
 pub mod Refused
 pub mod RefusedCrossings
 pub mod RefusedReplies
 pub mod RefusedChops
 pub mod Allowed
 pub mod DutyKept
--- the machinery that proves a run legal
-pub mod Tied
-pub mod DriveTied
-pub mod CrossTied
-pub mod PeriodTied
-pub mod World
-pub mod Rooms
-pub mod ChopStalls
-pub mod ChopView
-pub mod ChopSteps
-pub mod Logged
-pub mod ChopLog
-pub mod ChopLaws
-pub mod ChopPeriods
-pub mod ChopPlaced
-pub mod ChopFresh
-pub mod ChopPairs
-pub mod ChopCalm
-pub mod ChopNotes
-pub mod ChopBridge

@@ -55,7 +55,7 @@ newest_last t (x ∷ rest) r = newest_last x.t rest r
 
 -- ---- the byte that completes a packet is its last one
 
-some_asked : (n : ℕ) → 0 < count_of n
+pub some_asked : (n : ℕ) → 0 < count_of n
 some_asked n = some_at (n == 0) n refl where
   some_at : (b : Bool) (n : ℕ) → (n == 0) ≡ b → 0 < (if b then 256 else n)
   some_at true n e = omega arith

@@ -2,7 +2,7 @@ ghost use Rattle.std.specs.Prelude.{◌≡◌, ◌<◌, ◌≤◌, ◌++◌, [],
 ghost use Rattle.esc_base.specs.declared.event.Arrived.TheVariants as arrived;
 ghost use Rattle.fourway_packet.specs.declared.packets.Received.{Received};
 ghost use Rattle.fourway_packet.specs.Cut.{cut};
-ghost use Rattle.fourway_packet.specs.Queue.{HasTaken, IsFull};
+ghost use Rattle.fourway_packet.specs.Queue.{HasTaken, IsFull, no_bytes, queued, packet_taken, queue_left};
 
 use crate::Packet;
 use crate::part::Part;
@@ -42,7 +42,7 @@ impl Model for Packets {
 impl Packets {
     /// No bytes wait, and none were taken.
     pub fn new(alloc: Global) -> Result<Packets, NoMemory>
-        ensures none { IfOk result (λ packets. packets.waiting ≡ []) }
+        ensures none { IfOk result (λ packets. packets ≡ no_bytes) }
         ensures taken { IfOk result (λ packets. HasTaken packets []) }
     {
         match HeapCircularBuffer::with_capacity(alloc, ROOM) {
@@ -58,6 +58,7 @@ impl Packets {
     pub fn push(&mut self, t: Tick, b: u8) -> Arrived
         ensures lost { (result ≡ Arrived.Lost) ↔ IsFull self.old }
         ensures kept { result ≡ Arrived.Kept → self.new.waiting ≡ self.old.waiting ++ record { t = t; byte = b } ∷ [] }
+        ensures queued { result ≡ Arrived.Kept → self.new ≡ queued self.old (record { t = t; byte = b }) }
         ensures unchanged { result ≡ Arrived.Lost → self.new ≡ self.old }
         ensures taken { (taken : List Received) → HasTaken self.old taken → HasTaken self.new taken }
     {
@@ -80,6 +81,8 @@ impl Packets {
     /// begun.
     pub fn take(&mut self) -> Option<Packet>
         requires { 0 < length self.old.waiting }
+        ensures packet { result ≡ packet_taken self.old }
+        ensures queue { self.new ≡ queue_left self.old }
         ensures waiting { self.new.waiting ≡ drop 1 self.old.waiting }
         ensures cut { (taken : List Received) → HasTaken self.old taken →
             cut (taken ++ take 1 self.old.waiting) ≡ cut taken ++ option_to_list result }

@@ -25,7 +25,8 @@ pub struct Part {
 impl Part {
     /// No bytes.
     pub(crate) fn new() -> Part
-        ensures { result.bytes.items ≡ [] }
+        ensures none { result.bytes.items ≡ [] }
+        ensures newest { result.newest ≡ record { 0 = 0 } }
     {
         Part {
             bytes: ArrayVec::new(),

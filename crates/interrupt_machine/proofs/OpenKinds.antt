@@ -201,3 +201,20 @@ pub idle_entered : (nest : Nest) (masked : Bool) (stack : List Kind) (due : Kind
     → entry ≡ (if masked then None else next_entry nest stack due) → false ≡ is_idle stack due
 idle_entered nest masked stack due None some e = cc
 idle_entered nest masked stack due (Some k) some e = sym (busy_entry nest masked stack due k e)
+
+-- none of CAP and the kinds below it enters above CAP
+none_above_cap : (nest : Nest) (c t u m : Bool)
+    → enters_above nest (Some kind.Cap) (if c then Some kind.Cap else if t then Some kind.Tick else if u then Some kind.Uart else if m then Some kind.Main else None) ≡ None
+none_above_cap One true t u m = refl
+none_above_cap One false true u m = refl
+none_above_cap One false false true m = refl
+none_above_cap One false false false true = refl
+none_above_cap One false false false false = refl
+none_above_cap Full true t u m = refl
+none_above_cap Full false true u m = refl
+none_above_cap Full false false true m = refl
+none_above_cap Full false false false true = refl
+none_above_cap Full false false false false = refl
+
+pub stays_in_cap : (nest : Nest) (inner : Option Kind) (due : Kind → Bool) → inner ≡ Some kind.Cap → None ≡ enters_above nest inner (find due up_to_cap)
+stays_in_cap nest inner due e = rw e (sym (none_above_cap nest (due kind.Cap) (due kind.Tick) (due kind.Uart) (due kind.Main)))

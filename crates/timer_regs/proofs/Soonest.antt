@@ -51,7 +51,7 @@ first_of_both now p q (Some x) (Some y) f g = of_both (nat_lt y x) now x y p q r
 abbrev some_due : Bank → ℕ → Bool
 some_due b u =
     either (either (either (becomes_due b kinds.Tick) (becomes_due b kinds.Cap)) (becomes_due b kinds.Cmp))
-    (either (becomes_due b kinds.Pwm) (becomes_due b kinds.Comm)) u
+    (either (either (becomes_due b kinds.Pwm) (becomes_due b kinds.Comm)) (becomes_due b kinds.Uart)) u
 
 left_none : (a b : Bool) → (a || b) ≡ false → a ≡ false
 left_none true b e = e
@@ -65,23 +65,24 @@ none_due : (b : Bank) (k : Kind) (u : ℕ) → some_due b u ≡ false → become
 none_due b kinds.Tick u e = left_none _ _ (left_none _ _ (left_none _ _ e))
 none_due b kinds.Cap u e = right_none _ _ (left_none _ _ (left_none _ _ e))
 none_due b kinds.Cmp u e = right_none _ _ (left_none _ _ e)
-none_due b kinds.Pwm u e = left_none _ _ (right_none _ _ e)
-none_due b kinds.Comm u e = right_none _ _ (right_none _ _ e)
+none_due b kinds.Pwm u e = left_none _ _ (left_none _ _ (right_none _ _ e))
+none_due b kinds.Comm u e = right_none _ _ (left_none _ _ (right_none _ _ e))
+none_due b kinds.Uart u e = right_none _ _ (right_none _ _ e)
 none_due b kinds.Main u e = refl
-none_due b kinds.Uart u e = refl
 
-which_due : (b : Bank) (u : ℕ) (t c z p : Bool) → becomes_due b kinds.Tick u ≡ t → becomes_due b kinds.Cap u ≡ c → becomes_due b kinds.Cmp u ≡ z
-    → becomes_due b kinds.Pwm u ≡ p → (((t || c) || z) || (p || becomes_due b kinds.Comm u)) ≡ true → (k : Kind) × (becomes_due b k u ≡ true)
-which_due b u true c z p et ec ez ep e = (kinds.Tick, et)
-which_due b u false true z p et ec ez ep e = (kinds.Cap, ec)
-which_due b u false false true p et ec ez ep e = (kinds.Cmp, ez)
-which_due b u false false false true et ec ez ep e = (kinds.Pwm, ep)
-which_due b u false false false false et ec ez ep e = (kinds.Comm, e)
+which_due : (b : Bank) (u : ℕ) (t c z p m : Bool) → becomes_due b kinds.Tick u ≡ t → becomes_due b kinds.Cap u ≡ c → becomes_due b kinds.Cmp u ≡ z
+    → becomes_due b kinds.Pwm u ≡ p → becomes_due b kinds.Comm u ≡ m → (((t || c) || z) || ((p || m) || becomes_due b kinds.Uart u)) ≡ true → (k : Kind) × (becomes_due b k u ≡ true)
+which_due b u true c z p m et ec ez ep em e = (kinds.Tick, et)
+which_due b u false true z p m et ec ez ep em e = (kinds.Cap, ec)
+which_due b u false false true p m et ec ez ep em e = (kinds.Cmp, ez)
+which_due b u false false false true m et ec ez ep em e = (kinds.Pwm, ep)
+which_due b u false false false false true et ec ez ep em e = (kinds.Comm, em)
+which_due b u false false false false false et ec ez ep em e = (kinds.Uart, e)
 
 next_of : (b : Bank) (at : Option ℕ) → IsFirstAfter b.time (some_due b) at → IsNextDue b at
 next_of b None f = λ k u lo. none_due b k u (f u lo)
 next_of b (Some t) f =
-    let which = which_due b t _ _ _ _ refl refl refl refl f.due in
+    let which = which_due b t _ _ _ _ _ refl refl refl refl refl f.due in
     record {
       later = f.later;
       kind = which.0;
@@ -89,10 +90,16 @@ next_of b (Some t) f =
       none_before = λ k u lo hi. none_due b k u (f.none_before u lo hi);
     }
 
-pub soonest : (b : Bank) (t c z p m : Option ℕ) → IsFirstDue b kinds.Tick t → IsFirstDue b kinds.Cap c → IsFirstDue b kinds.Cmp z
-    → IsFirstDue b kinds.Pwm p → IsFirstDue b kinds.Comm m → IsNextDue b (sooner (sooner (sooner t c) z) (sooner p m))
-soonest b t c z p m ft fc fz fp fm =
+pub soonest : (b : Bank) (t c z p m s : Option ℕ) → IsFirstDue b kinds.Tick t → IsFirstDue b kinds.Cap c → IsFirstDue b kinds.Cmp z
+    → IsFirstDue b kinds.Pwm p → IsFirstDue b kinds.Comm m → IsFirstDue b kinds.Uart s
+    → IsNextDue b (sooner (sooner (sooner t c) z) (sooner (sooner p m) s))
+soonest b t c z p m s ft fc fz fp fm fs =
     let lower = first_of_both b.time _ _ t c ft fc in
     let middle = first_of_both b.time _ _ (sooner t c) z lower fz in
     let upper = first_of_both b.time _ _ p m fp fm in
-    next_of b (sooner (sooner (sooner t c) z) (sooner p m)) (first_of_both b.time _ _ (sooner (sooner t c) z) (sooner p m) middle upper)
+    let top = first_of_both b.time _ _ (sooner p m) s upper fs in
+    next_of b (sooner (sooner (sooner t c) z) (sooner (sooner p m) s)) (first_of_both b.time _ _ (sooner (sooner t c) z) (sooner (sooner p m) s) middle top)
+
+pub or_left_only : (a b : Bool) → b ≡ false → (a || b) ≡ a
+or_left_only true b e = refl
+or_left_only false b e = e

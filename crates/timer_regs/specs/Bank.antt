@@ -1,5 +1,6 @@
 -- What a contract sees of the registers: a field for each fact of the hardware.
 use Rattle.std.specs.Prelude.{ℕ, Bool, Option}
+use Rattle.esc_base.specs.declared.event.Received.{Received}
 use Rattle.edge_capture.specs.Window.{Window}
 
 pub record Bank : Type 0 where
@@ -41,5 +42,11 @@ pub record Bank : Type 0 where
   pub period : ℕ
   -- the tick at which the last reply ends, 0 before any
   pub reply_end : ℕ
+  -- the serial byte that waits in the receive register
+  pub receive : Option Received
+  -- the transmitter is idle from this tick on
+  pub idle_from : ℕ
+  -- bytes are to be sent
+  pub sends : Bool
   -- the control tick number that was last read
   pub number_read : ℕ

@@ -10,8 +10,9 @@ use Rattle.esc_base.specs.Trace.{differ}
 use Rattle.edge_capture.specs.Edges.{edge_at}
 use Rattle.edge_capture.specs.Window.{unarmed, opened_in, after_edge, window_closed}
 use Rattle.timer_regs.specs.declared.regs.Reg.{Reg}
-use Rattle.timer_regs.specs.declared.regs.Reg.TheVariants.{GhSet, GlSet, GhClr, GlClr, Mask, Duty, PwmPos, Sector, CommAt, DriveOff, Stuck, CmpState, CmpAck, CmpEn, CmpAt, CapState, CapEdge, CapArm, CapAt, Reply, Period, TickState, Txd, TxOn}
+use Rattle.timer_regs.specs.declared.regs.Reg.TheVariants.{GhSet, GlSet, GhClr, GlClr, Mask, Duty, PwmPos, Sector, CommAt, DriveOff, Stuck, CmpState, CmpAck, CmpEn, CmpAt, CapState, CapEdge, CapArm, CapAt, Reply, Period, TickState, UartState, UartTime, UartData, Txd, TxOn}
 use Rattle.timer_regs.specs.Rest.{rests_from, put_off}
+use Rattle.timer_regs.specs.Uart.{received_at, received_byte, uart_state, asks_uart, after_arrival, byte_time}
 use Rattle.timer_regs.specs.Reply.{end_of_reply}
 use Rattle.timer_regs.specs.Bank.{Bank}
 use Rattle.timer_regs.specs.Pwm.{has_edge}
@@ -39,6 +40,9 @@ reset = record {
   crossing = None;
   period = 0;
   reply_end = 0;
+  receive = None;
+  idle_from = 0;
+  sends = false;
   number_read = 0;
 }
 
@@ -87,11 +91,15 @@ read_value b Sector = b.sector
 read_value b CmpState = comp_state b
 read_value b Reply = b.reply_end
 read_value b Period = b.period
+read_value b UartState = uart_state b.receive b.idle_from b.time
+read_value b UartTime = received_at b.receive
+read_value b UartData = received_byte b.receive
 read_value b r = 0
 
--- what a read leaves: it is counted, and the control tick's number counts as read
+-- what a read leaves: it is counted, the control tick's number counts as read, and the serial byte is taken
 abbrev pub after_read : Bank → Reg → Bank
 after_read b TickState = record b { accesses = b.accesses + 1; number_read = number_at b.time }
+after_read b UartData = record b { accesses = b.accesses + 1; receive = None }
 after_read b r = counted b
 
 -- what a write leaves; one to any other register is counted, and has no effect
@@ -113,6 +121,8 @@ written b CmpEn v = record b { accesses = b.accesses + 1; comp_changed = b.comp_
 written b CmpAt v = record b { accesses = b.accesses + 1; comp_enabled = false; crossing = Some v }
 written b Reply v = record b { accesses = b.accesses + 1; reply_end = end_of_reply b.window b.time }
 written b Period v = record b { accesses = b.accesses + 1; period = v }
+written b Txd v = record b { accesses = b.accesses + 1; idle_from = b.time + byte_time }
+written b TxOn v = record b { accesses = b.accesses + 1; sends = v == 1 }
 written b r v = counted b
 
 -- the values that may be written
@@ -143,6 +153,9 @@ IsSmall Sector v = v ≤ 6
 IsSmall CmpState v = v ≤ 3
 IsSmall Reply v = v < 2 ^ 32
 IsSmall Period v = v < 2 ^ 32
+IsSmall UartState v = v ≤ 3
+IsSmall UartTime v = v < 2 ^ 31
+IsSmall UartData v = v < 2 ^ 8
 IsSmall r v = v ≡ 0
 
 -- time alone goes on to a tick, and a PWM event on the way sets the flag
@@ -166,6 +179,10 @@ after_line b level =
 abbrev pub after_comp : Bank → Bool → Bank
 after_comp b level = if differ b.comp level then record b { comp = level; comp_changed = true } else b
 
+-- a serial byte arrives: it is kept where none waits, and else lost
+abbrev pub after_serial : Bank → ℕ → Bank
+after_serial b byte = record b { receive = after_arrival b.receive b.time byte }
+
 -- which kinds are due; MAIN is the firmware's matter
 abbrev pub is_due : Bank → Kind → Bool
 is_due b kind.Cap = (is_readable b && not b.taken) || is_reached b.timer b.time
@@ -173,6 +190,7 @@ is_due b kind.Cmp = is_reached b.crossing b.time || (b.comp_enabled && b.comp_ch
 is_due b kind.Tick = not (number_at b.time == b.number_read)
 is_due b kind.Comm = is_reached b.comm b.time
 is_due b kind.Pwm = b.flag
+is_due b kind.Uart = asks_uart b.receive b.sends b.idle_from b.time
 is_due b k = false
 
 -- what entering a kind clears: COMM disarms its timer, PWM takes the event, CMP disarms its timer and is asked for by no

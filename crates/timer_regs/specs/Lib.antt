@@ -1,6 +1,7 @@
 pub mod Kinds
 pub mod Rest
 pub mod Reply
+pub mod Uart
 pub mod Bank
 pub mod Pwm
 pub mod Effects

@@ -5,6 +5,7 @@ use Rattle.edge_capture.specs.Edges.{last_at}
 use Rattle.timer_regs.specs.Bank.{Bank}
 use Rattle.timer_regs.specs.Pwm.{edge_after}
 use Rattle.timer_regs.specs.Rest.{rests_from}
+use Rattle.timer_regs.specs.Uart.{IsBy, byte_time}
 
 pub record IsSound (b : Bank) : Type 0 where
   pub small : b.time < 2 ^ 31
@@ -20,6 +21,9 @@ pub record IsSound (b : Bank) : Type 0 where
   pub period : b.period < 2 ^ 32
   -- a reply that was loaded by now ends soon
   pub reply : b.reply_end ≤ b.time + 4128
+  -- a serial byte that waits has arrived, and the transmitter is soon idle
+  pub received : IsBy b.receive b.time
+  pub idle : b.idle_from ≤ b.time + byte_time
   -- no edge later than now was heard
   pub last : last_at b.window.edges ≤ b.time
 

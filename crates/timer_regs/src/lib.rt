@@ -5,6 +5,7 @@
 mod comparator;
 mod kinds;
 mod regs;
+mod uart;
 #[cfg(test)]
 mod tests;
 

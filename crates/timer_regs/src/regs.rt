@@ -1,4 +1,4 @@
-ghost use Rattle.std.specs.Prelude.{◌≡◌, ◌+◌, ◌<◌, ◌≤◌, ◌^◌, bit_or, ℕ, max, true, false, None};
+ghost use Rattle.std.specs.Prelude.{◌≡◌, ◌+◌, ◌<◌, ◌≤◌, ◌^◌, bit_or, ℕ, max, true, false, None, if◌then◌else◌};
 ghost use Rattle.esc_base.specs.declared.kind.Kind.{Kind};
 ghost use Rattle.esc_base.specs.declared.kind.Kind.TheVariants as kinds;
 ghost use Rattle.esc_base.specs.Numbers.{mode_of};
@@ -9,11 +9,14 @@ ghost use Rattle.timer_regs.specs.Rest.{rests_from, put_off as put_off_at};
 ghost use Rattle.timer_regs.specs.Reply.{answers_from, end_of_reply as end_of};
 ghost use Rattle.edge_capture.specs.Edges.{last_at};
 ghost use Rattle.timer_regs.specs.Pwm.{edge_after};
-ghost use Rattle.timer_regs.specs.Effects.{reset, counted, comp_state, read_value, IsSmall, after_read, IsRange, written, advanced, after_line, after_comp, is_due, after_entry, edges_read, edge_read, shown_edge, number_at, tick_state as tick_state_of, without as word_without};
+ghost use Rattle.timer_regs.specs.Uart.{is_full};
+ghost use Rattle.esc_base.specs.declared.event.Arrived.TheVariants as arrived;
+ghost use Rattle.timer_regs.specs.Effects.{reset, counted, comp_state, read_value, IsSmall, after_read, IsRange, written, advanced, after_line, after_comp, after_serial, is_due, after_entry, edges_read, edge_read, shown_edge, number_at, tick_state as tick_state_of, without as word_without};
 ghost use Rattle.timer_regs.specs.NextDue.{tick_of, sooner as sooner_of, IsFirstDue, IsNextDue};
 
 use crate::KindSet;
 use crate::comparator::Comparator;
+use crate::uart::{BYTE_TIME, Uart};
 use edge_capture::{Burst, Capture, Edge};
 use esc_base::{Arrived, GateWord, Kind, Mode, Tick};
 use std::marker::Model;
@@ -116,6 +119,7 @@ pub struct Regs {
     period: u32,
     /// The tick at which the last reply ends, 0 before any.
     reply_end: u32,
+    uart: Uart,
     number_read: u32,
 }
 
@@ -148,6 +152,9 @@ impl Model for Regs {
       crossing = tick_of r.comparator.timer;
       period = r.period;
       reply_end = r.reply_end;
+      receive = r.uart.receive;
+      idle_from = r.uart.idle_from.0;
+      sends = r.uart.sends;
       number_read = r.number_read;
     } };
 
@@ -173,6 +180,9 @@ impl Model for Regs {
       crossing = tick_of r.comparator.timer;
       period = r.period;
       reply_end = r.reply_end;
+      receive = r.uart.receive;
+      idle_from = r.uart.idle_from.0;
+      sends = r.uart.sends;
       number_read = r.number_read;
     }) (tick_of r.pwm_edge) };
 }
@@ -201,6 +211,7 @@ impl Regs {
             comparator: Comparator::new(),
             period: 0,
             reply_end: 0,
+            uart: Uart::new(),
             number_read: 0,
         }
     }
@@ -256,6 +267,9 @@ impl Regs {
             Reg::CmpState => self.comparator.state(),
             Reg::Reply => self.reply_end,
             Reg::Period => self.period,
+            Reg::UartState => self.uart.state(self.time),
+            Reg::UartTime => self.uart.arrived_at(),
+            Reg::UartData => self.uart.take(),
             _ => 0,
         }
     }
@@ -293,6 +307,8 @@ impl Regs {
             Reg::CmpAt => self.comparator.arm(Tick(v as u64)),
             Reg::Reply => self.reply_end = end_of_reply(&self.window, self.time),
             Reg::Period => self.period = v,
+            Reg::Txd => self.uart.idle_from = Tick(self.time.0 + BYTE_TIME),
+            Reg::TxOn => self.uart.sends = v == 1,
             _ => {}
         }
     }
@@ -320,7 +336,8 @@ impl Regs {
         let lower = sooner(self.next_tick(), self.next_cap());
         let middle = sooner(lower, self.next_cmp());
         let upper = sooner(self.next_pwm(), self.next_comm());
-        sooner(middle, upper)
+        let top = sooner(upper, self.next_uart());
+        sooner(middle, top)
     }
 
     /// The kinds that are due, without MAIN, which only the firmware knows of.
@@ -331,8 +348,9 @@ impl Regs {
             .with(Kind::Tick, self.tick_due())
             .with(Kind::Cap, self.cap_due())
             .with(Kind::Cmp, self.cmp_due())
-            .with(Kind::Pwm, self.flag)
+            .with(Kind::Pwm, self.pwm_due())
             .with(Kind::Comm, self.comm_due())
+            .with(Kind::Uart, self.uart_due())
     }
 
     /// Whether a kind is due. MAIN, which only the firmware knows of, isn't.
@@ -345,7 +363,8 @@ impl Regs {
             Kind::Cmp => self.cmp_due(),
             Kind::Pwm => self.flag,
             Kind::Comm => self.comm_due(),
-            Kind::Main | Kind::Uart => false,
+            Kind::Uart => self.uart_due(),
+            Kind::Main => false,
         }
     }
 
@@ -403,13 +422,12 @@ impl Regs {
         ensures { self.new ≡ self.old }
     {}
 
-    /// A serial byte arrives, at now. No register shows it yet, so the receive register is never full.
+    /// A serial byte arrives, at now. It is lost exactly where one waits in the receive register.
     pub fn serial(&mut self, byte: u8) -> Arrived
-        ensures kept { result ≡ Arrived.Kept }
-        ensures same { self.new ≡ self.old }
+        ensures lost { result ≡ (if is_full self.old.receive then Arrived.Lost else Arrived.Kept) }
+        ensures regs { self.new ≡ after_serial self.old byte }
     {
-        let _ = byte;
-        Arrived::Kept
+        self.uart.arrive(self.time, byte)
     }
 
     fn count(&mut self)
@@ -525,6 +543,28 @@ impl Regs {
         ensures { IsFirstDue self.now kinds.Pwm (tick_of result) }
     {
         if self.flag { None } else { self.pwm_edge }
+    }
+
+    fn pwm_due(&self) -> bool
+        ensures { result ≡ is_due self.now kinds.Pwm }
+    {
+        self.flag
+    }
+
+    fn uart_due(&self) -> bool
+        ensures { result ≡ is_due self.now kinds.Uart }
+    {
+        self.uart.due(self.time)
+    }
+
+    fn next_uart(&self) -> Option<Tick>
+        ensures { IsFirstDue self.now kinds.Uart (tick_of result) }
+    {
+        if self.uart_due() || !self.uart.sends {
+            None
+        } else {
+            Some(self.uart.idle_from)
+        }
     }
 
     fn next_comm(&self) -> Option<Tick>

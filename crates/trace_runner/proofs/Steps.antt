@@ -21,15 +21,16 @@ use Rattle.interrupt_machine.specs.Open.{due_now, is_idle}
 use Rattle.esc_core.specs.Brain.{Brain}
 use Rattle.esc_laws.specs.Steps.{Turned, journal, past_stall, Below, EachStep, StepFits}
 use Rattle.esc_laws.specs.Legal.{Legal}
-use Rattle.esc_laws.specs.Logged.{Logged, CoreTurn, turned}
-use Rattle.esc_laws.specs.World.{after_event}
+use Rattle.esc_rooms.specs.Logged.{Logged, CoreTurn, turned}
+use Rattle.esc_rooms.specs.World.{after_event}
 use Rattle.esc_laws.proofs.Pushes.{journal-push, step-push}
 use Rattle.trace_runner.specs.Run.{IsApart, StepBound, Outset, Runs, LeftBelow, StandsFor, nest_of, cost_of, newest}
 use Rattle.trace_runner.specs.declared.state.Runner.{Runner}
 use Rattle.esc_laws.specs.Saves.{FlashFits}
-use Rattle.esc_laws.proofs.FlashSteps.{turn_flash, front_flash}
+use Rattle.esc_rooms.proofs.FlashSteps.{turn_flash, front_flash}
 use Rattle.esc_laws.proofs.Notes.{all_front}
-use Rattle.esc_laws.proofs.Carried.{turn_logged, time_logged, event_logged, few_open, legal_logged, front_logged, last_step}
+use Rattle.esc_rooms.proofs.Carried.{turn_logged, time_logged, event_logged, few_open, legal_logged, front_logged, last_step}
+use Rattle.esc_core.specs.Firmware.{waits_of}
 
 bound_push : (cost until : ℕ) (steps : List Turned) (e : Turned) → StepBound cost until steps → All (λ d. d.tick + cost ≤ e.tick) steps → e.tick < until
     → length e.notes ≤ 6 → StepBound cost until (steps ++ e ∷ [])
@@ -80,7 +81,7 @@ turned-notes t notes (inr e) = refl
 pub step_logged : (loaded : Loaded) (nest nest' : Nest) (cost next : ℕ) (trace : List Event) (c c' : Brain) (b b' : Bank) (flash flash' : Told)
     (stack stack' : List Kind) (steps : List Turned) (notes : List Note)
     → nest' ≡ nest → b.time ≡ next → 1 ≤ cost → next + cost < 2147483648 → Logged loaded nest cost trace next c b stack steps
-    → is_idle stack (due_now c.orders.save_asked b) ≡ false
+    → is_idle stack (due_now (waits_of c) b) ≡ false
     → (t : CoreTurn nest c stack b flash notes c' stack' b' flash')
     → Logged loaded nest' cost trace (next + cost) c' b' stack' (steps ++ turned b.time notes t ∷ [])
 step_logged loaded nest nest' cost next trace c c' b b' flash flash' stack stack' steps notes same at some small l busy t =
@@ -119,7 +120,7 @@ step_flash o nest cost next trace c c' b b' flash flash' stack stack' steps note
 pub step_breaks : (o : Outset) (nest : Nest) (cost next until : ℕ) (trace : List Event) (c c' : Brain) (b b' : Bank) (flash flash' : Told)
     (stack stack' : List Kind) (steps : List Turned) (notes front rest : List Note) (last : Note)
     → b.time ≡ next → next < until → 1 ≤ cost → cost ≤ 16 → next + cost < 2147483648 → Logged o.loaded nest cost trace next c b stack steps
-    → is_idle stack (due_now c.orders.save_asked b) ≡ false
+    → is_idle stack (due_now (waits_of c) b) ≡ false
     → CoreTurn nest c stack b flash notes c' stack' b' flash' → Below next steps → notes ≡ (front ++ last ∷ []) ++ rest → All InRange notes
     → All InRange (journal o.loaded steps) → IsWhole flash.bytes → IsWhole flash'.bytes → FlashFits o.loaded o.flash flash (journal o.loaded steps)
     → LeftBelow o flash' nest cost until trace (journal o.loaded steps ++ (front ++ last ∷ []))
@@ -138,7 +139,7 @@ step_breaks o nest cost next until trace c c' b b' flash flash' stack stack' ste
           (all_front InRange (front ++ last ∷ []) rest (subst (λ (ns : List Note). All InRange ns) split range)))
           (few_open o.loaded nest cost trace next c b stack steps l) after;
       below = All-append (λ n. time_of n < until) (journal o.loaded steps) (front ++ last ∷ [])
-          (All-weaker (λ n. time_of n ≤ b.time) (λ n. time_of n < until) (λ n le. omega arith) (journal o.loaded steps) l.marks.past)
+          (All-weaker (λ n. time_of n ≤ b.time) (λ n. time_of n < until) (λ n le. omega arith) (journal o.loaded steps) l.marks.said.past)
           (own_below o.loaded nest cost until trace steps e (front ++ last ∷ []) rest own (omega arith) after.fits);
       flash = front_flash o.loaded nest cost trace c c' b b' o.flash flash flash' stack stack' steps notes front rest last (sym split)
           (subst (λ (n : ℕ). Logged o.loaded nest cost trace n c b stack steps) (sym at) l) whole whole' t fits;

@@ -13,7 +13,7 @@ use Rattle.interrupt_machine.specs.declared.nest.Nest.{Nest}
 use Rattle.esc_laws.specs.Saves.{FlashFits}
 use Rattle.esc_laws.specs.Steps.{Turned, notes_in, journal, EachStep, Below}
 use Rattle.esc_laws.specs.Legal.{LegalFront}
-use Rattle.esc_laws.specs.Logged.{Logged}
+use Rattle.esc_rooms.specs.Logged.{Logged}
 use Rattle.trace_runner.specs.declared.state.Runner.{Runner}
 use Rattle.trace_runner.specs.Lines.{TookLines}
 

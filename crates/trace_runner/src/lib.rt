@@ -2,10 +2,12 @@
 #![tactic(auto)]
 
 mod lines;
+mod room;
 mod runner;
 mod start;
 mod state;
 #[cfg(test)]
 mod tests;
 
+pub use room::Room;
 pub use state::{RunConfig, Runner, WriteFault};

@@ -9,6 +9,7 @@ ghost use Rattle.esc_base.specs.declared.kind.Kind.TheVariants as kinds;
 ghost use Rattle.timer_regs.specs.Effects.{advanced, is_due};
 ghost use Rattle.timer_regs.specs.NextDue.{tick_of as tick_of_due};
 ghost use Rattle.interrupt_machine.specs.Open.{due_now, is_idle, next_entry};
+ghost use Rattle.esc_core.specs.Firmware.{waits_of};
 ghost use Rattle.esc_laws.specs.Steps.{Turned, journal};
 ghost use Rattle.esc_laws.specs.Legal.{Legal};
 ghost use Rattle.esc_laws.specs.Saves.{FlashFits};
@@ -233,7 +234,7 @@ impl Runner {
     /// Time goes on to the tick at which a kind becomes due, or to the limit.
     fn jump(&mut self)
         requires now { self.old.regs.time ≡ self.old.next.0 }
-        requires idle { is_idle self.old.machine.open_kinds (due_now self.old.machine.firmware.orders.save_asked self.old.regs) ≡ true }
+        requires idle { is_idle self.old.machine.open_kinds (due_now (waits_of self.old.machine.firmware) self.old.regs) ≡ true }
         requires below { self.old.next.0 < self.old.limit.0 }
         ensures later { self.old.next.0 < self.new.next.0 }
         ensures runs { (o : Outset) (now : Told) (trace : List AnEvent) (steps : List Turned) → Runs self.old o now trace steps
@@ -258,9 +259,9 @@ impl Runner {
         dev: &mut D,
     ) -> Result<(), WriteFault>
         requires entry { entry ≡ (if self.old.regs.masked then None
-            else next_entry self.old.machine.nest self.old.machine.open_kinds (due_now self.old.machine.firmware.orders.save_asked self.old.regs)) }
+            else next_entry self.old.machine.nest self.old.machine.open_kinds (due_now (waits_of self.old.machine.firmware) self.old.regs)) }
         requires now { self.old.regs.time ≡ self.old.next.0 }
-        requires busy { is_idle self.old.machine.open_kinds (due_now self.old.machine.firmware.orders.save_asked self.old.regs) ≡ false }
+        requires busy { is_idle self.old.machine.open_kinds (due_now (waits_of self.old.machine.firmware) self.old.regs) ≡ false }
         requires below { self.old.next.0 < self.old.limit.0 }
         ensures next { self.new.next.0 ≡ self.old.next.0 + self.old.cost }
         ensures run { RunsOn K.given K.took K.broke K.faults self.old self.new (D.told dev.old) (D.told dev.new) result out.old out.new }
@@ -294,9 +295,8 @@ impl Runner {
                 self.regs.comp(level);
                 self.quiet = Tick(self.quiet.0.min(cmp_quiet_until(&self.regs).0));
             }
-            Event::Serial { byte, .. } => {
-                let _ = self.regs.serial(byte);
-            }
+            // No register takes a serial byte yet.
+            Event::Serial { .. } => {}
             Event::Stall { t, n } => {
                 self.next = Tick(self.next.0.max(t.0 + n as u64));
             }

@@ -11,7 +11,7 @@ ghost use Rattle.trace_runner.specs.Lines.{TookLines, BrokeLines};
 ghost use Rattle.trace_runner.specs.Run.{StandsFor, nest_of, cost_of, newest};
 
 use crate::lines::put_notes;
-use crate::{RunConfig, Runner, WriteFault};
+use crate::{Room, RunConfig, Runner, WriteFault};
 use esc_base::{Note, Sink, Tick};
 use esc_core::Core;
 use interrupt_machine::{Machine, Notes};
@@ -34,7 +34,7 @@ fn load_number(fault: Option<BlockFault>) -> u8
 impl Runner {
     /// A run at tick 0 with the settings that were loaded: no handler is open, and the first window is open in the unknown
     /// mode.
-    pub fn start(cfg: RunConfig, loaded: Loaded) -> Runner
+    pub fn start(cfg: RunConfig, loaded: Loaded, room: Room) -> Runner
         requires some { 1 ≤ cfg.cost }
         requires most { cfg.cost ≤ 16 }
         ensures stands { (first : Told) → StandsFor result (record { loaded = loaded; flash = first }) first [] [] }
@@ -48,7 +48,7 @@ impl Runner {
         let mut regs = Regs::new();
         regs.write(Reg::CapArm, 0);
         Runner {
-            machine: Machine::new(Core::new(loaded.settings), cfg.nest),
+            machine: Machine::new(Core::new(loaded.settings, room.packets), cfg.nest),
             regs,
             cost: cfg.cost,
             next: Tick(0),

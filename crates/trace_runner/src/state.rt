@@ -1,6 +1,7 @@
 //! What a runner keeps between two calls.
 ghost use Rattle.std.specs.Prelude.{◌≡◌, ◌+◌, ◌<◌, ◌≤◌, true};
 ghost use Rattle.interrupt_machine.specs.Turn.{IsHeld};
+ghost use Rattle.esc_core.specs.Firmware.{waits_of};
 ghost use Rattle.trace_runner.specs.Quiet.{IsQuiet};
 
 use esc_base::{Failed, Tick};
@@ -56,6 +57,6 @@ pub struct Runner {
     ghost cost_some: { 1 ≤ cost },
     ghost cost_most: { cost ≤ 16 },
     ghost limit_small: { limit.0 ≤ 1073741824 },
-    ghost waits: { next.0 < quiet.0 → IsQuiet machine.open_kinds machine.firmware.orders.save_asked regs quiet.0 },
+    ghost waits: { next.0 < quiet.0 → IsQuiet machine.open_kinds (waits_of machine.firmware) regs quiet.0 },
     ghost next_small: { next.0 ≤ 1090519040 },
 }

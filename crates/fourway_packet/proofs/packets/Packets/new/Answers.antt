@@ -4,4 +4,4 @@ use Rattle.fourway_packet.proofs.packets.Packets.new.Goals as goal
 
 pub returns-in-Ok-clause-taken : goal.returns-in-Ok-clause-taken
 unfolding unfinished_behind
-returns-in-Ok-clause-taken c = record { part_is = c.new.ensures; newest_is = refl }
+returns-in-Ok-clause-taken c = record { part_is = c.new.ensures.none; newest_is = refl }

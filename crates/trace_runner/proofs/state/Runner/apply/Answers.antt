@@ -7,6 +7,7 @@ use Rattle.timer_regs.specs.Effects.{after_line, after_comp, advanced}
 use Rattle.trace_runner.specs.declared.state.Runner.{Runner}
 use Rattle.trace_runner.proofs.Steps.{event_later, stall_max, spaced_later}
 use Rattle.trace_runner.proofs.Quiet.{quiet_later, quiet_edge, quiet_comp}
+use Rattle.esc_core.specs.Firmware.{waits_of}
 use Rattle.trace_runner.proofs.state.Runner.apply.Goals as goal
 
 pub invariant_of-self-clause-waits : goal.invariant_of-self-clause-waits
@@ -17,9 +18,9 @@ invariant_of-self-clause-waits c = λ below.
     let soon : r.limit.0 < r.quiet.0 = omega arith in
     let before : r.next.0 < r.quiet.0 = omega arith in
     let bank = c.edge.ensures ∙ ap (λ (b : Bank). after_line b c.in-Edge.level) c.advance.ensures.regs in
-    let quiet = quiet_later r.machine.open_kinds r.machine.firmware.orders.save_asked r.regs r.quiet.0 r.limit.0 r.before soon (r.waits before) in
+    let quiet = quiet_later r.machine.open_kinds (waits_of r.machine.firmware) r.regs r.quiet.0 r.limit.0 r.before soon (r.waits before) in
     rw bank
-    (quiet_edge r.machine.open_kinds r.machine.firmware.orders.save_asked (advanced r.regs r.limit.0) c.in-Edge.level r.quiet.0 c.cap_quiet_until.result.0
+    (quiet_edge r.machine.open_kinds (waits_of r.machine.firmware) (advanced r.regs r.limit.0) c.in-Edge.level r.quiet.0 c.cap_quiet_until.result.0
     c.min.result quiet (rw bank at c.cap_quiet_until.ensures) (omega arith) (omega arith) (omega arith))
 
 pub invariant_of-self-in-Comp-clause-waits : goal.invariant_of-self-in-Comp-clause-waits
@@ -31,9 +32,9 @@ invariant_of-self-in-Comp-clause-waits c = λ below.
     let before : r.next.0 < r.quiet.0 = omega arith in
     let some : 0 < c.cmp_quiet_until.result.0 = omega arith in
     let bank = c.comp.ensures ∙ ap (λ (b : Bank). after_comp b c.in-Comp.level) c.advance.ensures.regs in
-    let quiet = quiet_later r.machine.open_kinds r.machine.firmware.orders.save_asked r.regs r.quiet.0 r.limit.0 r.before soon (r.waits before) in
+    let quiet = quiet_later r.machine.open_kinds (waits_of r.machine.firmware) r.regs r.quiet.0 r.limit.0 r.before soon (r.waits before) in
     rw bank
-    (quiet_comp r.machine.open_kinds r.machine.firmware.orders.save_asked (advanced r.regs r.limit.0) c.in-Comp.level r.quiet.0 c.min-in-Comp.result quiet
+    (quiet_comp r.machine.open_kinds (waits_of r.machine.firmware) (advanced r.regs r.limit.0) c.in-Comp.level r.quiet.0 c.min-in-Comp.result quiet
     (rw bank at c.cmp_quiet_until.ensures some) (omega arith))
 
 pub invariant_of-self-in-Serial-clause-waits : goal.invariant_of-self-in-Serial-clause-waits
@@ -41,8 +42,8 @@ invariant_of-self-in-Serial-clause-waits c = λ below.
     let r : Runner = c.args.self.now in
     let reached : r.limit.0 ≤ r.next.0 = c.requires.reached in
     let soon : r.limit.0 < r.quiet.0 = omega arith in
-    rw (c.serial.ensures.same, c.advance.ensures.regs)
-    (quiet_later r.machine.open_kinds r.machine.firmware.orders.save_asked r.regs r.quiet.0 r.limit.0 r.before soon (r.waits below))
+    rw c.advance.ensures.regs
+    (quiet_later r.machine.open_kinds (waits_of r.machine.firmware) r.regs r.quiet.0 r.limit.0 r.before soon (r.waits below))
 
 pub invariant_of-self-in-Stall-clause-waits : goal.invariant_of-self-in-Stall-clause-waits
 invariant_of-self-in-Stall-clause-waits c = λ below.
@@ -51,7 +52,7 @@ invariant_of-self-in-Stall-clause-waits c = λ below.
     let reached : r.limit.0 ≤ r.next.0 = c.requires.reached in
     let soon : r.limit.0 < r.quiet.0 = omega arith in
     let before : r.next.0 < r.quiet.0 = omega arith in
-    rw c.advance.ensures.regs (quiet_later r.machine.open_kinds r.machine.firmware.orders.save_asked r.regs r.quiet.0 r.limit.0 r.before soon (r.waits before))
+    rw c.advance.ensures.regs (quiet_later r.machine.open_kinds (waits_of r.machine.firmware) r.regs r.quiet.0 r.limit.0 r.before soon (r.waits before))
 
 pub returns-in-Edge-clause-runs : goal.returns-in-Edge-clause-runs
 returns-in-Edge-clause-runs c = λ o now trace steps st.
@@ -81,10 +82,10 @@ returns-in-Comp-clause-runs c = λ o now trace steps st.
 
 pub returns-in-Serial-clause-runs : goal.returns-in-Serial-clause-runs
 returns-in-Serial-clause-runs c = λ o now trace steps st.
-    let bank = c.serial.ensures.same ∙ c.advance.ensures.regs in
+    let bank = c.advance.ensures.regs in
     record {
       logged = event_later c.args.self.now c.args.e
-          (event.Serial c.in-Serial.t c.in-Serial.byte) c.serial.new.self c.args.self.now.next.0 c.requires.at c.requires.reached c.in-Serial.is bank refl o
+          (event.Serial c.in-Serial.t c.in-Serial.byte) c.advance.new.self c.args.self.now.next.0 c.requires.at c.requires.reached c.in-Serial.is bank refl o
           now trace steps st;
       bound = st.bound;
       spaced = st.spaced;

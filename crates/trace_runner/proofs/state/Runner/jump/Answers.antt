@@ -1,12 +1,13 @@
 use Rattle.std.proofs.Common.{◌≡◌, ◌≤◌, ◌<◌, ℕ, arith, sym, subst, Option}
 use Rattle.esc_base.specs.declared.tick.Tick.{Tick}
 use Rattle.timer_regs.specs.NextDue.{tick_of}
-use Rattle.esc_laws.specs.Logged.{Logged}
+use Rattle.esc_rooms.specs.Logged.{Logged}
 use Rattle.trace_runner.specs.declared.state.Runner.{Runner}
-use Rattle.esc_laws.proofs.Carried.{jump_logged}
+use Rattle.esc_rooms.proofs.Carried.{jump_logged}
 use Rattle.trace_runner.proofs.Steps.{JumpsTo, jumps_to_due, jumps_to_limit, due_after, none_due, spaced_later}
 use Rattle.trace_runner.proofs.Quiet.{quiet_jump}
 use Rattle.trace_runner.proofs.state.Runner.jump.Goals as goal
+use Rattle.esc_core.specs.Firmware.{waits_of}
 use Rattle.trace_runner.proofs.state.Runner.jump.Goals.{in-Some, in_default, in_default-via-in-Some+else-due-self, in_default-via-in_default}
 
 pub returns-clause-runs : goal.returns-clause-runs
@@ -55,5 +56,5 @@ invariant_of-self-clause-waits c = λ soon.
       ])
     ] in
     rw c.advance.ensures.regs
-    (quiet_jump r.machine.open_kinds r.machine.firmware.orders.save_asked r.regs (tick_of due) c.quiet_until-self.result.0 to.0 c.requires.idle
+    (quiet_jump r.machine.open_kinds (waits_of r.machine.firmware) r.regs (tick_of due) c.quiet_until-self.result.0 to.0 c.requires.idle
     c.next_due-next_due.ensures c.quiet_until-self.ensures j.later soon)

@@ -1,13 +1,14 @@
 use Rattle.std.proofs.Common.{◌≤◌, ◌<◌, arith}
 use Rattle.trace_runner.specs.declared.state.Runner.{Runner}
-use Rattle.esc_laws.proofs.Carried.{time_logged}
+use Rattle.esc_rooms.proofs.Carried.{time_logged}
 use Rattle.trace_runner.proofs.Quiet.{quiet_later}
+use Rattle.esc_core.specs.Firmware.{waits_of}
 use Rattle.trace_runner.proofs.state.Runner.pass.Goals as goal
 
 pub invariant_of-self-clause-waits : goal.invariant_of-self-clause-waits
 invariant_of-self-clause-waits c = λ below.
     let r : Runner = c.args.self.now in
-    rw c.advance.ensures.regs (quiet_later r.machine.open_kinds r.machine.firmware.orders.save_asked r.regs r.quiet.0 r.next.0 r.passed below (r.waits below))
+    rw c.advance.ensures.regs (quiet_later r.machine.open_kinds (waits_of r.machine.firmware) r.regs r.quiet.0 r.next.0 r.passed below (r.waits below))
 
 pub returns-clause-runs : goal.returns-clause-runs
 returns-clause-runs c = λ o now trace steps st.

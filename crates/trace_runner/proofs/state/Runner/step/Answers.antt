@@ -2,7 +2,7 @@ use Rattle.std.proofs.Common.{◌≡◌, ◌<◌, ◌≤◌, ◌+◌, List, [], 
 use Rattle.esc_base.specs.declared.note.Note.{Note}
 use Rattle.esc_base.specs.Flash.{Told}
 use Rattle.esc_laws.specs.Steps.{Turned}
-use Rattle.esc_laws.specs.Logged.{CoreTurn, turned}
+use Rattle.esc_rooms.specs.Logged.{CoreTurn, turned}
 use Rattle.trace_runner.specs.declared.state.Runner.{Runner}
 use Rattle.trace_runner.specs.Run.{Runs, LeftBelow}
 use Rattle.trace_runner.proofs.Goes.{breaks_in, one_log}

@@ -1,11 +1,12 @@
 use Rattle.std.proofs.Common.{◌≡◌, ◌≤◌, ◌<◌, ℕ, arith, sym, subst, ap}
 use Rattle.esc_base.specs.declared.tick.Tick.{Tick}
-use Rattle.esc_laws.specs.Logged.{Logged}
-use Rattle.esc_laws.proofs.Carried.{quiet_logged}
+use Rattle.esc_rooms.specs.Logged.{Logged}
+use Rattle.esc_rooms.proofs.Carried.{quiet_logged}
 use Rattle.trace_runner.specs.declared.state.Runner.{Runner}
 use Rattle.trace_runner.specs.Quiet.{IsQuiet}
 use Rattle.trace_runner.proofs.Quiet.{quiet_later}
 use Rattle.trace_runner.proofs.Steps.{spaced_later}
+use Rattle.esc_core.specs.Firmware.{waits_of}
 use Rattle.trace_runner.proofs.state.Runner.wait.Goals as goal
 
 pub invariant_of-self-clause-waits : goal.invariant_of-self-clause-waits
@@ -15,7 +16,7 @@ invariant_of-self-clause-waits c = λ below.
     let limit : r.limit.0 ≡ c.args.self.now.limit.0 = ap (λ (t : Tick). t.0) c.pass.ensures.kept.limit in
     let from : c.args.self.now.next.0 < c.args.self.now.limit.0 = c.requires.below in
     let soon : r.next.0 < r.quiet.0 = omega arith in
-    rw c.advance.ensures.regs (quiet_later r.machine.open_kinds r.machine.firmware.orders.save_asked r.regs r.quiet.0 r.limit.0 r.before below (r.waits soon))
+    rw c.advance.ensures.regs (quiet_later r.machine.open_kinds (waits_of r.machine.firmware) r.regs r.quiet.0 r.limit.0 r.before below (r.waits soon))
 
 pub returns-clause-runs : goal.returns-clause-runs
 returns-clause-runs c = λ o now trace steps st.
@@ -32,7 +33,7 @@ returns-clause-runs c = λ o now trace steps st.
     let small : r.limit.0 < 2147483648 = omega arith in
     let past : r.next.0 ≤ r.limit.0 = omega arith in
     let at : r.regs.time ≡ r.next.0 = c.pass.ensures.now in
-    let q : IsQuiet r.machine.open_kinds r.machine.firmware.orders.save_asked r.regs r.quiet.0 = r.waits soon in
+    let q : IsQuiet r.machine.open_kinds (waits_of r.machine.firmware) r.regs r.quiet.0 = r.waits soon in
     record {
       logged =
           rw c.advance.ensures.regs

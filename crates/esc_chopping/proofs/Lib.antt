@@ -1,0 +1,11 @@
+pub mod ChopCalm
+pub mod ChopPushes
+pub mod ChopPlaced
+pub mod ChopFresh
+pub mod ChopHigh
+pub mod ChopLow
+pub mod ChopSettled
+pub mod ChopTheorem
+pub mod ChopBack
+pub mod ChopCalls
+pub mod ChopBridge

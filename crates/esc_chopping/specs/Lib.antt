@@ -1,0 +1,11 @@
+pub mod ChopStalls
+pub mod ChopView
+pub mod ChopLog
+pub mod ChopLaws
+pub mod ChopPeriods
+pub mod ChopPlaced
+pub mod ChopFresh
+pub mod ChopPairs
+pub mod ChopCalm
+pub mod ChopNotes
+pub mod ChopBridge

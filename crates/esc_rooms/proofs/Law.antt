@@ -1,0 +1,44 @@
+-- What each handler owes.
+use Rattle.std.proofs.Common.{◌≡◌, ◌≢◌, ◌≤◌, ◌<◌, ℕ, true, false, List, ◌∷◌}
+use Rattle.esc_base.specs.declared.kind.Kind.{Kind}
+use Rattle.esc_base.specs.declared.event.Event.{Event}
+use Rattle.esc_base.specs.Trace.{tick_of}
+use Rattle.esc_base.specs.Numbers.{kind_number}
+use Rattle.interrupt_machine.specs.Open.{due_now}
+use Rattle.esc_base.specs.Flash.{Told}
+use Rattle.esc_core.specs.Brain.{Brain}
+use Rattle.esc_core.specs.Calls.{Answer, DeviceDid}
+use Rattle.esc_core.specs.Firmware.{left_of, kind_step, kind_asked, waits_of}
+use Rattle.esc_laws.specs.Nested.{IsBuilt, IsAsked}
+use Rattle.esc_laws.specs.Seen.{sees_at}
+use Rattle.esc_rooms.specs.Tied.{WordTold}
+use Rattle.esc_rooms.specs.World.{World, so_far, after_enter, at_time, after_outside}
+use Rattle.esc_rooms.specs.Rooms.{Above, Unheld, HoldsAlone, Past, Ground, Tie, Ties, StepKeeps}
+
+-- a kind is entered where no higher one is open or due
+pub record Highest (k : Kind) (w : World) : Type 0 where
+  pub shut : Above k w
+  pub none : (j : Kind) → kind_number k < kind_number j → due_now (waits_of w.core) w.bank j ≡ false
+
+-- a flash can have answered so to the calls of a step
+abbrev pub Given : Kind → Brain → List Answer → Type 0
+Given k c answers = (flash : Told) × ((flash' : Told) × DeviceDid (kind_asked k c answers) answers flash flash')
+
+pub record HandlerLaw (k : Kind) : Type 0 where
+  -- while it is shut and the mask is down, it is due where the notes call for it
+  pub called : (w : World) → Ground w → Ties w → WordTold w.core w.bank w.back → Unheld w → left_of w.core k ≡ 0
+      → sees_at w.loaded w.trace (so_far w) w.back w.bank.time k ≡ true → due_now (waits_of w.core) w.bank k ≡ true
+  -- only a handler that is built comes due, and PWM only where it is called
+  pub asked : (w : World) → Ground w → Ties w → Unheld w → due_now (waits_of w.core) w.bank k ≡ true → IsBuilt k × IsAsked k w.back w.bank.time
+  -- its entry ties it, and leaves the ties of the others
+  pub entered : (w : World) → Ground w → Ties w → Unheld w → left_of w.core k ≡ 0 → due_now (waits_of w.core) w.bank k ≡ true → Past w.made w.bank.time
+      → Highest k w → Tie k (after_enter k w)
+  pub beside : (w : World) → Ground w → Ties w → Unheld w → left_of w.core k ≡ 0 → due_now (waits_of w.core) w.bank k ≡ true → Past w.made w.bank.time
+      → Highest k w → (j : Kind) → j ≢ k → Tie j (after_enter k w)
+  -- each of its steps, the return too, whatever a flash can answer
+  pub steps : (w : World) (answers : List Answer) (outer : List Kind) → Given k w.core answers → Ground w → Ties w → Above k w → HoldsAlone k w → Past w.made w.bank.time
+      → (so_far w).stack ≡ k ∷ outer → 0 < left_of w.core k
+      → StepKeeps k outer w (kind_step k answers w.core w.bank)
+  -- its tie stands as time goes on, and at an event, before which all steps so far stand
+  pub later : (w : World) (u : ℕ) → w.bank.time ≤ u → u < 2147483648 → Ground w → Ties w → Tie k (at_time w u)
+  pub outside : (w : World) (e : Event) → tick_of e ≡ w.bank.time → Past w.made w.bank.time → Ground w → Ties w → Tie k (after_outside w e)

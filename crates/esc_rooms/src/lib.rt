@@ -1,0 +1,2 @@
+//! Proofs alone.
+#![tactic(auto)]
