@@ -25,7 +25,7 @@ use Rattle.esc_laws.specs.Saves.{FlashFits}
 use Rattle.esc_laws.specs.Steps.{Turned, opening, notes_in, journal}
 use Rattle.esc_laws.specs.Legal.{Legal}
 use Rattle.esc_laws.specs.Saves.{is_save}
-use Rattle.esc_rooms.proofs.Saves.{first_unsaved, fits_start}
+use Rattle.esc_rooms.proofs.main.Saves.{first_unsaved, fits_start}
 use Rattle.esc_laws.proofs.Notes.{all_front}
 use Rattle.trace_runner.specs.declared.state.Runner.{Runner}
 use Rattle.trace_runner.proofs.Written.{append_known-twice}

@@ -14,7 +14,7 @@ use Rattle.timer_regs.proofs.Comp.{comp_time, comp_due, comp_becomes}
 use Rattle.interrupt_machine.specs.Open.{due_now, is_idle, highest}
 use Rattle.interrupt_machine.proofs.OpenKinds.{highest_same}
 use Rattle.interrupt_machine.proofs.Waiting.{highest_none}
-use Rattle.esc_rooms.proofs.Carried.{none_before}
+use Rattle.esc_rooms.proofs.log.Carried.{none_before}
 use Rattle.trace_runner.specs.Quiet.{IsQuiet}
 
 -- ---- time goes on twice, or at once

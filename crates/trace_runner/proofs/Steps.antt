@@ -27,9 +27,9 @@ use Rattle.esc_laws.proofs.Pushes.{journal-push, step-push}
 use Rattle.trace_runner.specs.Run.{IsApart, StepBound, Outset, Runs, LeftBelow, StandsFor, nest_of, cost_of, newest}
 use Rattle.trace_runner.specs.declared.state.Runner.{Runner}
 use Rattle.esc_laws.specs.Saves.{FlashFits}
-use Rattle.esc_rooms.proofs.FlashSteps.{turn_flash, front_flash}
+use Rattle.esc_rooms.proofs.log.FlashSteps.{turn_flash, front_flash}
 use Rattle.esc_laws.proofs.Notes.{all_front}
-use Rattle.esc_rooms.proofs.Carried.{turn_logged, time_logged, event_logged, few_open, legal_logged, front_logged, last_step}
+use Rattle.esc_rooms.proofs.log.Carried.{turn_logged, time_logged, event_logged, few_open, legal_logged, front_logged, last_step}
 use Rattle.esc_core.specs.Firmware.{waits_of}
 
 bound_push : (cost until : ℕ) (steps : List Turned) (e : Turned) → StepBound cost until steps → All (λ d. d.tick + cost ≤ e.tick) steps → e.tick < until

@@ -3,7 +3,7 @@ use Rattle.esc_base.specs.declared.tick.Tick.{Tick}
 use Rattle.timer_regs.specs.NextDue.{tick_of}
 use Rattle.esc_rooms.specs.Logged.{Logged}
 use Rattle.trace_runner.specs.declared.state.Runner.{Runner}
-use Rattle.esc_rooms.proofs.Carried.{jump_logged}
+use Rattle.esc_rooms.proofs.log.Carried.{jump_logged}
 use Rattle.trace_runner.proofs.Steps.{JumpsTo, jumps_to_due, jumps_to_limit, due_after, none_due, spaced_later}
 use Rattle.trace_runner.proofs.Quiet.{quiet_jump}
 use Rattle.trace_runner.proofs.state.Runner.jump.Goals as goal

@@ -1,6 +1,6 @@
 use Rattle.std.proofs.Common.{◌≤◌, ◌<◌, arith}
 use Rattle.trace_runner.specs.declared.state.Runner.{Runner}
-use Rattle.esc_rooms.proofs.Carried.{time_logged}
+use Rattle.esc_rooms.proofs.log.Carried.{time_logged}
 use Rattle.trace_runner.proofs.Quiet.{quiet_later}
 use Rattle.esc_core.specs.Firmware.{waits_of}
 use Rattle.trace_runner.proofs.state.Runner.pass.Goals as goal

@@ -5,9 +5,9 @@ use Rattle.settings_block.specs.declared.stored.Loaded.{Loaded}
 use Rattle.esc_laws.specs.Saves.{FlashFits}
 use Rattle.esc_laws.specs.Steps.{Turned, journal}
 use Rattle.esc_laws.proofs.Opening.{first_in_range}
-use Rattle.esc_rooms.proofs.Carried.{legal_logged}
-use Rattle.esc_rooms.proofs.Start.{logged_start}
-use Rattle.esc_rooms.proofs.Saves.{first_unsaved, fits_start}
+use Rattle.esc_rooms.proofs.log.Carried.{legal_logged}
+use Rattle.esc_rooms.proofs.log.Start.{logged_start}
+use Rattle.esc_rooms.proofs.main.Saves.{first_unsaved, fits_start}
 use Rattle.trace_runner.proofs.state.Runner.start.Goals as goal
 
 start_flash : (loaded : Loaded) (first : Told) → FlashFits loaded first first (journal loaded [])

@@ -1,7 +1,7 @@
 use Rattle.std.proofs.Common.{◌≡◌, ◌≤◌, ◌<◌, ℕ, arith, sym, subst, ap}
 use Rattle.esc_base.specs.declared.tick.Tick.{Tick}
 use Rattle.esc_rooms.specs.Logged.{Logged}
-use Rattle.esc_rooms.proofs.Carried.{quiet_logged}
+use Rattle.esc_rooms.proofs.log.Carried.{quiet_logged}
 use Rattle.trace_runner.specs.declared.state.Runner.{Runner}
 use Rattle.trace_runner.specs.Quiet.{IsQuiet}
 use Rattle.trace_runner.proofs.Quiet.{quiet_later}

@@ -1,0 +1,3 @@
+pub mod Period
+pub mod Ties
+pub mod Room

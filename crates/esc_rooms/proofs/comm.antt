@@ -1,0 +1,5 @@
+pub mod Facts
+pub mod Goes
+pub mod Turns
+pub mod Switches
+pub mod Room

@@ -1,0 +1,12 @@
+pub mod ChopLegal
+pub mod Laws
+pub mod Stages
+pub mod Turns
+pub mod Entries
+pub mod ChopSteps
+pub mod OwnTurns
+pub mod Stepping
+pub mod Events
+pub mod Start
+pub mod Carried
+pub mod FlashSteps
