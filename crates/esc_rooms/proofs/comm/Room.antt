@@ -42,7 +42,7 @@ use Rattle.esc_rooms.proofs.cmp.CrossFacts.{cmp_unmasked, tick_unmasked, unmaske
 use Rattle.esc_rooms.proofs.comm.Facts.{same_words, moved_view, comm_moves, IsComm, place_tie, before_step, same_to, same_marked}
 use Rattle.esc_rooms.proofs.shared.Law.{HandlerLaw}
 use Rattle.esc_rooms.proofs.cap.Period.{period_kept, period_written, driven_on}
-use Rattle.esc_rooms.proofs.comm.Goes.{same_sums, beside_tick, no_commute, same_search}
+use Rattle.esc_rooms.proofs.comm.Goes.{same_sums, beside_tick, no_commute, same_search, goes}
 use Rattle.esc_rooms.proofs.comm.Turns.{decides}
 use Rattle.esc_rooms.proofs.comm.Switches.{turn_places, resumes_low}
 use Rattle.esc_laws.specs.NoteLaw as owed
@@ -145,37 +145,16 @@ arms : (full : Bool) (at : ChangeAt) (w : World) (outer : List Kind) → nat_le 
 arms true at w outer e i =
     let t = i.ties kind.Comm in
     let tied : HasActed (drive_seen w) = place_tie w outer comm.Arm at i in
-    record {
+    goes w outer comm.Arm comm.Stick at w.core.drive.gates w.core.drive.turn w.core.drive.postponed (Some (due_at w.core.drive)) w.bank.stuck w.bank.hi w.bank.lo _ i refl (λ f. cc) (omega arith) refl refl (record {
       gates = quiet_gates kind.Comm w _ (λ f. cc) refl refl refl;
-      fits = λ told. tt;
-      ground = i.ground;
-      tie = λ told. comm_moves (drive_seen w) 2 w.core.drive comm.Stick (Some (due_at w.core.drive)) w.bank.stuck (postponed_at w.back) w.bank.hi w.bank.lo
-          (no_commute w i.alone) t (record {
-            words = same_words (drive_seen w) w.core.drive refl t;
-            change_is = refl;
-            turned_is = refl;
-            forced_is = refl;
-            before = before_step w outer comm.Arm at i;
-            since_is = omega arith;
-            to_is = λ f s. same_to w outer comm.Arm at i refl s;
-            at_low = t.newest.at_low;
-            stuck_is = t.row.stuck;
-            marked = λ l f. cc;
-            place_is = ((record { some = tied.some; done = done_kept tied.done }, refl), e);
-            low = λ f. cc;
-            waits = λ f. cc;
-          });
-      others = elim [
-        | kind.Comm ↦ λ ne u. absurd (ne refl)
-        | kind.Tick ↦ λ ne u. beside_tick w outer comm.Arm comm.Stick at w.core.drive w.bank.hi w.bank.lo w.bank.sector (Some (due_at w.core.drive))
-            w.bank.stuck i u
-        | kind.Cap ↦ λ ne u. (u.0, u.1, u.2, period_kept w _ (same_sums w outer comm.Arm at i) u.3)
-        | kind.Cmp ↦ λ ne u. moved_cross (cross_seen w) comm.Stick w.core.drive.turn.at w.core.drive.postponed (same_search w outer comm.Arm at i) (λ e. cc)
-            u.late u
-        | j ↦ λ ne u. u
-      ];
-      stack_is = i.on;
-    }
+      words = same_words (drive_seen w) w.core.drive refl t;
+      to_is = λ f s. same_to w outer comm.Arm at i refl s;
+      at_low = t.newest.at_low;
+      stuck_is = t.row.stuck;
+      marked = λ l f. cc;
+      place_is = ((record { some = tied.some; done = done_kept tied.done }, refl), e);
+      late = (i.ties kind.Cmp).late;
+    })
   where
     done_kept : ((turns_in w.back ≡ 1) × OnOrHeld (drive_seen w)) ⊎ Resumed (drive_seen w)
         → ((turns_in w.back ≡ 1) × OnOrHeld (moved_view (drive_seen w) w.core.drive comm.Stick (Some (due_at w.core.drive)) w.bank.stuck (postponed_at w.back)
@@ -186,37 +165,16 @@ arms true at w outer e i =
 arms false at w outer e i =
     let t = i.ties kind.Comm in
     let tied : HasActed (drive_seen w) = place_tie w outer comm.Arm at i in
-    record {
+    goes w outer comm.Arm comm.Back at w.core.drive.gates w.core.drive.turn w.core.drive.postponed (Some (due_at w.core.drive)) w.bank.stuck w.bank.hi w.bank.lo _ i refl (λ f. cc) (omega arith) refl refl (record {
       gates = quiet_gates kind.Comm w _ (λ f. cc) refl refl refl;
-      fits = λ told. tt;
-      ground = i.ground;
-      tie = λ told. comm_moves (drive_seen w) 2 w.core.drive comm.Back (Some (due_at w.core.drive)) w.bank.stuck (postponed_at w.back) w.bank.hi w.bank.lo
-          (no_commute w i.alone) t (record {
-            words = same_words (drive_seen w) w.core.drive refl t;
-            change_is = refl;
-            turned_is = refl;
-            forced_is = refl;
-            before = before_step w outer comm.Arm at i;
-            since_is = omega arith;
-            to_is = λ f s. same_to w outer comm.Arm at i refl s;
-            at_low = t.newest.at_low;
-            stuck_is = t.row.stuck;
-            marked = λ l f g. (let z : false ≡ true = sym e ∙ g in cc);
-            place_is = (record { some = tied.some; done = done_kept tied.done }, refl);
-            low = λ f. cc;
-            waits = λ f. cc;
-          });
-      others = elim [
-        | kind.Comm ↦ λ ne u. absurd (ne refl)
-        | kind.Tick ↦ λ ne u. beside_tick w outer comm.Arm comm.Back at w.core.drive w.bank.hi w.bank.lo w.bank.sector (Some (due_at w.core.drive))
-            w.bank.stuck i u
-        | kind.Cap ↦ λ ne u. (u.0, u.1, u.2, period_kept w _ (same_sums w outer comm.Arm at i) u.3)
-        | kind.Cmp ↦ λ ne u. moved_cross (cross_seen w) comm.Back w.core.drive.turn.at w.core.drive.postponed (same_search w outer comm.Arm at i) (λ e. cc)
-            u.late u
-        | j ↦ λ ne u. u
-      ];
-      stack_is = i.on;
-    }
+      words = same_words (drive_seen w) w.core.drive refl t;
+      to_is = λ f s. same_to w outer comm.Arm at i refl s;
+      at_low = t.newest.at_low;
+      stuck_is = t.row.stuck;
+      marked = λ l f g. (let z : false ≡ true = sym e ∙ g in cc);
+      place_is = (record { some = tied.some; done = done_kept tied.done }, refl);
+      late = (i.ties kind.Cmp).late;
+    })
   where
     done_kept : ((turns_in w.back ≡ 1) × OnOrHeld (drive_seen w)) ⊎ Resumed (drive_seen w)
         → ((turns_in w.back ≡ 1) × OnOrHeld (moved_view (drive_seen w) w.core.drive comm.Back (Some (due_at w.core.drive)) w.bank.stuck (postponed_at w.back)
@@ -231,36 +189,16 @@ sticks at w outer i =
     let tied = place_tie w outer comm.Stick at i in
     let stuck : Bool = w.bank.stuck || true in
     let set : stuck ≡ true = or_right w.bank.stuck true refl in
-    record {
+    goes w outer comm.Stick comm.Back at w.core.drive.gates w.core.drive.turn w.core.drive.postponed w.bank.comm stuck w.bank.hi w.bank.lo _ i refl (λ f. cc) (omega arith) refl refl (record {
       gates = quiet_gates kind.Comm w _ (λ f. cc) refl refl refl;
-      fits = λ told. tt;
-      ground = i.ground;
-      tie = λ told. comm_moves (drive_seen w) 3 w.core.drive comm.Back w.bank.comm stuck (postponed_at w.back) w.bank.hi w.bank.lo (no_commute w i.alone) t
-          (record {
-            words = same_words (drive_seen w) w.core.drive refl t;
-            change_is = refl;
-            turned_is = refl;
-            forced_is = refl;
-            before = before_step w outer comm.Stick at i;
-            since_is = omega arith;
-            to_is = λ f s. same_to w outer comm.Stick at i refl s;
-            at_low = t.newest.at_low;
-            stuck_is = λ l. t.row.stuck l ∙ or_right w.bank.stuck (is_stuck w.core.drive) tied.1 ∙ sym (or_left stuck (is_stuck w.core.drive) set);
-            marked = λ l f g. set;
-            place_is = (record { some = tied.0.0.some; done = done_kept tied.0.0.done }, tied.0.1);
-            low = λ f. cc;
-            waits = λ f. cc;
-          });
-      others = elim [
-        | kind.Comm ↦ λ ne u. absurd (ne refl)
-        | kind.Tick ↦ λ ne u. beside_tick w outer comm.Stick comm.Back at w.core.drive w.bank.hi w.bank.lo w.bank.sector w.bank.comm stuck i u
-        | kind.Cap ↦ λ ne u. (u.0, u.1, u.2, period_kept w _ (same_sums w outer comm.Stick at i) u.3)
-        | kind.Cmp ↦ λ ne u. moved_cross (cross_seen w) comm.Back w.core.drive.turn.at w.core.drive.postponed (same_search w outer comm.Stick at i) (λ e. cc)
-            u.late u
-        | j ↦ λ ne u. u
-      ];
-      stack_is = i.on;
-    }
+      words = same_words (drive_seen w) w.core.drive refl t;
+      to_is = λ f s. same_to w outer comm.Stick at i refl s;
+      at_low = t.newest.at_low;
+      stuck_is = λ l. t.row.stuck l ∙ or_right w.bank.stuck (is_stuck w.core.drive) tied.1 ∙ sym (or_left stuck (is_stuck w.core.drive) set);
+      marked = λ l f g. set;
+      place_is = (record { some = tied.0.0.some; done = done_kept tied.0.0.done }, tied.0.1);
+      late = (i.ties kind.Cmp).late;
+    })
   where
     done_kept : ((turns_in w.back ≡ 1) × OnOrHeld (drive_seen w)) ⊎ Resumed (drive_seen w)
         → ((turns_in w.back ≡ 1) × OnOrHeld (moved_view (drive_seen w) w.core.drive comm.Back w.bank.comm (w.bank.stuck || true) (postponed_at w.back)

@@ -36,12 +36,12 @@ use Rattle.esc_core.specs.Firmware.{pwm_need}
 use Rattle.settings_block.specs.declared.settings.Settings.{Settings}
 use Rattle.esc_laws.specs.Driven.{InPair}
 use Rattle.esc_laws.specs.Saves.{settings_at, advance_of, forward_at}
-use Rattle.esc_laws.specs.Calls.{turn_was_due, postponed_at}
+use Rattle.esc_laws.specs.Calls.{turn_was_due}
 use Rattle.esc_rooms.specs.DriveTied.{ChangeTied, IsUnforced, Turns, Decides, PwmTied, TurnTied}
 use Rattle.esc_rooms.specs.World.{World, so_far, after_step}
 use Rattle.esc_rooms.specs.PeriodTied.{PeriodTied}
 use Rattle.esc_rooms.specs.Rooms.{Ground, Tie, StepKeeps, PeriodTie, drive_seen, cross_seen}
-use Rattle.esc_rooms.proofs.cap.Period.{period_kept, period_turned, newest_turn}
+use Rattle.esc_rooms.proofs.cap.Period.{period_turned, newest_turn}
 use Rattle.esc_rooms.proofs.shared.RoomSteps.{ground_noted, quiet_gates, inside}
 use Rattle.esc_rooms.proofs.shared.DriveFacts.{pair_apart}
 use Rattle.zero_cross.specs.declared.phase.Phase.TheVariants as phase
@@ -50,10 +50,10 @@ use Rattle.zero_cross.specs.Kept.{Kept, after_begin}
 use Rattle.commutation.specs.Pace.{Pace, wait_of}
 use Rattle.commutation.specs.Drive.{interval_at}
 use Rattle.esc_rooms.specs.CrossTied.{ends_drive}
-use Rattle.esc_rooms.proofs.cmp.CrossFacts.{cmp_unmasked, tick_unmasked, moved_cross, prompt_late, turned_cross}
-use Rattle.esc_rooms.proofs.comm.Facts.{same_words, high_words, low_words, comm_moves, IsComm, place_tie, before_step, same_to, same_marked, comm_gates}
+use Rattle.esc_rooms.proofs.cmp.CrossFacts.{cmp_unmasked, tick_unmasked, prompt_late, turned_cross}
+use Rattle.esc_rooms.proofs.comm.Facts.{same_words, high_words, low_words, IsComm, place_tie, before_step, same_to, same_marked, comm_gates}
 use Rattle.esc_laws.specs.NoteLaw as owed
-use Rattle.esc_rooms.proofs.comm.Goes.{beside_tick, no_commute, same_search, same_sums}
+use Rattle.esc_rooms.proofs.comm.Goes.{beside_tick, no_commute, goes}
 
 -- ---- the period register
 
@@ -83,42 +83,22 @@ begins_turn w outer due i =
     let to : ℕ = next_sector w.bank.sector (is_forward w.core.orders) in
     let d : Drive = record w.core.drive { turn = change_to to; postponed = false } in
     let tied : Decides (drive_seen w) = place_tie w outer comm.Decide w.core.drive.turn.at i in
-    record {
+    goes w outer comm.Decide comm.Turn w.core.drive.turn.at d.gates d.turn d.postponed w.bank.comm w.bank.stuck w.bank.hi w.bank.lo _ i refl (λ f. cc) (omega arith) refl refl (record {
       gates = quiet_gates kind.Comm w _ (λ e. cc) refl refl refl;
-      fits = λ told. tt;
-      ground = i.ground;
-      tie = λ told. comm_moves (drive_seen w) 5 d comm.Turn w.bank.comm w.bank.stuck (postponed_at w.back) w.bank.hi w.bank.lo (no_commute w i.alone) t
-          (record {
-            words = same_words (drive_seen w) d refl t;
-            change_is = refl;
-            turned_is = refl;
-            forced_is = refl;
-            before = before_step w outer comm.Decide w.core.drive.turn.at i;
-            since_is = omega arith;
-            to_is = λ e. cc;
-            at_low = λ e. cc;
-            stuck_is = t.row.stuck;
-            marked = λ l f. same_marked w outer comm.Decide w.core.drive.turn.at i refl l;
-            place_is = record {
-              none = tied.none;
-              to_is = ap (λ (n : ℕ). next_sector n (is_forward w.core.orders)) t.switches.sector_is
-                  ∙ ap (λ (f : Bool). next_sector (sector_at w.back) f) (direction_is w i.ground);
-              due = due;
-              prompt = refl;
-            };
-            low = λ e. cc;
-            waits = λ e. cc;
-          });
-      others = elim [
-        | kind.Comm ↦ λ ne u. absurd (ne refl)
-        | kind.Tick ↦ λ ne u. beside_tick w outer comm.Decide comm.Turn w.core.drive.turn.at d w.bank.hi w.bank.lo w.bank.sector w.bank.comm w.bank.stuck i u
-        | kind.Cap ↦ λ ne u. (u.0, u.1, u.2, period_kept w _ (same_sums w outer comm.Decide w.core.drive.turn.at i) u.3)
-        | kind.Cmp ↦ λ ne u. moved_cross (cross_seen w) comm.Turn change.ClearHigh false (same_search w outer comm.Decide w.core.drive.turn.at i) (λ e. cc)
-            (prompt_late w.core.cmp_at w.core.drive.crossing.phase) u
-        | j ↦ λ ne u. u
-      ];
-      stack_is = i.on;
-    }
+      words = same_words (drive_seen w) d refl t;
+      to_is = λ e. cc;
+      at_low = λ e. cc;
+      stuck_is = t.row.stuck;
+      marked = λ l f. same_marked w outer comm.Decide w.core.drive.turn.at i refl l;
+      place_is = record {
+        none = tied.none;
+        to_is = ap (λ (n : ℕ). next_sector n (is_forward w.core.orders)) t.switches.sector_is
+            ∙ ap (λ (f : Bool). next_sector (sector_at w.back) f) (direction_is w i.ground);
+        due = due;
+        prompt = refl;
+      };
+      late = prompt_late w.core.cmp_at w.core.drive.crossing.phase;
+    })
 
 -- where no change is due, the low switch is postponed
 resumes : (late : Bool) (w : World) (outer : List Kind) → w.core.drive.postponed ≡ late → w.bank.time < w.core.drive.change
@@ -130,44 +110,23 @@ resumes false w outer e early i =
 resumes true w outer e early i =
     let t = i.ties kind.Comm in
     let tied : Decides (drive_seen w) = place_tie w outer comm.Decide w.core.drive.turn.at i in
-    record {
+    goes w outer comm.Decide comm.Low w.core.drive.turn.at w.core.drive.gates w.core.drive.turn w.core.drive.postponed w.bank.comm w.bank.stuck w.bank.hi w.bank.lo _ i refl (λ f. cc) (omega arith) refl refl (record {
       gates = quiet_gates kind.Comm w _ (λ e. cc) refl refl refl;
-      fits = λ told. tt;
-      ground = i.ground;
-      tie = λ told. comm_moves (drive_seen w) 5 w.core.drive comm.Low w.bank.comm w.bank.stuck (postponed_at w.back) w.bank.hi w.bank.lo
-          (no_commute w i.alone) t (record {
-            words = same_words (drive_seen w) w.core.drive refl t;
-            change_is = refl;
-            turned_is = refl;
-            forced_is = refl;
-            before = before_step w outer comm.Decide w.core.drive.turn.at i;
-            since_is = omega arith;
-            to_is = λ f. same_to w outer comm.Decide w.core.drive.turn.at i refl;
-            at_low = t.newest.at_low;
-            stuck_is = t.row.stuck;
-            marked = λ l f. same_marked w outer comm.Decide w.core.drive.turn.at i refl l;
-            place_is = record {
-              none = tied.none;
-              not_due = off_is (turn_was_due (advance_of w.loaded.settings) w.back) (λ f. (let x = tied.was_due f in absurd (omega arith)));
-              postponed = tied.postponed e;
-              some = some w.bank.sector refl;
-              free = elim tied.due [ inl l ↦ absurd (let x = l in omega arith) | inr p ↦ p.1 ];
-              late = e;
-            };
-            low = λ f. cc;
-            waits = λ f. cc;
-          });
-      others = elim [
-        | kind.Comm ↦ λ ne u. absurd (ne refl)
-        | kind.Tick ↦ λ ne u. beside_tick w outer comm.Decide comm.Low w.core.drive.turn.at w.core.drive w.bank.hi w.bank.lo w.bank.sector w.bank.comm
-            w.bank.stuck i u
-        | kind.Cap ↦ λ ne u. (u.0, u.1, u.2, period_kept w _ (same_sums w outer comm.Decide w.core.drive.turn.at i) u.3)
-        | kind.Cmp ↦ λ ne u. moved_cross (cross_seen w) comm.Low w.core.drive.turn.at w.core.drive.postponed
-            (same_search w outer comm.Decide w.core.drive.turn.at i) (λ e. cc) u.late u
-        | j ↦ λ ne u. u
-      ];
-      stack_is = i.on;
-    }
+      words = same_words (drive_seen w) w.core.drive refl t;
+      to_is = λ f. same_to w outer comm.Decide w.core.drive.turn.at i refl;
+      at_low = t.newest.at_low;
+      stuck_is = t.row.stuck;
+      marked = λ l f. same_marked w outer comm.Decide w.core.drive.turn.at i refl l;
+      place_is = record {
+        none = tied.none;
+        not_due = off_is (turn_was_due (advance_of w.loaded.settings) w.back) (λ f. (let x = tied.was_due f in absurd (omega arith)));
+        postponed = tied.postponed e;
+        some = some w.bank.sector refl;
+        free = elim tied.due [ inl l ↦ absurd (let x = l in omega arith) | inr p ↦ p.1 ];
+        late = e;
+      };
+      late = (i.ties kind.Cmp).late;
+    })
   where
     some : (s : ℕ) → w.bank.sector ≡ s → 0 < w.bank.sector
     some zero z = absurd (let first = (i.ties kind.Comm).next.first z i.drives in omega arith)
@@ -198,36 +157,17 @@ clears_high w outer i =
     let d : Drive = record w.core.drive { gates = gates_after g w.bank after; turn = record { to = to; at = change.ClearLow } } in
     let tied : Turns (drive_seen w) = turn_tie w outer change.ClearHigh i in
     let pair : InPair w.bank.sector hi w.bank.lo = record { high = λ x on. t.switches.pair.high x (on_and w.bank.hi mask x on); low = t.switches.pair.low } in
-    record {
+    goes w outer comm.Turn comm.Turn change.ClearHigh d.gates d.turn d.postponed w.bank.comm w.bank.stuck hi w.bank.lo _ i refl (λ f. cc) (omega arith) refl refl (record {
       gates = comm_gates w outer comm.Turn change.ClearHigh _ i refl
           (high_off_keeps (gates_after g w.bank after) w.bank after mask refl refl (pair_apart w.bank.sector w.bank.hi w.bank.lo t.switches.sectors t.switches.pair)) pair;
-      fits = λ told. tt;
-      ground = i.ground;
-      tie = λ told. comm_moves (drive_seen w) 6 d comm.Turn w.bank.comm w.bank.stuck (postponed_at w.back) hi w.bank.lo (no_commute w i.alone) t (record {
-        words = high_words (drive_seen w) d hi refl pair t;
-        change_is = refl;
-        turned_is = refl;
-        forced_is = refl;
-        before = before_step w outer comm.Turn change.ClearHigh i;
-        since_is = omega arith;
-        to_is = λ e. cc;
-        at_low = λ e. (let z : true ≡ false = sym e ∙ tied.prompt in cc);
-        stuck_is = t.row.stuck;
-        marked = λ l f. same_marked w outer comm.Turn change.ClearHigh i refl l;
-        place_is = (record { none = tied.none; to_is = tied.to_is; due = tied.due; prompt = tied.prompt }, only_kept w.bank.hi (high_of to));
-        low = λ e. cc;
-        waits = λ e. cc;
-      });
-      others = elim [
-        | kind.Comm ↦ λ ne u. absurd (ne refl)
-        | kind.Tick ↦ λ ne u. beside_tick w outer comm.Turn comm.Turn change.ClearHigh d hi w.bank.lo w.bank.sector w.bank.comm w.bank.stuck i u
-        | kind.Cap ↦ λ ne u. (u.0, u.1, u.2, period_kept w _ (same_sums w outer comm.Turn change.ClearHigh i) u.3)
-        | kind.Cmp ↦ λ ne u. moved_cross (cross_seen w) comm.Turn change.ClearLow w.core.drive.postponed (same_search w outer comm.Turn change.ClearHigh i)
-            (λ e. cc) u.late u
-        | j ↦ λ ne u. u
-      ];
-      stack_is = i.on;
-    }
+      words = high_words (drive_seen w) d hi refl pair t;
+      to_is = λ e. cc;
+      at_low = λ e. (let z : true ≡ false = sym e ∙ tied.prompt in cc);
+      stuck_is = t.row.stuck;
+      marked = λ l f. same_marked w outer comm.Turn change.ClearHigh i refl l;
+      place_is = (record { none = tied.none; to_is = tied.to_is; due = tied.due; prompt = tied.prompt }, only_kept w.bank.hi (high_of to));
+      late = (i.ties kind.Cmp).late;
+    })
 
 pub clears_low : (w : World) (outer : List Kind) → IsComm w outer comm.Turn change.ClearLow
     → StepKeeps kind.Comm outer w (turn_step change.ClearLow w.core w.bank)
@@ -241,40 +181,21 @@ clears_low w outer i =
     let d : Drive = record w.core.drive { gates = gates_after g w.bank after; turn = record { to = to; at = change.SetSector } } in
     let tied = turn_tie w outer change.ClearLow i in
     let pair : InPair w.bank.sector w.bank.hi lo = record { high = t.switches.pair.high; low = λ x on. t.switches.pair.low x (on_and w.bank.lo mask x on) } in
-    record {
+    goes w outer comm.Turn comm.Turn change.ClearLow d.gates d.turn d.postponed w.bank.comm w.bank.stuck w.bank.hi lo _ i refl (λ f. cc) (omega arith) refl refl (record {
       gates = comm_gates w outer comm.Turn change.ClearLow _ i refl
           (low_off_keeps (gates_after g w.bank after) w.bank after mask refl refl (pair_apart w.bank.sector w.bank.hi w.bank.lo t.switches.sectors t.switches.pair)) pair;
-      fits = λ told. tt;
-      ground = i.ground;
-      tie = λ told. comm_moves (drive_seen w) 7 d comm.Turn w.bank.comm w.bank.stuck (postponed_at w.back) w.bank.hi lo (no_commute w i.alone) t (record {
-        words = low_words (drive_seen w) d lo refl pair (λ x on. inl (on_and w.bank.lo mask x on)) t;
-        change_is = refl;
-        turned_is = refl;
-        forced_is = refl;
-        before = before_step w outer comm.Turn change.ClearLow i;
-        since_is = omega arith;
-        to_is = λ e. cc;
-        at_low = λ e. (let z : true ≡ false = sym e ∙ tied.0.prompt in cc);
-        stuck_is = t.row.stuck;
-        marked = λ l f. same_marked w outer comm.Turn change.ClearLow i refl l;
-        place_is = (
-          record { none = tied.0.none; to_is = tied.0.to_is; due = tied.0.due; prompt = tied.0.prompt },
-          tied.1,
-          only_kept w.bank.lo (low_of to),
-        );
-        low = λ e. cc;
-        waits = λ e. cc;
-      });
-      others = elim [
-        | kind.Comm ↦ λ ne u. absurd (ne refl)
-        | kind.Tick ↦ λ ne u. beside_tick w outer comm.Turn comm.Turn change.ClearLow d w.bank.hi lo w.bank.sector w.bank.comm w.bank.stuck i u
-        | kind.Cap ↦ λ ne u. (u.0, u.1, u.2, period_kept w _ (same_sums w outer comm.Turn change.ClearLow i) u.3)
-        | kind.Cmp ↦ λ ne u. moved_cross (cross_seen w) comm.Turn change.SetSector w.core.drive.postponed (same_search w outer comm.Turn change.ClearLow i)
-            (λ e. cc) u.late u
-        | j ↦ λ ne u. u
-      ];
-      stack_is = i.on;
-    }
+      words = low_words (drive_seen w) d lo refl pair (λ x on. inl (on_and w.bank.lo mask x on)) t;
+      to_is = λ e. cc;
+      at_low = λ e. (let z : true ≡ false = sym e ∙ tied.0.prompt in cc);
+      stuck_is = t.row.stuck;
+      marked = λ l f. same_marked w outer comm.Turn change.ClearLow i refl l;
+      place_is = (
+        record { none = tied.0.none; to_is = tied.0.to_is; due = tied.0.due; prompt = tied.0.prompt },
+        tied.1,
+        only_kept w.bank.lo (low_of to),
+      );
+      late = (i.ties kind.Cmp).late;
+    })
 
 -- the Q
 
