@@ -6,13 +6,10 @@ use Rattle.esc_base.specs.declared.note.Note.{Note}
 use Rattle.esc_base.specs.Journal.{time_of}
 use Rattle.am32wave.specs.declared.picture.Heard.TheVariants as heard
 use Rattle.am32wave.specs.Picture.{newest, count, high_told, low_told, sector_told, is_crossing, period_told, drive, with_drive, armed_told, demand_told, marks_told, cause_told, command_told, is_loss, is_command, is_save, control, with_control, heard_told, mode_told, value_told, telemetry_told, reply_told, is_reply, signal, with_signal, open_told, handlers, with_handlers, depth, picture, with_note, last_time}
-use Rattle.am32wave.specs.declared.picture.Picture.{Picture}
-use Rattle.am32wave.specs.declared.wire.Wire.{Wire}
 use Rattle.am32wave.specs.declared.picture.Handlers.{Handlers}
 use Rattle.am32wave.specs.Pieces.{time_text}
 use Rattle.am32wave.specs.Sentence.{words}
 use Rattle.am32wave.specs.Explained.{indent, depth_round, line}
-use Rattle.am32wave.specs.Wave.{changes, first_id, stamp_if_new}
 use Rattle.am32wave.specs.Tally.{is_good, is_bad, is_detected, is_nothing, is_armed, is_lost, is_commutation, tally, with_tally}
 
 newest_more : {A : Type 0} (tells : Note → Option A) (first : A) (notes : List Note) (n : Note)
@@ -106,19 +103,6 @@ tally_more notes n =
       count_more is_commutation notes n,
       count_more is_crossing notes n,
     ) refl
-
--- ---- a note's part of a dump
-
-pub part_of : (notes : List Note) (n : Note) (ws : List Wire) (new mid : List ℕ) (p q : Picture) (before t : ℕ) → p ≡ picture notes → before ≡ last_time notes
-    → t ≡ time_of n → q ≡ with_note p n → mid ≡ stamp_if_new before t → new ≡ mid ++ changes first_id p q ws
-    → new ≡ stamp_if_new (last_time notes) (time_of n) ++ changes first_id (picture notes) (picture (notes ++ n ∷ [])) ws
-part_of notes n ws new mid p q before t is_p is_before is_t is_q is_mid is_new =
-    let stamped : mid ≡ stamp_if_new (last_time notes) (time_of n) =
-    is_mid ∙ ap (λ (b : ℕ). stamp_if_new b t) is_before ∙ ap (λ (u : ℕ). stamp_if_new (last_time notes) u) is_t in
-    let after : q ≡ picture (notes ++ n ∷ []) = is_q ∙ ap (λ (x : Picture). with_note x n) is_p ∙ sym (picture_more notes n) in
-    is_new ∙ ap (λ (m : List ℕ). m ++ changes first_id p q ws) stamped
-    ∙ ap (λ (x : Picture). stamp_if_new (last_time notes) (time_of n) ++ changes first_id x q ws) is_p
-    ∙ ap (λ (y : Picture). stamp_if_new (last_time notes) (time_of n) ++ changes first_id (picture notes) y ws) after
 
 -- ---- a note's line in words
 

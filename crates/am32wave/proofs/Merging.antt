@@ -33,7 +33,7 @@ use Rattle.am32wave.specs.Moments.{time, notes_of, events_of, newest_time, InOrd
 use Rattle.am32wave.specs.Reading.{HasRead, PassesLine}
 use Rattle.am32wave.proofs.Look.{last_time_more}
 use Rattle.am32wave.proofs.Shows.{read_more}
-use Rattle.am32wave.proofs.Traces.{newest_more, notes_with_note, notes_with_event, events_with_note, events_with_event}
+use Rattle.am32wave.proofs.Scenes.{newest_more, notes_with_note, notes_with_event, events_with_note, events_with_event}
 
 -- ---- the next note
 

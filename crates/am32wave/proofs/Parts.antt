@@ -8,11 +8,13 @@ use Rattle.std.specs.Io.KnownBytes.{append_known}
 use Rattle.esc_base.specs.Outside.{AppendsFront}
 use Rattle.am32wave.specs.declared.pieces.Piece.{Piece}
 use Rattle.am32wave.specs.declared.pieces.Piece.TheVariants as piece
-use Rattle.am32wave.specs.declared.picture.Picture.{Picture}
+use Rattle.am32wave.specs.declared.scene.Scene.{Scene}
+use Rattle.am32wave.specs.declared.view.View.{View}
 use Rattle.am32wave.specs.declared.wire.Wire.{Wire}
 use Rattle.am32wave.specs.Wires.{width, value}
 use Rattle.am32wave.specs.Pieces.{declaration, change, piece_text, text}
-use Rattle.am32wave.specs.Wave.{declarations, values, changes}
+use Rattle.am32wave.specs.Drawn.{told, changes}
+use Rattle.am32wave.specs.Wave.{declarations, values}
 
 pub text_push : (ps : List Piece) (p : Piece) → text (ps ++ p ∷ []) ≡ text ps ++ piece_text p
 text_push ps p = flat_map-append piece_text ps (p ∷ []) ∙ ap (λ (x : List ℕ). text ps ++ x) (append-nil (piece_text p))
@@ -46,51 +48,50 @@ declared items new id ws i d whole lt e g =
     (declarations (id + (i + 1)) (drop (i + 1) ws)) whole e refl
     (rw (← declarations_at id ws i d lt) g)
 
-values_cons : (id : ℕ) (p : Picture) (w : Wire) (ws : List Wire) → values id p (w ∷ ws) ≡ change id (width w) (value w p) ++ values (id + 1) p ws
+values_cons : (id : ℕ) (p : Scene) (w : Wire) (ws : List Wire) → values id p (w ∷ ws) ≡ change id (width w) (value w p) ++ values (id + 1) p ws
 unfolding values
 values_cons id p w ws = refl
 
-values_at : (id : ℕ) (p : Picture) (ws : List Wire) (i : ℕ) (d : Wire) → i < length ws
+values_at : (id : ℕ) (p : Scene) (ws : List Wire) (i : ℕ) (d : Wire) → i < length ws
     → values (id + i) p (drop i ws) ≡ change (id + i) (width (get_or ws i d)) (value (get_or ws i d) p) ++ values (id + (i + 1)) p (drop (i + 1) ws)
 values_at id p ws i d lt =
     let next : id + i + 1 ≡ id + (i + 1) = omega arith in
     ap (values (id + i) p) (drop_at ws i d lt) ∙ values_cons (id + i) p (get_or ws i d) (drop (i + 1) ws)
     ∙ ap (λ (k : ℕ). change (id + i) (width (get_or ws i d)) (value (get_or ws i d) p) ++ values k p (drop (i + 1) ws)) next
 
-pub valued : (items new : List Piece) (id : ℕ) (p : Picture) (ws : List Wire) (i : ℕ) (d : Wire) (w v : ℕ) (whole : List ℕ) → i < length ws
+pub valued : (items new : List Piece) (id : ℕ) (p : Scene) (ws : List Wire) (i : ℕ) (d : Wire) (w v : ℕ) (whole : List ℕ) → i < length ws
     → w ≡ width (get_or ws i d) → v ≡ value (get_or ws i d) p → new ≡ items ++ piece.Change (id + i) w v ∷ []
     → text items ++ values (id + i) p (drop i ws) ≡ whole → text new ++ values (id + (i + 1)) p (drop (i + 1) ws) ≡ whole
 valued items new id p ws i d w v whole lt is_width is_value e g =
     moved items new (piece.Change (id + i) w v) (change (id + i) w v) (values (id + (i + 1)) p (drop (i + 1) ws)) whole e refl
     (rw (is_width, is_value, ← values_at id p ws i d lt) g)
 
-changes_cons : (id : ℕ) (p q : Picture) (w : Wire) (ws : List Wire) → changes id p q (w ∷ ws)
-    ≡ (if value w q == value w p then [] else change id (width w) (value w q)) ++ changes (id + 1) p q ws
+changes_cons : (v : View) (i : ℕ) (p q : Scene) (w : Wire) (ws : List Wire) → changes v i p q (w ∷ ws)
+    ≡ (if value w q == value w p then [] else told v i w (value w q)) ++ changes v (i + 1) p q ws
 unfolding changes
-changes_cons id p q w ws = refl
+changes_cons v i p q w ws = refl
 
-changes_at : (id : ℕ) (p q : Picture) (ws : List Wire) (i : ℕ) (d : Wire) (is_same : Bool) → i < length ws
+changes_at : (v : View) (p q : Scene) (ws : List Wire) (i : ℕ) (d : Wire) (is_same : Bool) → i < length ws
     → (value (get_or ws i d) q == value (get_or ws i d) p) ≡ is_same
-    → changes (id + i) p q (drop i ws)
-    ≡ (if is_same then [] else change (id + i) (width (get_or ws i d)) (value (get_or ws i d) q)) ++ changes (id + (i + 1)) p q (drop (i + 1) ws)
-changes_at id p q ws i d is_same lt e =
-    let next : id + i + 1 ≡ id + (i + 1) = omega arith in
-    ap (changes (id + i) p q) (drop_at ws i d lt) ∙ changes_cons (id + i) p q (get_or ws i d) (drop (i + 1) ws)
-    ∙ ap (λ (b : Bool). (if b then [] else change (id + i) (width (get_or ws i d)) (value (get_or ws i d) q)) ++ changes (id + i + 1) p q (drop (i + 1) ws)) e
-    ∙ ap (λ (k : ℕ). (if is_same then [] else change (id + i) (width (get_or ws i d)) (value (get_or ws i d) q)) ++ changes k p q (drop (i + 1) ws)) next
+    → changes v i p q (drop i ws)
+    ≡ (if is_same then [] else told v i (get_or ws i d) (value (get_or ws i d) q)) ++ changes v (i + 1) p q (drop (i + 1) ws)
+changes_at v p q ws i d is_same lt e =
+    ap (changes v i p q) (drop_at ws i d lt) ∙ changes_cons v i p q (get_or ws i d) (drop (i + 1) ws)
+    ∙ ap (λ (b : Bool). (if b then [] else told v i (get_or ws i d) (value (get_or ws i d) q)) ++ changes v (i + 1) p q (drop (i + 1) ws)) e
 
-pub changed : (items new : List Piece) (id : ℕ) (p q : Picture) (ws : List Wire) (i : ℕ) (d : Wire) (w v u : ℕ) (whole : List ℕ) → i < length ws
-    → w ≡ width (get_or ws i d) → v ≡ value (get_or ws i d) q → u ≡ value (get_or ws i d) p → (v == u) ≡ false
-    → new ≡ items ++ piece.Change (id + i) w v ∷ []
-    → text items ++ changes (id + i) p q (drop i ws) ≡ whole → text new ++ changes (id + (i + 1)) p q (drop (i + 1) ws) ≡ whole
-changed items new id p q ws i d w v u whole lt is_width is_value was is e g =
-    moved items new (piece.Change (id + i) w v) (change (id + i) w v) (changes (id + (i + 1)) p q (drop (i + 1) ws)) whole e refl
-    (rw (is_width, is_value, ← changes_at id p q ws i d false lt (rw (← is_value, ← was) is)) g)
+pub changed : (items new : List Piece) (v : View) (p q : Scene) (ws : List Wire) (i : ℕ) (d : Wire) (piece : Piece) (x u : ℕ) (whole : List ℕ)
+    → i < length ws → piece_text piece ≡ told v i (get_or ws i d) x → x ≡ value (get_or ws i d) q → u ≡ value (get_or ws i d) p → (x == u) ≡ false
+    → new ≡ items ++ piece ∷ []
+    → text items ++ changes v i p q (drop i ws) ≡ whole → text new ++ changes v (i + 1) p q (drop (i + 1) ws) ≡ whole
+changed items new v p q ws i d piece x u whole lt is_piece is_value was is e g =
+    moved items new piece (told v i (get_or ws i d) (value (get_or ws i d) q)) (changes v (i + 1) p q (drop (i + 1) ws)) whole e
+    (is_piece ∙ ap (told v i (get_or ws i d)) is_value)
+    (rw (← changes_at v p q ws i d false lt (rw (← is_value, ← was) is)) g)
 
-pub unchanged : (items new : List Piece) (id : ℕ) (p q : Picture) (ws : List Wire) (i : ℕ) (d : Wire) (v u : ℕ) (whole : List ℕ) → i < length ws
-    → v ≡ value (get_or ws i d) q → u ≡ value (get_or ws i d) p → (v == u) ≡ true → new ≡ items
-    → text items ++ changes (id + i) p q (drop i ws) ≡ whole → text new ++ changes (id + (i + 1)) p q (drop (i + 1) ws) ≡ whole
-unchanged items new id p q ws i d v u whole lt is_value was is e g = rw (e, ← changes_at id p q ws i d true lt (rw (← is_value, ← was) is)) g
+pub unchanged : (items new : List Piece) (v : View) (p q : Scene) (ws : List Wire) (i : ℕ) (d : Wire) (x u : ℕ) (whole : List ℕ) → i < length ws
+    → x ≡ value (get_or ws i d) q → u ≡ value (get_or ws i d) p → (x == u) ≡ true → new ≡ items
+    → text items ++ changes v i p q (drop i ws) ≡ whole → text new ++ changes v (i + 1) p q (drop (i + 1) ws) ≡ whole
+unchanged items new v p q ws i d x u whole lt is_value was is e g = rw (e, ← changes_at v p q ws i d true lt (rw (← is_value, ← was) is)) g
 
 pub differs : (v u : ℕ) → v ≢ u → (v == u) ≡ false
 differs v u ne = grind (arith, nat_tests)
@@ -106,13 +107,13 @@ pub no_declarations : (id : ℕ) (ws : List Wire) (i : ℕ) → length ws ≤ i 
 unfolding declarations
 no_declarations id ws i le = rw (drop_of_length-le ws le) refl
 
-pub no_values : (id : ℕ) (p : Picture) (ws : List Wire) (i : ℕ) → length ws ≤ i → values (id + i) p (drop i ws) ≡ []
+pub no_values : (id : ℕ) (p : Scene) (ws : List Wire) (i : ℕ) → length ws ≤ i → values (id + i) p (drop i ws) ≡ []
 unfolding values
 no_values id p ws i le = rw (drop_of_length-le ws le) refl
 
-pub no_changes : (id : ℕ) (p q : Picture) (ws : List Wire) (i : ℕ) → length ws ≤ i → changes (id + i) p q (drop i ws) ≡ []
+pub no_changes : (v : View) (p q : Scene) (ws : List Wire) (i : ℕ) → length ws ≤ i → changes v i p q (drop i ws) ≡ []
 unfolding changes
-no_changes id p q ws i le = rw (drop_of_length-le ws le) refl
+no_changes v p q ws i le = rw (drop_of_length-le ws le) refl
 
 -- ---- written pieces
 
@@ -160,13 +161,28 @@ text_then items new p before was e = ap text e ∙ text_push items p ∙ ap (λ 
 text_all : (items new more : List Piece) (before : List ℕ) → text items ≡ before → new ≡ items ++ more → text new ≡ before ++ text more
 text_all items new more before was e = ap text e ∙ flat_map-append piece_text items more ∙ ap (λ (b : List ℕ). b ++ text more) was
 
-pub head_of : (i0 i1 i2 i3 i4 i5 : List Piece) (p q r : Piece) (d v : List ℕ) → i0 ≡ [] → i1 ≡ i0 ++ p ∷ [] → text i2 ≡ text i1 ++ d → i3 ≡ i2 ++ q ∷ []
-    → text i4 ≡ text i3 ++ v → i5 ≡ i4 ++ r ∷ [] → text i5 ≡ piece_text p ++ d ++ piece_text q ++ v ++ piece_text r
-head_of i0 i1 i2 i3 i4 i5 p q r d v e0 e1 e2 e3 e4 e5 =
-    let f2 = e2 ∙ ap (λ (b : List ℕ). b ++ d) (text_first i0 i1 p e0 e1) in
+text_more : (items new : List Piece) (before more : List ℕ) → text items ≡ before → text new ≡ text items ++ more → text new ≡ before ++ more
+text_more items new before more was e = e ∙ ap (λ (b : List ℕ). b ++ more) was
+
+-- a dump's head
+pub head_of : (i0 i1 i2 i3 i4 i5 i6 i7 : List Piece) (p q r s t : Piece) (d v stamp : List ℕ) → piece_text r ≡ stamp → i0 ≡ [] → i1 ≡ i0 ++ p ∷ []
+    → text i2 ≡ text i1 ++ d → i3 ≡ i2 ++ q ∷ [] → i4 ≡ i3 ++ r ∷ [] → i5 ≡ i4 ++ s ∷ [] → text i6 ≡ text i5 ++ v → i7 ≡ i6 ++ t ∷ []
+    → text i7 ≡ piece_text p ++ d ++ piece_text q ++ stamp ++ piece_text s ++ v ++ piece_text t
+head_of i0 i1 i2 i3 i4 i5 i6 i7 p q r s t d v stamp is_stamp e0 e1 e2 e3 e4 e5 e6 e7 =
+    let f2 = text_more i1 i2 (piece_text p) d (text_first i0 i1 p e0 e1) e2 in
     let f3 = text_then i2 i3 q (piece_text p ++ d) f2 e3 in
-    let f4 = e4 ∙ ap (λ (b : List ℕ). b ++ v) f3 in
-    text_then i4 i5 r (((piece_text p ++ d) ++ piece_text q) ++ v) f4 e5
+    let f4 = text_then i3 i4 r (piece_text p ++ d ++ piece_text q) f3 e4 ∙ ap (λ (b : List ℕ). piece_text p ++ d ++ piece_text q ++ b) is_stamp in
+    let f5 = text_then i4 i5 s (piece_text p ++ d ++ piece_text q ++ stamp) f4 e5 in
+    let f6 = text_more i5 i6 (piece_text p ++ d ++ piece_text q ++ stamp ++ piece_text s) v f5 e6 in
+    text_then i6 i7 t (piece_text p ++ d ++ piece_text q ++ stamp ++ piece_text s ++ v) f6 e7
+
+-- a page's head
+pub page_of : (i0 i1 i2 i3 i4 more : List Piece) (p q r : Piece) (line : List ℕ) → i0 ≡ [] → i1 ≡ i0 ++ p ∷ [] → i2 ≡ i1 ++ q ∷ [] → i3 ≡ i2 ++ r ∷ []
+    → i4 ≡ i3 ++ more → text more ≡ line → text i4 ≡ (piece_text p ++ piece_text q ++ piece_text r) ++ line
+page_of i0 i1 i2 i3 i4 more p q r line e0 e1 e2 e3 e4 e5 =
+    let f2 = text_then i1 i2 q (piece_text p) (text_first i0 i1 p e0 e1) e2 in
+    let f3 = text_then i2 i3 r (piece_text p ++ piece_text q) f2 e3 in
+    text_all i3 i4 more (piece_text p ++ piece_text q ++ piece_text r) f3 e4 ∙ ap (λ (b : List ℕ). (piece_text p ++ piece_text q ++ piece_text r) ++ b) e5
 
 pub line_of : (i0 i1 i2 i3 more i4 i5 : List Piece) (p q r s : Piece) → i0 ≡ [] → i1 ≡ i0 ++ p ∷ [] → i2 ≡ i1 ++ q ∷ [] → i3 ≡ i2 ++ r ∷ []
     → i4 ≡ i3 ++ more → i5 ≡ i4 ++ s ∷ [] → text i5 ≡ piece_text p ++ piece_text q ++ piece_text r ++ text more ++ piece_text s

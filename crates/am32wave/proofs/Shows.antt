@@ -9,7 +9,7 @@ use Rattle.esc_base.specs.declared.note.Note.{Note}
 use Rattle.esc_base.specs.Journal.{time_of, Each, IsLater, Journal}
 use Rattle.esc_base.specs.Outside.{AppendsFront}
 use Rattle.esc_base.specs.Range.{InRange}
-use Rattle.trace_text.specs.Ahead.{ahead}
+use Rattle.trace_text.specs.Ahead.{unread, ahead}
 use Rattle.trace_text.specs.Text.{note_bytes, Text}
 use Rattle.trace_text.proofs.Taking.{prepend_both}
 use Rattle.am32wave.specs.declared.reader.Journal.{Journal as Reader}
@@ -17,26 +17,25 @@ use Rattle.am32wave.specs.declared.journal.Refusal.{Refusal}
 use Rattle.am32wave.specs.declared.journal.Refusal.TheVariants as refusal
 use Rattle.am32wave.specs.declared.run.Form.{Form}
 use Rattle.am32wave.specs.declared.run.Form.TheVariants as form
+use Rattle.am32wave.specs.declared.drawing.Drawing.{Drawing}
+use Rattle.am32wave.specs.declared.moment.Moment.{Moment}
+use Rattle.am32wave.specs.declared.moment.Moment.TheVariants as moment
 use Rattle.am32wave.specs.declared.run.Report.{Report}
+use Rattle.am32wave.specs.declared.view.Plan.{Plan}
 use Rattle.am32wave.specs.declared.status.Status.{Status}
 use Rattle.am32wave.specs.declared.status.Status.TheVariants as status
 use Rattle.am32wave.specs.Picture.{newest, last_time}
-use Rattle.am32wave.specs.Wave.{head, part, parts, wave}
+use Rattle.am32wave.specs.After.{IsDrawnAfter}
+use Rattle.am32wave.specs.Drawn.{head, begun as begun_drawing}
 use Rattle.am32wave.specs.Explained.{line, lines}
 use Rattle.am32wave.specs.Reading.{NoteAhead, IsCutOff, Refuses, PassesLine, HasRead, most_lines}
-use Rattle.am32wave.specs.Shown.{head_text, part_text, end_text, begun, shown, form_of, IsAfter, IsDone, IsRefused, IsWriteFault, Shown, IsDoneOrFault, IsJournal}
+use Rattle.am32wave.specs.Shown.{journal_plan, moments_of, head_text, part_text, end_text, begun, shown, form_of, IsAfter, IsDone, IsRefused, IsWriteFault, Shown, IsDoneOrFault, IsJournal}
 use Rattle.am32wave.proofs.Look.{last_time_more}
 use Rattle.am32wave.proofs.Lines.{same_line, no_line_within}
 use Rattle.am32wave.proofs.Parts.{append_known-twice, front_behind}
+use Rattle.am32wave.proofs.Scenes.{begun_more as begun_drawing_more}
 
 -- ---- one note more
-
-parts_more : (before notes : List Note) (n : Note) → parts before (notes ++ n ∷ []) ≡ parts before notes ++ part (before ++ notes) n
-parts_more before [] n = append-nil (part before n) ∙ ap (λ (b : List Note). part b n) (sym (append-nil before))
-parts_more before (m ∷ notes) n =
-    ap (λ (bytes : List ℕ). part before m ++ bytes) (parts_more (before ++ m ∷ []) notes n)
-    ∙ sym (append_assoc (part before m) (parts (before ++ m ∷ []) notes) (part ((before ++ m ∷ []) ++ notes) n))
-    ∙ ap (λ (b : List Note). (part before m ++ parts (before ++ m ∷ []) notes) ++ part b n) (append_assoc before (m ∷ []) notes)
 
 lines_more : (before notes : List Note) (n : Note) → lines before (notes ++ n ∷ []) ≡ lines before notes ++ line (before ++ notes) n
 lines_more before [] n = append-nil (line before n) ∙ ap (λ (b : List Note). line b n) (sym (append-nil before))
@@ -45,17 +44,31 @@ lines_more before (m ∷ notes) n =
     ∙ sym (append_assoc (line before m) (lines (before ++ m ∷ []) notes) (line ((before ++ m ∷ []) ++ notes) n))
     ∙ ap (λ (b : List Note). (line before m ++ lines (before ++ m ∷ []) notes) ++ line b n) (append_assoc before (m ∷ []) notes)
 
+moments_more : (notes : List Note) (n : Note) → moments_of (notes ++ n ∷ []) ≡ moments_of notes ++ moment.Note n ∷ []
+moments_more [] n = refl
+moments_more (m ∷ notes) n = ap (λ (ms : List Moment). moment.Note m ∷ ms) (moments_more notes n)
+
 begun_more : (f : Form) (notes : List Note) (n : Note) → begun f (notes ++ n ∷ []) ≡ begun f notes ++ part_text f notes n
-begun_more form.Wave notes n = ap (λ (bytes : List ℕ). head ++ bytes) (parts_more [] notes n) ∙ sym (append_assoc head (parts [] notes) (part notes n))
+begun_more (form.Drawn v s) notes n =
+    ap (begun_drawing (journal_plan v s)) (moments_more notes n) ∙ begun_drawing_more (journal_plan v s) (moments_of notes) (moment.Note n)
 begun_more form.Words notes n = lines_more [] notes n
 
 begun_none : (f : Form) → begun f [] ≡ head_text f
-begun_none form.Wave = append-nil head
+begun_none (form.Drawn v s) = append-nil (head (journal_plan v s))
 begun_none form.Words = refl
 
 shown_is : (f : Form) (notes : List Note) → begun f notes ++ end_text f notes ≡ shown f notes
-shown_is form.Wave notes = append-nil (wave notes)
+shown_is (form.Drawn v s) notes = refl
 shown_is form.Words notes = refl
+
+-- ---- what is kept, one note more
+
+pub drawn_more : (d e : Drawing) (notes : List Note) (n : Note) → e.plan ≡ d.plan
+    → IsDrawnAfter e (journal_plan d.plan.view d.plan.stretch) (moments_of notes ++ moment.Note n ∷ [])
+    → IsDrawnAfter e (journal_plan e.plan.view e.plan.stretch) (moments_of (notes ++ n ∷ []))
+drawn_more d e notes n same h =
+    subst (λ (p : Plan). IsDrawnAfter e (journal_plan p.view p.stretch) (moments_of (notes ++ n ∷ []))) (sym same)
+    (subst (IsDrawnAfter e (journal_plan d.plan.view d.plan.stretch)) (sym (moments_more notes n)) h)
 
 each_push : (Fits : List Note → Note → Type 0) (before notes : List Note) (n : Note) → Each Fits before notes → Fits (before ++ notes) n
     → Each Fits before (notes ++ n ∷ [])
@@ -271,3 +284,21 @@ done_or_fault f status.Usage left left_after before after text e j h = h
 done_or_fault f status.ReadFault left left_after before after text e j h = tt
 done_or_fault f status.WriteFault left left_after before after text e j h = tt
 done_or_fault f status.NoMemory left left_after before after text e j h = h
+
+-- before the first note
+pub started : (f : Form) (j : Reader) (r : Report) (left given given' : Option (List ℕ)) (bytes : List ℕ) → unread j.held ≡ [] → j.line ≡ 0 → j.time.0 ≡ 0
+    → form_of r ≡ f → IsAfter r [] → bytes ≡ head_text (form_of r) → given' ≡ append_known given bytes → SoFar f j r left left given given'
+started f j r left given given' bytes none line time is first text wrote = record {
+  notes = [];
+  read = record {
+    is = none_read left ∙ ap (λ (u : List ℕ). prepend_known u left) (sym none) ∙ none_read (ahead j.held left);
+    in_range = All-nil InRange;
+    ordered = tt;
+  };
+  below = All-nil (λ (n : Note). time_of n ≤ j.time.0);
+  newest = sym time;
+  line = line;
+  form = is;
+  stands = first;
+  given_is = wrote ∙ ap (λ (b : List ℕ). append_known given b) (text ∙ ap head_text is ∙ sym (begun_none f));
+}

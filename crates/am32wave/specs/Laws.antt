@@ -10,17 +10,23 @@ use Rattle.am32wave.specs.declared.moment.Moment.TheVariants as moment
 use Rattle.am32wave.specs.declared.wire.Wire.TheVariants as wire
 use Rattle.am32wave.specs.Levels.{levels}
 use Rattle.am32wave.specs.Moments.{events_of}
-use Rattle.am32wave.specs.Picture.{picture, high_told, low_told}
+use Rattle.am32wave.specs.Picture.{high_told, low_told}
+use Rattle.am32wave.specs.Scene.{scene}
 use Rattle.am32wave.specs.Wires.{value}
 
--- a leg's wires show what a note's gate word says of its switches, and what they showed before where the note has none
-pub record GatesFollow (before : List Note) (n : Note) (x : Leg) : Type 0 where
+-- what a note tells, and nothing of an event
+abbrev pub by_note : {A : Type 0} → (Note → Option A) → Moment → Option A
+by_note tells (moment.Note n) = tells n
+by_note tells (moment.Event e) = None
+
+-- a leg's wires show what a note's gate word says of its switches, and what they showed before where a moment has none
+pub record GatesFollow (before : List Moment) (m : Moment) (x : Leg) : Type 0 where
   pub high :
-      value (wire.High x) (picture (before ++ n ∷ []))
-      ≡ unwrap_or (option_map (λ hi. bit_of (is_on hi x)) (high_told n)) (value (wire.High x) (picture before))
+      value (wire.High x) (scene (before ++ m ∷ []))
+      ≡ unwrap_or (option_map (λ hi. bit_of (is_on hi x)) (by_note high_told m)) (value (wire.High x) (scene before))
   pub low :
-      value (wire.Low x) (picture (before ++ n ∷ []))
-      ≡ unwrap_or (option_map (λ lo. bit_of (is_on lo x)) (low_told n)) (value (wire.Low x) (picture before))
+      value (wire.Low x) (scene (before ++ m ∷ []))
+      ≡ unwrap_or (option_map (λ lo. bit_of (is_on lo x)) (by_note low_told m)) (value (wire.Low x) (scene before))
 
 -- what a moment says of the signal line, and of the comparator
 abbrev pub line_told : Moment → Option Bool

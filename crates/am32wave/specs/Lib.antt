@@ -3,7 +3,11 @@ pub mod Wires
 pub mod Pieces
 pub mod Sentence
 pub mod Tally
+pub mod Stretch
+pub mod Scene
 pub mod Wave
+pub mod Page
+pub mod Drawn
 pub mod Explained
 pub mod Reading
 pub mod After
@@ -12,6 +16,5 @@ pub mod Shown
 pub mod Laws
 pub mod Moments
 pub mod Levels
-pub mod TracedWave
 pub mod Next
 pub mod Merged

@@ -1,5 +1,5 @@
 -- How far a journal and its trace were read, moment by moment, and how that ends.
-use Rattle.std.specs.Prelude.{◌≡◌, ℕ, ◌+◌, ◌≤◌, List, [], ◌∷◌, ◌++◌, length, All, Option, Some, None, Result, Ok, Err}
+use Rattle.std.specs.Prelude.{◌≡◌, ℕ, ◌+◌, ◌≤◌, true, List, [], ◌∷◌, ◌++◌, length, All, Option, Some, None, Result, Ok, Err}
 use Rattle.std.specs.Io.KnownBytes.{append_known, IsAtEnd}
 use Rattle.esc_base.specs.declared.event.Event.{Event}
 use Rattle.esc_base.specs.declared.note.Note.{Note}
@@ -24,7 +24,10 @@ use Rattle.am32wave.specs.Moments.{notes_of, events_of, newest_time, InOrder, Mo
 use Rattle.am32wave.specs.Next.{notes_to_come, events_to_come}
 use Rattle.am32wave.specs.Picture.{last_time}
 use Rattle.am32wave.specs.Reading.{HasRead, OnlyPart, Refuses}
-use Rattle.am32wave.specs.TracedWave.{traced_wave}
+use Rattle.am32wave.specs.declared.view.Plan.{Plan}
+use Rattle.am32wave.specs.declared.view.Stretch.{Stretch}
+use Rattle.am32wave.specs.declared.view.View.{View}
+use Rattle.am32wave.specs.Drawn.{begun, drawn}
 
 -- ---- one journal and one trace, by what comes next in each; t is the time of the newest moment
 
@@ -165,17 +168,21 @@ MergeSays (Err s) m notes_first notes_left events_first events_left moments = En
 abbrev pub to_come : Merge → ℕ
 to_come m = notes_to_come m.notes.next m.notes.journal.line + events_to_come m.events.next (place m.events.lines).line
 
--- ---- the wave that was written
+-- ---- what was written
 
--- the wave of these moments, or a front of it where the sink failed
-abbrev pub WroteWave : Status → List Moment → Option (List ℕ) → Option (List ℕ) → Type 0
-WroteWave status.WriteFault moments before after = AppendsFront before (traced_wave moments) after
-WroteWave s moments before after = after ≡ append_known before (traced_wave moments)
+abbrev pub traced_plan : View → Stretch → Plan
+traced_plan v s = record { view = v; stretch = s; is_traced = true }
 
-pub record TracedShown (s : Status) (notes_first notes_left events_first events_left before after : Option (List ℕ)) : Type 0 where
+-- the whole drawing of these moments; without its end where no more could be read, and a front of it where the sink failed
+abbrev pub Wrote : Plan → Status → List Moment → Option (List ℕ) → Option (List ℕ) → Type 0
+Wrote p status.Done moments before after = after ≡ append_known before (drawn p moments)
+Wrote p status.WriteFault moments before after = AppendsFront before (drawn p moments) after
+Wrote p s moments before after = after ≡ append_known before (begun p moments)
+
+pub record TracedShown (p : Plan) (s : Status) (notes_first notes_left events_first events_left before after : Option (List ℕ)) : Type 0 where
   pub moments : List Moment
   pub ends : Ends s notes_first notes_left events_first events_left moments
-  pub wrote : WroteWave s moments before after
+  pub wrote : Wrote p s moments before after
 
 -- the whole job was done, or a source or the sink failed
 abbrev pub IsTracedDoneOrFault : Status → Type 0

@@ -1,7 +1,7 @@
 -- The text of each piece.
 use Rattle.std.specs.Prelude.{ℕ, ◌*◌, ◌/◌, ◌+◌, ◌%◌, ◌==◌, ◌≤◌, ◌<◌, if◌then◌else◌, List, [], ◌∷◌, ◌++◌, flat_map, codes, decimal}
-use Rattle.esc_base.specs.Range.{IsWord}
-use Rattle.trace_text.specs.Text.{hex, bits}
+use Rattle.esc_base.specs.Range.{InRange, IsWord}
+use Rattle.trace_text.specs.Text.{hex, bits, note_bytes}
 use Rattle.am32wave.specs.declared.pieces.Piece.{Piece}
 use Rattle.am32wave.specs.declared.pieces.Piece.TheVariants as piece
 use Rattle.am32wave.specs.declared.wire.Wire.{Wire}
@@ -43,6 +43,7 @@ piece_text (piece.Time t) = time_text t.0
 piece_text (piece.Declaration id w) = declaration id w
 piece_text (piece.Stamp t) = stamp_text t.0
 piece_text (piece.Change id w v) = change id w v
+piece_text (piece.Note n) = note_bytes n
 
 abbrev pub text : List Piece → List ℕ
 text pieces = flat_map piece_text pieces
@@ -53,4 +54,5 @@ Fits (piece.Time t) = IsWord t.0
 Fits (piece.Declaration id w) = id < 128
 Fits (piece.Stamp t) = IsWord t.0
 Fits (piece.Change id w v) = (id < 128) × (w ≤ 32)
+Fits (piece.Note n) = InRange n
 Fits p = Unit {0}

@@ -1,5 +1,5 @@
 -- What was read and written, by the status with which the program ends.
-use Rattle.std.specs.Prelude.{◌≡◌, ℕ, ◌+◌, ◌≤◌, List, [], length, All, Option}
+use Rattle.std.specs.Prelude.{◌≡◌, ℕ, ◌+◌, ◌≤◌, false, List, [], length, map, All, Option}
 use Rattle.std.specs.Io.KnownBytes.{append_known, IsAtEnd}
 use Rattle.esc_base.specs.declared.note.Note.{Note}
 use Rattle.esc_base.specs.Journal.{Journal}
@@ -9,52 +9,65 @@ use Rattle.trace_text.specs.Text.{Text}
 use Rattle.am32wave.specs.declared.journal.Refusal.{Refusal}
 use Rattle.am32wave.specs.declared.run.Form.{Form}
 use Rattle.am32wave.specs.declared.run.Form.TheVariants as form
+use Rattle.am32wave.specs.declared.moment.Moment.{Moment}
+use Rattle.am32wave.specs.declared.moment.Moment.TheVariants as moment
 use Rattle.am32wave.specs.declared.run.Report.{Report}
 use Rattle.am32wave.specs.declared.run.Report.TheVariants as report
 use Rattle.am32wave.specs.declared.status.Status.{Status}
 use Rattle.am32wave.specs.declared.status.Status.TheVariants as status
+use Rattle.am32wave.specs.declared.view.Plan.{Plan}
+use Rattle.am32wave.specs.declared.view.Stretch.{Stretch}
+use Rattle.am32wave.specs.declared.view.View.{View}
+use Rattle.am32wave.specs.Drawn.{head, part, end, begun as begun_drawing, drawn}
 use Rattle.am32wave.specs.Picture.{last_time}
-use Rattle.am32wave.specs.Wave.{head, part, wave}
 use Rattle.am32wave.specs.Explained.{line, lines, explained}
 use Rattle.am32wave.specs.Tally.{tally, summary}
 use Rattle.am32wave.specs.Reading.{Refuses, OnlyPart, HasRead, most_lines}
-use Rattle.am32wave.specs.After.{IsDumpAfter, IsToldAfter}
+use Rattle.am32wave.specs.After.{IsDrawnAfter, IsToldAfter}
+
+-- ---- a journal without its trace
+
+abbrev pub journal_plan : View → Stretch → Plan
+journal_plan v s = record { view = v; stretch = s; is_traced = false }
+
+abbrev pub moments_of : List Note → List Moment
+moments_of notes = map moment.Note notes
 
 -- ---- the text of some notes, in each form
 
 -- what stands before the first note's part
 abbrev pub head_text : Form → List ℕ
-head_text form.Wave = head
+head_text (form.Drawn v s) = head (journal_plan v s)
 head_text form.Words = []
 
 -- a note's part, by the notes before it
 abbrev pub part_text : Form → List Note → Note → List ℕ
-part_text form.Wave before n = part before n
+part_text (form.Drawn v s) before n = part (journal_plan v s) (moments_of before) (moment.Note n)
 part_text form.Words before n = line before n
 
 -- what stands behind the last note's part
 abbrev pub end_text : Form → List Note → List ℕ
-end_text form.Wave notes = []
+end_text (form.Drawn v s) notes = end (journal_plan v s) (moments_of notes)
 end_text form.Words notes = summary (tally notes)
 
 -- the text of a journal's notes without what stands behind the last one's part
 abbrev pub begun : Form → List Note → List ℕ
-begun form.Wave notes = wave notes
+begun (form.Drawn v s) notes = begun_drawing (journal_plan v s) (moments_of notes)
 begun form.Words notes = lines [] notes
 
 -- the whole text of a journal's notes
 abbrev pub shown : Form → List Note → List ℕ
-shown form.Wave notes = wave notes
+shown (form.Drawn v s) notes = drawn (journal_plan v s) (moments_of notes)
 shown form.Words notes = explained notes
 
 -- ---- what is kept of the notes so far
 
 abbrev pub form_of : Report → Form
-form_of (report.Wave d) = form.Wave
+form_of (report.Drawn d) = form.Drawn d.plan.view d.plan.stretch
 form_of (report.Words e) = form.Words
 
 abbrev pub IsAfter : Report → List Note → Type 0
-IsAfter (report.Wave d) notes = IsDumpAfter d notes
+IsAfter (report.Drawn d) notes = IsDrawnAfter d (journal_plan d.plan.view d.plan.stretch) (moments_of notes)
 IsAfter (report.Words e) notes = IsToldAfter e notes
 
 -- ---- the endings

@@ -1,5 +1,5 @@
 -- The wires of a wave: their names, their widths in bits, and what they show.
-use Rattle.std.specs.Prelude.{ℕ, ◌/◌, ◌%◌, List, [], ◌∷◌, codes}
+use Rattle.std.specs.Prelude.{ℕ, ◌/◌, ◌%◌, Bool, true, false, List, [], ◌∷◌, ◌++◌, codes}
 use Rattle.esc_base.specs.declared.gate.Leg.TheVariants as leg
 use Rattle.esc_base.specs.declared.kind.Kind.{Kind}
 use Rattle.esc_base.specs.declared.kind.Kind.TheVariants as kind
@@ -7,12 +7,12 @@ use Rattle.esc_base.specs.Legs.{is_on}
 use Rattle.esc_base.specs.Numbers.{bit_of}
 use Rattle.am32wave.specs.declared.picture.Heard.{Heard}
 use Rattle.am32wave.specs.declared.picture.Heard.TheVariants as heard
-use Rattle.am32wave.specs.declared.picture.Picture.{Picture}
+use Rattle.am32wave.specs.declared.scene.Scene.{Scene}
 use Rattle.am32wave.specs.declared.wire.Wire.{Wire}
 use Rattle.am32wave.specs.declared.wire.Wire.TheVariants as wire
 use Rattle.am32wave.specs.Picture.{is_open}
 
--- in the order in which they are declared and in which their changes stand
+-- the journal's, in the order in which they are declared and in which their changes stand
 abbrev pub wires : List Wire
 wires =
     wire.High leg.A
@@ -52,6 +52,11 @@ wires =
     ∷ wire.Open kind.Pwm
     ∷ wire.Open kind.Comm
     ∷ []
+
+-- with the two that a trace gives, or without them
+abbrev pub wires_of : Bool → List Wire
+wires_of false = wires
+wires_of true = wires ++ wire.Line ∷ wire.Comparator ∷ []
 
 abbrev pub handler_name : Kind → List ℕ
 handler_name kind.Main = codes "handler_main"
@@ -93,6 +98,8 @@ name wire.Saves = codes "saves"
 name wire.Reply = codes "reply"
 name wire.Replies = codes "replies"
 name (wire.Open k) = handler_name k
+name wire.Line = codes "signal_line"
+name wire.Comparator = codes "comparator"
 
 -- 1 to 32
 abbrev pub width : Wire → ℕ
@@ -133,30 +140,32 @@ abbrev pub reason : Heard → ℕ
 reason (heard.Bad w) = w
 reason h = 0
 
-abbrev pub value : Wire → Picture → ℕ
-value (wire.High x) p = bit_of (is_on p.drive.high x)
-value (wire.Low x) p = bit_of (is_on p.drive.low x)
-value wire.Sector p = p.drive.sector
-value wire.Crossings p = p.drive.crossings
-value wire.Period p = p.drive.period
-value wire.Armed p = bit_of p.control.armed
-value wire.Demand p = p.control.demand
-value wire.Stuck p = p.control.marks % 2
-value wire.Fuse p = p.control.marks / 2 % 2
-value wire.Session p = p.control.marks / 4 % 2
-value wire.Cause p = p.control.cause
-value wire.Losses p = p.control.losses
-value wire.Window p = is_window_open p.signal.heard
-value wire.Mode p = p.signal.mode
-value wire.Good p = is_good p.signal.heard
-value wire.Detected p = is_detected p.signal.heard
-value wire.Nothing p = is_nothing p.signal.heard
-value wire.Bad p = reason p.signal.heard
-value wire.Value p = p.signal.value
-value wire.Telemetry p = p.signal.telemetry
-value wire.Command p = p.control.command
-value wire.Commands p = p.control.commands
-value wire.Saves p = p.control.saves
-value wire.Reply p = p.signal.reply
-value wire.Replies p = p.signal.replies
-value (wire.Open k) p = bit_of (is_open p.handlers k)
+abbrev pub value : Wire → Scene → ℕ
+value (wire.High x) s = bit_of (is_on s.picture.drive.high x)
+value (wire.Low x) s = bit_of (is_on s.picture.drive.low x)
+value wire.Sector s = s.picture.drive.sector
+value wire.Crossings s = s.picture.drive.crossings
+value wire.Period s = s.picture.drive.period
+value wire.Armed s = bit_of s.picture.control.armed
+value wire.Demand s = s.picture.control.demand
+value wire.Stuck s = s.picture.control.marks % 2
+value wire.Fuse s = s.picture.control.marks / 2 % 2
+value wire.Session s = s.picture.control.marks / 4 % 2
+value wire.Cause s = s.picture.control.cause
+value wire.Losses s = s.picture.control.losses
+value wire.Window s = is_window_open s.picture.signal.heard
+value wire.Mode s = s.picture.signal.mode
+value wire.Good s = is_good s.picture.signal.heard
+value wire.Detected s = is_detected s.picture.signal.heard
+value wire.Nothing s = is_nothing s.picture.signal.heard
+value wire.Bad s = reason s.picture.signal.heard
+value wire.Value s = s.picture.signal.value
+value wire.Telemetry s = s.picture.signal.telemetry
+value wire.Command s = s.picture.control.command
+value wire.Commands s = s.picture.control.commands
+value wire.Saves s = s.picture.control.saves
+value wire.Reply s = s.picture.signal.reply
+value wire.Replies s = s.picture.signal.replies
+value (wire.Open k) s = bit_of (is_open s.picture.handlers k)
+value wire.Line s = bit_of s.levels.line
+value wire.Comparator s = bit_of s.levels.comparator

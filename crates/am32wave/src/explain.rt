@@ -50,30 +50,32 @@ impl Explanation {
     }
 
     /// A note's line: its time, and what it says, further in by the handlers that are open round it.
-    pub fn add(&mut self, note: &Note, page: &mut Page)
-        requires in_range { InRange note.now }
-        requires empty { page.old.items ≡ [] }
-        ensures fits { All Fits page.new.items }
-        ensures line { (notes : List ANote) → IsAfter self.old notes → text page.new.items ≡ line notes note.now }
+    pub fn add(&mut self, note: &Note) -> Page
+        requires { InRange note.now }
+        ensures fits { All Fits result.items }
+        ensures line { (notes : List ANote) → IsAfter self.old notes → text result.items ≡ line notes note.now }
         ensures goes_on { (notes : List ANote) → IsAfter self.old notes → IsAfter self.new (notes ++ note.now ∷ []) }
     {
         let after = self.handlers.after(note);
         let depth = self.handlers.count().min(after.count());
+        let mut page = Page::new();
         page.push(Piece::Time(time_of(note)));
         page.push(Piece::Text("  "));
         page.push(Piece::Text(indent(depth)));
-        push_all(&sentence(note), page);
+        push_all(&sentence(note), &mut page);
         page.push(Piece::Text("\n"));
         self.handlers = after;
         self.tally = self.tally.after(note);
+        page
     }
 
     /// The summary.
-    pub fn end(&self, page: &mut Page)
-        requires empty { page.old.items ≡ [] }
-        ensures fits { All Fits page.new.items }
-        ensures summary { (notes : List ANote) → IsAfter self.now notes → text page.new.items ≡ summary (tally notes) }
+    pub fn end(&self) -> Page
+        ensures fits { All Fits result.items }
+        ensures summary { (notes : List ANote) → IsAfter self.now notes → text result.items ≡ summary (tally notes) }
     {
-        self.tally.summary(page);
+        let mut page = Page::new();
+        self.tally.summary(&mut page);
+        page
     }
 }

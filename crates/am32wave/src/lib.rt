@@ -2,7 +2,7 @@
 #![tactic(auto)]
 
 mod ahead;
-mod dump;
+mod drawing;
 mod explain;
 mod journal;
 mod laws;
@@ -10,19 +10,23 @@ mod levels;
 mod merge;
 mod moment;
 mod next;
+mod page;
 mod picture;
 mod pieces;
 mod reader;
 mod run;
+mod scene;
+mod script;
 mod sentence;
 mod status;
 mod tally;
 #[cfg(test)]
 mod tests;
-mod traced;
+mod view;
 mod wire;
 
 pub use journal::Refusal;
 pub use laws::{gates_follow_notes, levels_follow_events};
 pub use run::{Form, traced_main, wave_main};
 pub use status::{Status, status_text};
+pub use view::{Plan, Stretch, View};

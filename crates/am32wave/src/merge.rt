@@ -31,6 +31,7 @@ impl NotesAhead {
         ensures no_fewer { S.faults src.old ≤ S.faults src.new }
         ensures read_fault { IfErr result (λ s. OnReadFault s (Rose (S.faults src.old) (S.faults src.new))) }
         ensures no_other_fault { IfErr result (λ s. (s ≢ Status.TraceFault) × (s ≢ Status.WriteFault)) }
+        ensures not_done { IfErr result (λ s. s ≢ Status.Done) }
     {
         let NextNote::Unread = self.next else {
             return Ok(());
@@ -67,6 +68,7 @@ impl EventsAhead {
         ensures no_fewer { T.faults trace.old ≤ T.faults trace.new }
         ensures trace_fault { IfErr result (λ s. OnTraceFault s (Rose (T.faults trace.old) (T.faults trace.new))) }
         ensures no_other_fault { IfErr result (λ s. (s ≢ Status.ReadFault) × (s ≢ Status.WriteFault)) }
+        ensures not_done { IfErr result (λ s. s ≢ Status.Done) }
     {
         let NextEvent::Unread = self.next else {
             return Ok(());
@@ -152,6 +154,7 @@ impl Merge {
         ensures read_fault { IfErr result (λ s. OnReadFault s (Rose (S.faults src.old) (S.faults src.new))) }
         ensures trace_fault { IfErr result (λ s. OnTraceFault s (Rose (T.faults trace.old) (T.faults trace.new))) }
         ensures no_write_fault { IfErr result (λ s. s ≢ Status.WriteFault) }
+        ensures not_done { IfErr result (λ s. s ≢ Status.Done) }
     {
         if let Err(status) = self.notes.read_on(src) {
             return Err(status);

@@ -10,9 +10,9 @@ ghost use Rattle.am32wave.specs.Pieces.{time_text, stamp, tick_of, stamp_text, d
 
 use crate::wire::Wire;
 use arrayvec::ArrayVec;
-use esc_base::{Failed, Sink, Tick};
+use esc_base::{Failed, Note, Sink, Tick};
 use itoa::Buffer;
-use trace_text::Line;
+use trace_text::{Line, note_text};
 
 /// A piece of text.
 #[derive(Clone, Copy, Drop)]
@@ -32,6 +32,8 @@ pub enum Piece {
     Stamp(Tick),
     /// A wire's new value: `1!`, or for several bits `b101 #`.
     Change { id: u8, width: u32, value: u32 },
+    /// A note's line of a journal: `Q 12043220 1`.
+    Note(Note),
 }
 
 impl Default for Piece {
@@ -178,6 +180,7 @@ fn put_piece<K: Sink>(piece: Piece, out: &mut K) -> Result<(), Failed>
         Piece::Declaration { id, wire } => put_line(&declaration_text(id, wire), out),
         Piece::Stamp(t) => put_line(&stamp_text(t), out),
         Piece::Change { id, width, value } => put_line(&change_text(id, width, value), out),
+        Piece::Note(note) => put_line(&note_text(&note), out),
     }
 }
 

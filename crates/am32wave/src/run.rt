@@ -6,24 +6,25 @@ ghost use Rattle.esc_base.specs.declared.event.Event.{Event as AnEvent};
 ghost use Rattle.trace_text.specs.Read.{Read, Trace};
 ghost use Rattle.am32wave.specs.declared.run.Form.{Form as AForm};
 ghost use Rattle.am32wave.specs.Pieces.{text, Fits};
-ghost use Rattle.am32wave.specs.Merged.{TracedShown, IsTracedDoneOrFault};
+ghost use Rattle.am32wave.specs.Merged.{TracedShown, IsTracedDoneOrFault, traced_plan};
 ghost use Rattle.am32wave.specs.Shown.{form_of, IsAfter, head_text, part_text, end_text, Shown, IsWriteFault, OnReadFault, OnTraceFault, OnWriteFault, IsDoneOrFault, IsJournal};
 
 use crate::ahead::Merge;
-use crate::dump::Dump;
+use crate::drawing::Drawing;
 use crate::explain::Explanation;
 use crate::journal::Item;
+use crate::moment::Moment;
 use crate::pieces::{Page, put_pieces};
 use crate::reader::Journal;
 use crate::status::Status;
-use crate::traced::Traced;
+use crate::view::{Plan, Stretch, View};
 use esc_base::{Failed, Note, Sink, Source};
 
 /// How a journal is shown.
 #[derive(Clone, Copy, Debug, PartialEq, Eq, Drop)]
 pub enum Form {
-    /// As a value change dump.
-    Wave,
+    /// A stretch of it drawn.
+    Drawn(View, Stretch),
     /// In words.
     Words,
 }
@@ -31,7 +32,7 @@ pub enum Form {
 /// What was shown so far.
 #[derive(Clone, Copy, Drop)]
 enum Report {
-    Wave(Dump),
+    Drawn(Drawing),
     Words(Explanation),
 }
 
@@ -41,7 +42,11 @@ impl Report {
         ensures first { IsAfter result [] }
     {
         match form {
-            Form::Wave => Report::Wave(Dump::new()),
+            Form::Drawn(view, stretch) => Report::Drawn(Drawing::new(Plan {
+                view,
+                stretch,
+                is_traced: false,
+            })),
             Form::Words => Report::Words(Explanation::new()),
         }
     }
@@ -52,12 +57,10 @@ impl Report {
         ensures fits { All Fits result.items }
         ensures text { text result.items ≡ head_text (form_of self.now) }
     {
-        let mut page = Page::new();
         match self {
-            Report::Wave(dump) => dump.head(&mut page),
-            Report::Words(_) => {}
+            Report::Drawn(drawing) => drawing.head(),
+            Report::Words(_) => Page::new(),
         }
-        page
     }
 
     /// A note's part.
@@ -68,12 +71,10 @@ impl Report {
         ensures text { (notes : List ANote) → IsAfter self.old notes → text result.items ≡ part_text (form_of self.old) notes note.now }
         ensures goes_on { (notes : List ANote) → IsAfter self.old notes → IsAfter self.new (notes ++ note.now ∷ []) }
     {
-        let mut page = Page::new();
         match self {
-            Report::Wave(dump) => dump.add(note, &mut page),
-            Report::Words(explanation) => explanation.add(note, &mut page),
+            Report::Drawn(drawing) => drawing.add(&Moment::Note(*note)),
+            Report::Words(explanation) => explanation.add(note),
         }
-        page
     }
 
     /// What stands behind the last note's part.
@@ -81,12 +82,10 @@ impl Report {
         ensures fits { All Fits result.items }
         ensures text { (notes : List ANote) → IsAfter self.now notes → text result.items ≡ end_text (form_of self.now) notes }
     {
-        let mut page = Page::new();
         match self {
-            Report::Wave(_) => {}
-            Report::Words(explanation) => explanation.end(&mut page),
+            Report::Drawn(drawing) => drawing.end(),
+            Report::Words(explanation) => explanation.end(),
         }
-        page
     }
 }
 
@@ -142,37 +141,47 @@ pub fn wave_main<S: Source, K: Sink>(asked: Option<Form>, src: &mut S, out: &mut
     }
 }
 
-/// Reads a journal and its trace and writes the wave of both. An `Err` is the sink's.
+/// Reads a journal and its trace and draws both. An `Err` is the sink's.
 fn show_traced<S: Source, T: Source, K: Sink>(
+    plan: Plan,
     src: &mut S,
     trace: &mut T,
     out: &mut K,
 ) -> Result<Status, Failed>
-    ensures ok { IfOk result (λ s. TracedShown s (S.left src.old) (S.left src.new) (T.left trace.old) (T.left trace.new) (K.given out.old) (K.given out.new)) }
+    ensures ok { IfOk result (λ s. TracedShown plan s (S.left src.old) (S.left src.new) (T.left trace.old) (T.left trace.new) (K.given out.old) (K.given out.new)) }
     ensures read_fault { IfOk result (λ s. OnReadFault s (Rose (S.faults src.old) (S.faults src.new))) }
     ensures trace_fault { IfOk result (λ s. OnTraceFault s (Rose (T.faults trace.old) (T.faults trace.new))) }
     ensures no_write_fault { IfOk result (λ s. s ≢ Status.WriteFault) }
-    ensures err { OnErr result (TracedShown Status.WriteFault (S.left src.old) (S.left src.new) (T.left trace.old) (T.left trace.new)
+    ensures err { OnErr result (TracedShown plan Status.WriteFault (S.left src.old) (S.left src.new) (T.left trace.old) (T.left trace.new)
         (K.given out.old) (K.given out.new)) }
     ensures write_fault { OnErr result (Rose (K.faults out.old) (K.faults out.new)) }
 {
     let mut merge = Merge::new();
-    let mut dump = Traced::new();
-    put_pieces(dump.head().as_slice(), out)?;
+    let mut drawing = Drawing::new(plan);
+    put_pieces(drawing.head().as_slice(), out)?;
     loop {
         match merge.next(src, trace) {
-            Ok(Some(moment)) => put_pieces(dump.add(&moment).as_slice(), out)?,
-            Ok(None) => return Ok(Status::Done),
+            Ok(Some(moment)) => put_pieces(drawing.add(&moment).as_slice(), out)?,
+            Ok(None) => {
+                put_pieces(drawing.end().as_slice(), out)?;
+                return Ok(Status::Done);
+            }
             Err(status) => return Ok(status),
         }
     }
 }
 
-/// Reads a journal from `src` and its trace from `trace`, and writes the wave of both to `out`. It is handed no allocator, so it
-/// takes no memory.
-pub fn traced_main<S: Source, T: Source, K: Sink>(src: &mut S, trace: &mut T, out: &mut K) -> Status
+/// Reads a journal from `src` and its trace from `trace`, and draws the stretch of both to `out` in this view. It is handed no
+/// allocator, so it takes no memory.
+pub fn traced_main<S: Source, T: Source, K: Sink>(
+    view: View,
+    stretch: Stretch,
+    src: &mut S,
+    trace: &mut T,
+    out: &mut K,
+) -> Status
     // What was read and written, by the status, where the sources and the sink tell their bytes.
-    ensures shown { TracedShown result (S.left src.old) (S.left src.new) (T.left trace.old) (T.left trace.new) (K.given out.old) (K.given out.new) }
+    ensures shown { TracedShown (traced_plan view stretch) result (S.left src.old) (S.left src.new) (T.left trace.old) (T.left trace.new) (K.given out.old) (K.given out.new) }
 
     // Each fault is the source's or the sink's own, and without one a journal and a trace are shown to their ends.
     ensures read_fault { OnReadFault result (Rose (S.faults src.old) (S.faults src.new)) }
@@ -182,7 +191,12 @@ pub fn traced_main<S: Source, T: Source, K: Sink>(src: &mut S, trace: &mut T, ou
         T.left trace.old ≡ Some text →
         Read text ≡ Trace events end → IsTracedDoneOrFault result }
 {
-    match show_traced(src, trace, out) {
+    let plan = Plan {
+        view,
+        stretch,
+        is_traced: true,
+    };
+    match show_traced(plan, src, trace, out) {
         Ok(status) => status,
         Err(_) => Status::WriteFault,
     }

@@ -1,10 +1,13 @@
 use crate::journal::Refusal;
 use crate::run::{Form, traced_main, wave_main};
 use crate::status::{Status, status_text};
+use crate::view::{Stretch, View};
 use esc_base::{MemSink, MemSource};
 use std::alloc::Global;
 use std::test::Fail;
 use trace_text::Refusal as TraceRefusal;
+
+const WAVE: Form = Form::Drawn(View::Wave, Stretch::WHOLE);
 
 /// How a run on this journal ends, which the source gives in pieces of so many bytes, and what it writes. The takes and puts
 /// with these numbers fail.
@@ -34,7 +37,13 @@ fn ran_traced(
     let mut src = MemSource::new(alloc, journal.as_bytes(), piece.max(1), takes)?;
     let mut trace = MemSource::new(alloc, trace.as_bytes(), piece.max(1), trace_takes)?;
     let mut out = MemSink::new(alloc, 65536, puts)?;
-    let status = traced_main(&mut src, &mut trace, &mut out);
+    let status = traced_main(
+        View::Wave,
+        Stretch::WHOLE,
+        &mut src,
+        &mut trace,
+        &mut out,
+    );
     Ok((status, String::from_utf8_lossy(alloc, out.given())?))
 }
 
@@ -159,7 +168,7 @@ static WIRES: [(&str, &str); 24] = [
 
 #[test]
 fn each_change_stands_at_its_tick(rt: HostRuntime) -> Result<(), Fail> {
-    let (status, dump) = ran(rt.alloc(), Form::Wave, DRIVE, 7, &[], &[])?;
+    let (status, dump) = ran(rt.alloc(), WAVE, DRIVE, 7, &[], &[])?;
     assert_eq!(rt; status, Status::Done);
     for (name, shows) in &WIRES {
         let found = changes(rt.alloc(), dump.as_str(), name)?;
@@ -260,7 +269,7 @@ fn faults_beside_a_trace_are_told(rt: HostRuntime) -> Result<(), Fail> {
 /// The subset of the grammar that is written: one declaration a line, stamps that rise, and changes.
 #[test]
 fn a_dump_is_in_the_plain_subset(rt: HostRuntime) -> Result<(), Fail> {
-    let (_, dump) = ran(rt.alloc(), Form::Wave, DRIVE, 4096, &[], &[])?;
+    let (_, dump) = ran(rt.alloc(), WAVE, DRIVE, 4096, &[], &[])?;
     let mut declared: u32 = 0;
     let mut stamps: u32 = 0;
     let mut last = 0;
@@ -394,7 +403,7 @@ static REFUSED: [(&str, u64, Refusal); 14] = [
 fn a_faulty_line_is_named_and_what_was_written_stands(rt: HostRuntime) -> Result<(), Fail> {
     for (journal, line, kind) in &REFUSED {
         for piece in [1, 4096] {
-            for form in [Form::Wave, Form::Words] {
+            for form in [WAVE, Form::Words] {
                 let (status, text) = ran(rt.alloc(), form, journal, piece, &[], &[])?;
                 let refused = Status::Refused {
                     line: *line,
@@ -407,7 +416,7 @@ fn a_faulty_line_is_named_and_what_was_written_stands(rt: HostRuntime) -> Result
         }
     }
     let longest = "R 4294967295 4294967295 000000000000000000101\n";
-    let (status, _) = ran(rt.alloc(), Form::Wave, longest, 1, &[], &[])?;
+    let (status, _) = ran(rt.alloc(), WAVE, longest, 1, &[], &[])?;
     assert_eq!(rt; status, Status::Done);
     Ok(())
 }
@@ -416,12 +425,12 @@ fn a_faulty_line_is_named_and_what_was_written_stands(rt: HostRuntime) -> Result
 fn faults_are_told(rt: HostRuntime) -> Result<(), Fail> {
     let alloc = rt.alloc();
     for take in [1, 2, 3] {
-        let (status, _) = ran(alloc, Form::Wave, "U 0 1\n", 5, &[take], &[])?;
+        let (status, _) = ran(alloc, WAVE, "U 0 1\n", 5, &[take], &[])?;
         assert_eq!(rt; status, Status::ReadFault, "take {take}");
     }
     // The head takes 75 calls, and the second note's two changes the next two.
     for put in [1, 2, 75, 76, 77] {
-        let (status, _) = ran(alloc, Form::Wave, "U 0 1\nW 0 2\n", 5, &[], &[put])?;
+        let (status, _) = ran(alloc, WAVE, "U 0 1\nW 0 2\n", 5, &[], &[put])?;
         assert_eq!(rt; status, Status::WriteFault, "put {put}");
     }
     let mut src = MemSource::new(alloc, b"U 0 1\n", 1, &[])?;

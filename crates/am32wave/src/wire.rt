@@ -1,9 +1,10 @@
 //! The wires of a wave: their names, widths and values.
 ghost use Rattle.std.specs.Prelude.{◌≡◌, ◌≤◌, length};
 ghost use Rattle.esc_base.specs.Legs.{is_on};
-ghost use Rattle.am32wave.specs.Wires.{handler_name, name, width, reason, value};
+ghost use Rattle.am32wave.specs.Wires.{handler_name, name, width, reason, value, wires_of};
 
-use crate::picture::{Heard, Picture, bit};
+use crate::picture::{Heard, bit};
+use crate::scene::Scene;
 use esc_base::{Kind, Leg};
 
 /// A wire of the wave, of one bit or more.
@@ -39,10 +40,14 @@ pub enum Wire {
     Replies,
     /// The handler of a kind is open.
     Open(Kind),
+    /// The signal line is high. The trace gives it.
+    Line,
+    /// The comparator is high. The trace gives it.
+    Comparator,
 }
 
-/// All wires, in the order in which they are declared and in which their changes stand.
-pub const WIRES: [Wire; 36] = [
+/// All wires, in the order in which they are declared and in which their changes stand. The trace gives the last two.
+const WIRES: [Wire; 38] = [
     Wire::High(Leg::A),
     Wire::High(Leg::B),
     Wire::High(Leg::C),
@@ -79,7 +84,17 @@ pub const WIRES: [Wire; 36] = [
     Wire::Open(Kind::Cmp),
     Wire::Open(Kind::Pwm),
     Wire::Open(Kind::Comm),
+    Wire::Line,
+    Wire::Comparator,
 ];
+
+/// The wires of a journal, with the two that a trace gives or without them.
+pub fn wires_of(is_traced: bool) -> &'static [Wire]
+    ensures wires { result.now ≡ wires_of is_traced }
+    ensures few { length result.now ≤ 38 }
+{
+    if is_traced { &WIRES } else { &WIRES[..36] }
+}
 
 /// Whether a leg's switch is on in a word of switches.
 fn is_on(word: u8, leg: Leg) -> bool
@@ -130,6 +145,8 @@ impl Wire {
             Wire::Reply => "reply",
             Wire::Replies => "replies",
             Wire::Open(kind) => handler_name(kind),
+            Wire::Line => "signal_line",
+            Wire::Comparator => "comparator",
         }
     }
 
@@ -154,37 +171,39 @@ impl Wire {
         }
     }
 
-    /// What it shows in a picture.
-    pub fn value(self, picture: &Picture) -> u32
-        ensures { result ≡ value self picture.now }
+    /// What it shows.
+    pub fn value(self, scene: &Scene) -> u32
+        ensures { result ≡ value self scene.now }
     {
         match self {
-            Wire::High(leg) => bit(is_on(picture.drive.high, leg)),
-            Wire::Low(leg) => bit(is_on(picture.drive.low, leg)),
-            Wire::Sector => u32::from(picture.drive.sector),
-            Wire::Crossings => picture.drive.crossings,
-            Wire::Period => picture.drive.period,
-            Wire::Armed => bit(picture.control.armed),
-            Wire::Demand => u32::from(picture.control.demand),
-            Wire::Stuck => u32::from(picture.control.marks % 2),
-            Wire::Fuse => u32::from(picture.control.marks / 2 % 2),
-            Wire::Session => u32::from(picture.control.marks / 4 % 2),
-            Wire::Cause => u32::from(picture.control.cause),
-            Wire::Losses => picture.control.losses,
-            Wire::Window => bit(picture.signal.heard == Heard::Open),
-            Wire::Mode => u32::from(picture.signal.mode),
-            Wire::Good => bit(picture.signal.heard == Heard::Good),
-            Wire::Detected => bit(picture.signal.heard == Heard::Detected),
-            Wire::Nothing => bit(picture.signal.heard == Heard::Nothing),
-            Wire::Bad => reason(picture.signal.heard),
-            Wire::Value => u32::from(picture.signal.value),
-            Wire::Telemetry => u32::from(picture.signal.telemetry),
-            Wire::Command => u32::from(picture.control.command),
-            Wire::Commands => picture.control.commands,
-            Wire::Saves => picture.control.saves,
-            Wire::Reply => picture.signal.reply,
-            Wire::Replies => picture.signal.replies,
-            Wire::Open(kind) => bit(picture.handlers.is_open(kind)),
+            Wire::High(leg) => bit(is_on(scene.picture.drive.high, leg)),
+            Wire::Low(leg) => bit(is_on(scene.picture.drive.low, leg)),
+            Wire::Sector => u32::from(scene.picture.drive.sector),
+            Wire::Crossings => scene.picture.drive.crossings,
+            Wire::Period => scene.picture.drive.period,
+            Wire::Armed => bit(scene.picture.control.armed),
+            Wire::Demand => u32::from(scene.picture.control.demand),
+            Wire::Stuck => u32::from(scene.picture.control.marks % 2),
+            Wire::Fuse => u32::from(scene.picture.control.marks / 2 % 2),
+            Wire::Session => u32::from(scene.picture.control.marks / 4 % 2),
+            Wire::Cause => u32::from(scene.picture.control.cause),
+            Wire::Losses => scene.picture.control.losses,
+            Wire::Window => bit(scene.picture.signal.heard == Heard::Open),
+            Wire::Mode => u32::from(scene.picture.signal.mode),
+            Wire::Good => bit(scene.picture.signal.heard == Heard::Good),
+            Wire::Detected => bit(scene.picture.signal.heard == Heard::Detected),
+            Wire::Nothing => bit(scene.picture.signal.heard == Heard::Nothing),
+            Wire::Bad => reason(scene.picture.signal.heard),
+            Wire::Value => u32::from(scene.picture.signal.value),
+            Wire::Telemetry => u32::from(scene.picture.signal.telemetry),
+            Wire::Command => u32::from(scene.picture.control.command),
+            Wire::Commands => scene.picture.control.commands,
+            Wire::Saves => scene.picture.control.saves,
+            Wire::Reply => scene.picture.signal.reply,
+            Wire::Replies => scene.picture.signal.replies,
+            Wire::Open(kind) => bit(scene.picture.handlers.is_open(kind)),
+            Wire::Line => bit(scene.levels.line),
+            Wire::Comparator => bit(scene.levels.comparator),
         }
     }
 }

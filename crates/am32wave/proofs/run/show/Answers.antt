@@ -1,7 +1,7 @@
 use Rattle.std.proofs.Common.{◌∙◌, ap, arith}
 use Rattle.am32wave.specs.Pieces.{text}
 use Rattle.am32wave.proofs.Parts.{on_err}
-use Rattle.am32wave.proofs.Shows.{more, done, broken_head, broken_part, broken_end}
+use Rattle.am32wave.proofs.Shows.{started, more, done, broken_head, broken_part, broken_end}
 use Rattle.am32wave.proofs.run.show.Goals as goal
 
 pub returns-in_err-put_pieces-clause-err : goal.returns-in_err-put_pieces-clause-err
@@ -9,6 +9,16 @@ returns-in_err-put_pieces-clause-err g c =
     on_err c.from_residual.result (broken_head c.args.form c.new-report.result (g.S.Source.left c.args.src.now) (g.K.Sink.given c.args.out.now)
     (g.K.Sink.given c.put_pieces.new.out) (text c.as_slice.result.now) c.new-report.ensures.form (ap text c.as_slice.ensures.value ∙ c.head.ensures.text)
     c.in_err-put_pieces.ensures.front)
+
+pub loop-note-init : goal.loop-note-init
+loop-note-init g c = record {
+  so_far = started c.args.form c.new-journal.result c.new-report.result (g.S.Source.left c.args.src.now) (g.K.Sink.given c.args.out.now)
+      (g.K.Sink.given c.put_pieces.new.out) (text c.as_slice.result.now) c.new-journal.ensures.unread c.new-journal.ensures.line
+      c.new-journal.ensures.time c.new-report.ensures.form c.new-report.ensures.first (ap text c.as_slice.ensures.value ∙ c.head.ensures.text)
+      c.in_ok-put_pieces.ensures.ok;
+  src_faults = omega arith;
+  out_faults = let e = c.put_pieces.ensures.no_fewer in omega arith;
+}
 
 pub loop-note-preserved : goal.loop-note-preserved
 loop-note-preserved g c =

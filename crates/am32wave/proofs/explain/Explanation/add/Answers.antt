@@ -9,8 +9,8 @@ use Rattle.am32wave.proofs.explain.Explanation.add.Goals as goal
 
 pub returns-clause-line : goal.returns-clause-line
 returns-clause-line c notes is =
-    let whole = line_of c.args.page.now.items c.push.new.self.items c.push-2.new.self.items c.push-3.new.self.items c.sentence.result c.push_all.new.page.items
-    c.push-4.new.self.items _ _ _ _ c.requires.empty c.push.ensures.items c.push-2.ensures.items c.push-3.ensures.items c.push_all.ensures
+    let whole = line_of c.new-page.result.items c.push.new.self.items c.push-2.new.self.items c.push-3.new.self.items c.sentence.result c.push_all.new.page.items
+    c.push-4.new.self.items _ _ _ _ c.new-page.ensures c.push.ensures.items c.push-2.ensures.items c.push-3.ensures.items c.push_all.ensures
     c.push-4.ensures.items in
     let depths = c.min-depth.ensures ∙ rw (c.count.ensures, c.count-2.ensures) refl in
     line_is notes c.args.note.now _ c.indent.result.now _ c.time_of.result.0 c.min-depth.result c.args.self.now.handlers c.after-after.result is.handlers

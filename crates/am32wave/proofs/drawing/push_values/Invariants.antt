@@ -1,13 +1,13 @@
 use Rattle.std.proofs.Common.{◌≡◌, ◌+◌, ◌++◌, drop, All}
 use Rattle.arrayvec.specs.ArrayVec.{array_vec_len}
 use Rattle.am32wave.specs.Pieces.{text, Fits}
-use Rattle.am32wave.specs.Wave.{declarations}
-use Rattle.am32wave.proofs.dump.push_declarations.Given as goal
+use Rattle.am32wave.specs.Wave.{values}
+use Rattle.am32wave.proofs.drawing.push_values.Given as goal
 
 -- what was pushed, and what the wires that are left owe
 abbrev pub invariant-loop-i : goal.invariant-loop-i
 invariant-loop-i l = record {
-  text : text l.page.items ++ declarations (33 + l.i) (drop l.i l.wires) ≡ text l.initial.page.items ++ declarations 33 l.wires;
+  text : text l.page.items ++ values (33 + l.i) l.scene (drop l.i l.wires) ≡ text l.initial.page.items ++ values 33 l.scene l.wires;
   fits : All Fits l.page.items;
   len : array_vec_len l.page ≡ array_vec_len l.initial.page + l.i;
 }

@@ -2,7 +2,7 @@ use Rattle.std.proofs.Common.{arith}
 use Rattle.std.proofs.lemmas.List.Elements.{All-push}
 use Rattle.am32wave.specs.Pieces.{Fits}
 use Rattle.am32wave.proofs.Parts.{declared, none_left, no_declarations}
-use Rattle.am32wave.proofs.dump.push_declarations.Goals as goal
+use Rattle.am32wave.proofs.drawing.push_declarations.Goals as goal
 
 pub loop-i-preserved : goal.loop-i-preserved
 loop-i-preserved c =
