@@ -70,8 +70,11 @@ tail view.Wave = []
 tail view.Page = page_end
 
 -- a stretch behind the last moment is opened at the end
+abbrev pub late_opening : Plan → List Moment → List ℕ
+late_opening p moments = if ltb (newest_time 0 moments) p.stretch.from then opening p moments else []
+
 abbrev pub end : Plan → List Moment → List ℕ
-end p moments = (if ltb (newest_time 0 moments) p.stretch.from then opening p moments else []) ++ tail p.view
+end p moments = late_opening p moments ++ tail p.view
 
 -- without the end
 abbrev pub begun : Plan → List Moment → List ℕ

@@ -14,6 +14,7 @@ pub mod After
 pub mod Status
 pub mod Shown
 pub mod Laws
+pub mod PageShown
 pub mod Moments
 pub mod Levels
 pub mod Next

@@ -4,7 +4,7 @@ use Rattle.std.specs.Io.KnownBytes.{append_known, IsAtEnd}
 use Rattle.esc_base.specs.declared.note.Note.{Note}
 use Rattle.esc_base.specs.Journal.{Journal}
 use Rattle.esc_base.specs.Outside.{AppendsFront}
-use Rattle.esc_base.specs.Range.{InRange}
+use Rattle.esc_base.specs.Range.{InRange, IsWord}
 use Rattle.trace_text.specs.Text.{Text}
 use Rattle.am32wave.specs.declared.journal.Refusal.{Refusal}
 use Rattle.am32wave.specs.declared.run.Form.{Form}
@@ -59,6 +59,11 @@ begun form.Words notes = lines [] notes
 abbrev pub shown : Form → List Note → List ℕ
 shown (form.Drawn v s) notes = drawn (journal_plan v s) (moments_of notes)
 shown form.Words notes = explained notes
+
+-- the ticks of its stretch are numbers of 32 bits
+abbrev pub FormFits : Form → Type 0
+FormFits (form.Drawn v s) = IsWord s.from × IsWord s.to
+FormFits form.Words = Unit {0}
 
 -- ---- what is kept of the notes so far
 

@@ -26,7 +26,7 @@ mod view;
 mod wire;
 
 pub use journal::Refusal;
-pub use laws::{gates_follow_notes, levels_follow_events};
+pub use laws::{gates_follow_notes, levels_follow_events, page_has_no_markup, page_tells_journal};
 pub use run::{Form, traced_main, wave_main};
 pub use status::{Status, status_text};
 pub use view::{Plan, Stretch, View};

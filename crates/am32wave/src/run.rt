@@ -5,9 +5,12 @@ ghost use Rattle.esc_base.specs.Range.{InRange};
 ghost use Rattle.esc_base.specs.declared.event.Event.{Event as AnEvent};
 ghost use Rattle.trace_text.specs.Read.{Read, Trace};
 ghost use Rattle.am32wave.specs.declared.run.Form.{Form as AForm};
+ghost use Rattle.am32wave.specs.declared.view.Stretch.{Stretch as AStretch};
+ghost use Rattle.am32wave.specs.declared.view.View.{View as AView};
+ghost use Rattle.am32wave.specs.PageShown.{WrotePage};
 ghost use Rattle.am32wave.specs.Pieces.{text, Fits};
 ghost use Rattle.am32wave.specs.Merged.{TracedShown, IsTracedDoneOrFault, traced_plan};
-ghost use Rattle.am32wave.specs.Shown.{form_of, IsAfter, head_text, part_text, end_text, Shown, IsWriteFault, OnReadFault, OnTraceFault, OnWriteFault, IsDoneOrFault, IsJournal};
+ghost use Rattle.am32wave.specs.Shown.{form_of, FormFits, IsAfter, head_text, part_text, end_text, Shown, IsWriteFault, OnReadFault, OnTraceFault, OnWriteFault, IsDoneOrFault, IsJournal};
 
 use crate::ahead::Merge;
 use crate::drawing::Drawing;
@@ -39,6 +42,7 @@ enum Report {
 impl Report {
     fn new(form: Form) -> Report
         ensures form { form_of result ≡ form }
+        ensures fits { FormFits form }
         ensures first { IsAfter result [] }
     {
         match form {
@@ -92,6 +96,7 @@ impl Report {
 /// Reads a journal and writes it in this form. An `Err` is the sink's.
 fn show<S: Source, K: Sink>(form: Form, src: &mut S, out: &mut K) -> Result<Status, Failed>
     ensures ok { IfOk result (λ s. Shown form s (S.left src.old) (S.left src.new) (K.given out.old) (K.given out.new)) }
+    ensures fits { FormFits form }
     ensures read_fault { IfOk result (λ s. OnReadFault s (Rose (S.faults src.old) (S.faults src.new))) }
     ensures no_write_fault { IfOk result (λ s. OnWriteFault s ⊥) }
     ensures usage { IfOk result (λ s. s ≢ Status.Usage) }
@@ -126,6 +131,10 @@ pub fn wave_main<S: Source, K: Sink>(asked: Option<Form>, src: &mut S, out: &mut
 
     // What was read and written, by the status, where source and sink tell their bytes.
     ensures shown { (form : AForm) → asked ≡ Some form → Shown form result (S.left src.old) (S.left src.new) (K.given out.old) (K.given out.new) }
+
+    // A whole page has no markup in its data, and that of a whole run tells its notes.
+    ensures page { (stretch : AStretch) → asked ≡ Some (AForm.Drawn AView.Page stretch) → result ≡ Status.Done →
+        WrotePage stretch (S.left src.old) (K.given out.old) (K.given out.new) }
 
     // Each fault is the source's or the sink's own, and without one a journal is shown to its end.
     ensures read_fault { OnReadFault result (Rose (S.faults src.old) (S.faults src.new)) }

@@ -4,7 +4,7 @@
 mod file_source;
 mod usage;
 
-use am32wave::{Status, status_text, traced_main, wave_main};
+use am32wave::{Status, Stretch, View, status_text, traced_main, wave_main};
 use esc_base::{InSource, OutSink, Sink, Source};
 use file_source::FileSource;
 use std::cell::Cell;
@@ -26,15 +26,17 @@ fn asked(rt: &HostRuntime) -> Result<Wish, Status> {
     }
 }
 
-/// The wave of a journal and of the trace in a file. A file that can't be opened is a fault of the trace.
+/// Draws a stretch of a journal and of the trace in a file. A file that can't be opened is a fault of the trace.
 fn show_traced<S: Source, K: Sink>(
     rt: &HostRuntime,
     path: &str,
+    view: View,
+    stretch: Stretch,
     src: &mut S,
     out: &mut K,
 ) -> Status {
     match fs::open(rt, path) {
-        Ok(file) => traced_main(src, &mut FileSource::new(file), out),
+        Ok(file) => traced_main(view, stretch, src, &mut FileSource::new(file), out),
         Err(_) => Status::TraceFault,
     }
 }
@@ -42,7 +44,13 @@ fn show_traced<S: Source, K: Sink>(
 fn command<S: Source, K: Sink>(rt: &HostRuntime, src: &mut S, out: &mut K) -> Status {
     match asked(rt) {
         Ok(Wish::Show(form)) => wave_main(Some(form), src, out),
-        Ok(Wish::Traced(path)) => show_traced(rt, path.as_str(), src, out),
+        Ok(
+            Wish::Traced {
+                path,
+                view,
+                stretch,
+            },
+        ) => show_traced(rt, path.as_str(), view, stretch, src, out),
         Ok(Wish::Help) => write_help(rt),
         Err(Status::Usage) => wave_main(None, src, out),
         Err(status) => status,
