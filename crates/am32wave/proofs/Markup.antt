@@ -167,25 +167,25 @@ plain_unless : (b : Bool) (bytes : List ℕ) → NoMarkup bytes → NoMarkup (if
 plain_unless true bytes h = none
 plain_unless false bytes h = h
 
-plain_changes : (i : ℕ) (p q : Scene) (ws : List Wire) → NoMarkup (changes view.Page i p q ws)
+plain_changes : (s : Stretch) (t i : ℕ) (p q : Scene) (ws : List Wire) → NoMarkup (changes view.Page s t i p q ws)
 unfolding changes
-plain_changes i p q [] = none
-plain_changes i p q (w ∷ ws) =
-    both (if value w q == value w p then [] else change (page_id + i) (width w) (value w q)) (changes view.Page (i + 1) p q ws)
+plain_changes s t i p q [] = none
+plain_changes s t i p q (w ∷ ws) =
+    both (if value w q == value w p then [] else change (page_id + i) (width w) (value w q)) (changes view.Page s t (i + 1) p q ws)
     (plain_unless (value w q == value w p) (change (page_id + i) (width w) (value w q)) (plain_change i (width w) (value w q)))
-    (plain_changes (i + 1) p q ws)
+    (plain_changes s t (i + 1) p q ws)
 
 -- ---- the data
 
 plain_part : (s : Stretch) (traced : Bool) (before : List Moment) (m : Moment) → MayStand m → NoMarkup (part (page_plan s traced) before m)
 plain_part s traced before m h =
-    both (if enters s (newest_time 0 before) (time m) then all_changes (page_plan s traced) (scene []) (scene before) else [])
-    (if is_within s (time m) then moment_line m ++ all_changes (page_plan s traced) (scene before) (scene (before ++ m ∷ [])) else [])
-    (plain_if (enters s (newest_time 0 before) (time m)) (all_changes (page_plan s traced) (scene []) (scene before))
-    (plain_changes 0 (scene []) (scene before) (wires_of traced)))
-    (plain_if (is_within s (time m)) (moment_line m ++ all_changes (page_plan s traced) (scene before) (scene (before ++ m ∷ [])))
-    (both (moment_line m) (all_changes (page_plan s traced) (scene before) (scene (before ++ m ∷ []))) (plain_moment m h)
-    (plain_changes 0 (scene before) (scene (before ++ m ∷ [])) (wires_of traced))))
+    both (if enters s (newest_time 0 before) (time m) then all_changes (page_plan s traced) s.from (scene []) (scene before) else [])
+    (if is_within s (time m) then moment_line m ++ all_changes (page_plan s traced) (time m) (scene before) (scene (before ++ m ∷ [])) else [])
+    (plain_if (enters s (newest_time 0 before) (time m)) (all_changes (page_plan s traced) s.from (scene []) (scene before))
+    (plain_changes s s.from 0 (scene []) (scene before) (wires_of traced)))
+    (plain_if (is_within s (time m)) (moment_line m ++ all_changes (page_plan s traced) (time m) (scene before) (scene (before ++ m ∷ [])))
+    (both (moment_line m) (all_changes (page_plan s traced) (time m) (scene before) (scene (before ++ m ∷ []))) (plain_moment m h)
+    (plain_changes s (time m) 0 (scene before) (scene (before ++ m ∷ [])) (wires_of traced))))
 
 plain_parts : (s : Stretch) (traced : Bool) (before moments : List Moment) → All MayStand moments → NoMarkup (parts (page_plan s traced) before moments)
 plain_parts s traced before [] h = none
@@ -207,8 +207,8 @@ plain_stretch s h k =
 
 plain_late : (s : Stretch) (traced : Bool) (moments : List Moment) → NoMarkup (late_opening (page_plan s traced) moments)
 plain_late s traced moments =
-    plain_if (ltb (newest_time 0 moments) s.from) (all_changes (page_plan s traced) (scene []) (scene moments))
-    (plain_changes 0 (scene []) (scene moments) (wires_of traced))
+    plain_if (ltb (newest_time 0 moments) s.from) (all_changes (page_plan s traced) s.from (scene []) (scene moments))
+    (plain_changes s s.from 0 (scene []) (scene moments) (wires_of traced))
 
 pub no_markup : (s : Stretch) (traced : Bool) (moments : List Moment) → s.from < 4294967296 → s.to < 4294967296 → All MayStand moments
     → NoMarkup (page_data s traced moments)

@@ -50,17 +50,17 @@ in_time (note.Watched t i n s) h = h.0
 
 -- in the whole run a note's part is its line and what it changes
 whole_part : (before : List Moment) (n : Note) → InRange n → part (page_plan whole false) before (moment.Note n)
-    ≡ note_bytes n ++ all_changes (page_plan whole false) (scene before) (scene (before ++ moment.Note n ∷ []))
+    ≡ note_bytes n ++ all_changes (page_plan whole false) (time_of n) (scene before) (scene (before ++ moment.Note n ∷ []))
 whole_part before n h =
     rw (le-ltb (newest_time 0 before) 0 (omega arith), le-leb 0 (time_of n) (omega arith), le-leb (time_of n) 4294967295 (let w = in_time n h in omega arith)) refl
 
 -- a note's line stands first in the parts from it on
 begins : (before : List Moment) (n : Note) (moments : List Moment) → InRange n → parts (page_plan whole false) before (moment.Note n ∷ moments)
-    ≡ note_bytes n ++ (all_changes (page_plan whole false) (scene before) (scene (before ++ moment.Note n ∷ []))
+    ≡ note_bytes n ++ (all_changes (page_plan whole false) (time_of n) (scene before) (scene (before ++ moment.Note n ∷ []))
     ++ parts (page_plan whole false) (before ++ moment.Note n ∷ []) moments)
 begins before n moments h =
     ap (λ (x : List ℕ). x ++ parts (page_plan whole false) (before ++ moment.Note n ∷ []) moments) (whole_part before n h)
-    ∙ append_assoc (note_bytes n) (all_changes (page_plan whole false) (scene before) (scene (before ++ moment.Note n ∷ [])))
+    ∙ append_assoc (note_bytes n) (all_changes (page_plan whole false) (time_of n) (scene before) (scene (before ++ moment.Note n ∷ [])))
     (parts (page_plan whole false) (before ++ moment.Note n ∷ []) moments)
 
 nonempty : (n : Note) (rest : List ℕ) → note_bytes n ++ rest ≡ [] → ⊥
@@ -78,9 +78,9 @@ told before (m ∷ a) [] h k e = absurd (nonempty m _ (sym (begins before m (mom
 told before (m ∷ a) (n ∷ b) h k e =
     let s = same_line m n _ _ (All-head InRange m a h) (All-head InRange n b k)
     (sym (begins before m (moments_of a) (All-head InRange m a h)) ∙ e ∙ begins before n (moments_of b) (All-head InRange n b k)) in
-    let rest = cancel (all_changes (page_plan whole false) (scene before) (scene (before ++ moment.Note m ∷ [])))
+    let rest = cancel (all_changes (page_plan whole false) (time_of m) (scene before) (scene (before ++ moment.Note m ∷ [])))
     (parts (page_plan whole false) (before ++ moment.Note m ∷ []) (moments_of a)) (parts (page_plan whole false) (before ++ moment.Note m ∷ []) (moments_of b))
-    (s.1 ∙ ap (λ (x : Note). all_changes (page_plan whole false) (scene before) (scene (before ++ moment.Note x ∷ []))
+    (s.1 ∙ ap (λ (x : Note). all_changes (page_plan whole false) (time_of x) (scene before) (scene (before ++ moment.Note x ∷ []))
     ++ parts (page_plan whole false) (before ++ moment.Note x ∷ []) (moments_of b)) (sym s.0)) in
     let tails = told (before ++ moment.Note m ∷ []) a b (All-tail InRange m a h) (All-tail InRange n b k) rest in
     ap (λ (x : Note). x ∷ a) s.0 ∙ ap (λ (xs : List Note). n ∷ xs) tails
@@ -97,7 +97,7 @@ page_is s notes =
     let late : List ℕ = late_opening (page_plan s false) (moments_of notes) in
     sym (append_assoc ((page_head ++ line) ++ told) late page_end)
     ∙ ap (λ (b : List ℕ). b ++ page_end)
-      (ap (λ (b : List ℕ). b ++ late) (append_assoc page_head line told) ∙ append_assoc page_head (line ++ told) late)
+    (ap (λ (b : List ℕ). b ++ late) (append_assoc page_head line told) ∙ append_assoc page_head (line ++ told) late)
 
 pub page_told : (a b : List Note) → All InRange a → All InRange b → page_data whole false (moments_of a) ≡ page_data whole false (moments_of b) → a ≡ b
 page_told a b h k e = told [] a b h k (cancel (stretch_line whole) _ _ (sym (not_late (moments_of a)) ∙ e ∙ not_late (moments_of b)))

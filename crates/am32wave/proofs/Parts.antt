@@ -1,5 +1,5 @@
 -- One piece more, and one wire more.
-use Rattle.std.proofs.Common.{◌≡◌, ◌≢◌, ◌≤◌, ◌<◌, ℕ, ◌+◌, Bool, true, false, ◌==◌, if◌then◌else◌, List, [], ◌∷◌, ◌++◌, Option, Some, None, Result, Ok, Err, OnErr, length, take, drop, get_or, add-one, drop-cons, refl, sym, ◌∙◌, ap, append_assoc, append-nil, arith}
+use Rattle.std.proofs.Common.{◌≡◌, ◌≢◌, ◌≤◌, ◌<◌, ℕ, ◌+◌, Bool, true, false, ◌==◌, if◌then◌else◌, List, [], ◌∷◌, ◌++◌, Option, Some, None, Result, Ok, Err, OnOk, OnErr, length, take, drop, get_or, add-one, drop-cons, refl, sym, ◌∙◌, ap, append_assoc, append-nil, arith}
 use Rattle.std.proofs.lemmas.List.Concat.{flat_map-append}
 use Rattle.std.proofs.lemmas.List.{take-append-drop}
 use Rattle.std.proofs.Math.ListN.{drop_of_length-le}
@@ -9,6 +9,7 @@ use Rattle.esc_base.specs.Outside.{AppendsFront}
 use Rattle.am32wave.specs.declared.pieces.Piece.{Piece}
 use Rattle.am32wave.specs.declared.pieces.Piece.TheVariants as piece
 use Rattle.am32wave.specs.declared.scene.Scene.{Scene}
+use Rattle.am32wave.specs.declared.view.Stretch.{Stretch}
 use Rattle.am32wave.specs.declared.view.View.{View}
 use Rattle.am32wave.specs.declared.wire.Wire.{Wire}
 use Rattle.am32wave.specs.Wires.{width, value}
@@ -66,32 +67,32 @@ valued items new id p ws i d w v whole lt is_width is_value e g =
     moved items new (piece.Change (id + i) w v) (change (id + i) w v) (values (id + (i + 1)) p (drop (i + 1) ws)) whole e refl
     (rw (is_width, is_value, ← values_at id p ws i d lt) g)
 
-changes_cons : (v : View) (i : ℕ) (p q : Scene) (w : Wire) (ws : List Wire) → changes v i p q (w ∷ ws)
-    ≡ (if value w q == value w p then [] else told v i w (value w q)) ++ changes v (i + 1) p q ws
+changes_cons : (v : View) (s : Stretch) (t : ℕ) (i : ℕ) (p q : Scene) (w : Wire) (ws : List Wire) → changes v s t i p q (w ∷ ws)
+    ≡ (if value w q == value w p then [] else told v s t i w (value w q)) ++ changes v s t (i + 1) p q ws
 unfolding changes
-changes_cons v i p q w ws = refl
+changes_cons v s t i p q w ws = refl
 
-changes_at : (v : View) (p q : Scene) (ws : List Wire) (i : ℕ) (d : Wire) (is_same : Bool) → i < length ws
+changes_at : (v : View) (s : Stretch) (t : ℕ) (p q : Scene) (ws : List Wire) (i : ℕ) (d : Wire) (is_same : Bool) → i < length ws
     → (value (get_or ws i d) q == value (get_or ws i d) p) ≡ is_same
-    → changes v i p q (drop i ws)
-    ≡ (if is_same then [] else told v i (get_or ws i d) (value (get_or ws i d) q)) ++ changes v (i + 1) p q (drop (i + 1) ws)
-changes_at v p q ws i d is_same lt e =
-    ap (changes v i p q) (drop_at ws i d lt) ∙ changes_cons v i p q (get_or ws i d) (drop (i + 1) ws)
-    ∙ ap (λ (b : Bool). (if b then [] else told v i (get_or ws i d) (value (get_or ws i d) q)) ++ changes v (i + 1) p q (drop (i + 1) ws)) e
+    → changes v s t i p q (drop i ws)
+    ≡ (if is_same then [] else told v s t i (get_or ws i d) (value (get_or ws i d) q)) ++ changes v s t (i + 1) p q (drop (i + 1) ws)
+changes_at v s t p q ws i d is_same lt e =
+    ap (changes v s t i p q) (drop_at ws i d lt) ∙ changes_cons v s t i p q (get_or ws i d) (drop (i + 1) ws)
+    ∙ ap (λ (b : Bool). (if b then [] else told v s t i (get_or ws i d) (value (get_or ws i d) q)) ++ changes v s t (i + 1) p q (drop (i + 1) ws)) e
 
-pub changed : (items new : List Piece) (v : View) (p q : Scene) (ws : List Wire) (i : ℕ) (d : Wire) (piece : Piece) (x u : ℕ) (whole : List ℕ)
-    → i < length ws → piece_text piece ≡ told v i (get_or ws i d) x → x ≡ value (get_or ws i d) q → u ≡ value (get_or ws i d) p → (x == u) ≡ false
+pub changed : (items new : List Piece) (v : View) (s : Stretch) (t : ℕ) (p q : Scene) (ws : List Wire) (i : ℕ) (d : Wire) (piece : Piece) (x u : ℕ) (whole : List ℕ)
+    → i < length ws → piece_text piece ≡ told v s t i (get_or ws i d) x → x ≡ value (get_or ws i d) q → u ≡ value (get_or ws i d) p → (x == u) ≡ false
     → new ≡ items ++ piece ∷ []
-    → text items ++ changes v i p q (drop i ws) ≡ whole → text new ++ changes v (i + 1) p q (drop (i + 1) ws) ≡ whole
-changed items new v p q ws i d piece x u whole lt is_piece is_value was is e g =
-    moved items new piece (told v i (get_or ws i d) (value (get_or ws i d) q)) (changes v (i + 1) p q (drop (i + 1) ws)) whole e
-    (is_piece ∙ ap (told v i (get_or ws i d)) is_value)
-    (rw (← changes_at v p q ws i d false lt (rw (← is_value, ← was) is)) g)
+    → text items ++ changes v s t i p q (drop i ws) ≡ whole → text new ++ changes v s t (i + 1) p q (drop (i + 1) ws) ≡ whole
+changed items new v s t p q ws i d piece x u whole lt is_piece is_value was is e g =
+    moved items new piece (told v s t i (get_or ws i d) (value (get_or ws i d) q)) (changes v s t (i + 1) p q (drop (i + 1) ws)) whole e
+    (is_piece ∙ ap (told v s t i (get_or ws i d)) is_value)
+    (rw (← changes_at v s t p q ws i d false lt (rw (← is_value, ← was) is)) g)
 
-pub unchanged : (items new : List Piece) (v : View) (p q : Scene) (ws : List Wire) (i : ℕ) (d : Wire) (x u : ℕ) (whole : List ℕ) → i < length ws
+pub unchanged : (items new : List Piece) (v : View) (s : Stretch) (t : ℕ) (p q : Scene) (ws : List Wire) (i : ℕ) (d : Wire) (x u : ℕ) (whole : List ℕ) → i < length ws
     → x ≡ value (get_or ws i d) q → u ≡ value (get_or ws i d) p → (x == u) ≡ true → new ≡ items
-    → text items ++ changes v i p q (drop i ws) ≡ whole → text new ++ changes v (i + 1) p q (drop (i + 1) ws) ≡ whole
-unchanged items new v p q ws i d x u whole lt is_value was is e g = rw (e, ← changes_at v p q ws i d true lt (rw (← is_value, ← was) is)) g
+    → text items ++ changes v s t i p q (drop i ws) ≡ whole → text new ++ changes v s t (i + 1) p q (drop (i + 1) ws) ≡ whole
+unchanged items new v s t p q ws i d x u whole lt is_value was is e g = rw (e, ← changes_at v s t p q ws i d true lt (rw (← is_value, ← was) is)) g
 
 pub differs : (v u : ℕ) → v ≢ u → (v == u) ≡ false
 differs v u ne = grind (arith, nat_tests)
@@ -111,9 +112,9 @@ pub no_values : (id : ℕ) (p : Scene) (ws : List Wire) (i : ℕ) → length ws 
 unfolding values
 no_values id p ws i le = rw (drop_of_length-le ws le) refl
 
-pub no_changes : (v : View) (p q : Scene) (ws : List Wire) (i : ℕ) → length ws ≤ i → changes v i p q (drop i ws) ≡ []
+pub no_changes : (v : View) (s : Stretch) (t : ℕ) (p q : Scene) (ws : List Wire) (i : ℕ) → length ws ≤ i → changes v s t i p q (drop i ws) ≡ []
 unfolding changes
-no_changes v p q ws i le = rw (drop_of_length-le ws le) refl
+no_changes v s t p q ws i le = rw (drop_of_length-le ws le) refl
 
 -- ---- written pieces
 
@@ -149,6 +150,28 @@ broken_at x y z ps i d lt e f =
 pub on_err : {T E P : Type 0} (r : Result T E) → P → OnErr r P
 on_err (Ok x) p = tt
 on_err (Err x) p = p
+
+-- a line, and another one behind it
+
+pub first_front : (x z : Option (List ℕ)) (a a' b : List ℕ) → a' ≡ a → AppendsFront x a' z → AppendsFront x (a ++ b) z
+first_front x z a a' b e f = record {
+  front = f.front;
+  rest = f.rest ++ b;
+  is_front = sym (append_assoc f.front f.rest b) ∙ ap (λ (l : List ℕ). l ++ b) (f.is_front ∙ e);
+  appended = f.appended;
+}
+
+pub second_ok : {T E : Type 0} (r : Result T E) (x y z : Option (List ℕ)) (a a' b b' : List ℕ) → a' ≡ a → b' ≡ b → y ≡ append_known x a'
+    → OnOk r (z ≡ append_known y b') → OnOk r (z ≡ append_known x (a ++ b))
+second_ok (Ok u) x y z a a' b b' e f g h =
+    h ∙ ap (append_known y) f ∙ ap (λ (o : Option (List ℕ)). append_known o b) (g ∙ ap (append_known x) e) ∙ sym (append_known-twice x a b)
+second_ok (Err u) x y z a a' b b' e f g h = tt
+
+pub second_front : {T E : Type 0} (r : Result T E) (x y z : Option (List ℕ)) (a a' b b' : List ℕ) → a' ≡ a → b' ≡ b → y ≡ append_known x a'
+    → OnErr r (AppendsFront y b' z) → OnErr r (AppendsFront x (a ++ b) z)
+second_front (Ok u) x y z a a' b b' e f g h = tt
+second_front (Err u) x y z a a' b b' e f g h =
+    front_behind x y z a b' [] (a ++ b) (g ∙ ap (append_known x) e) h (ap (λ (l : List ℕ). a ++ l) (append-nil b' ∙ f))
 
 -- ---- pages of several pieces
 
@@ -200,3 +223,9 @@ pages_of i0 i1 i2 i3 i4 i5 p q r s t a b c d e e0 e1 e2 e3 e4 e5 f g h k l =
     let f3 = text_all i2 i3 r (a ++ b) f2 e3 ∙ ap (λ (x : List ℕ). (a ++ b) ++ x) h in
     let f4 = text_all i3 i4 s ((a ++ b) ++ c) f3 e4 ∙ ap (λ (x : List ℕ). ((a ++ b) ++ c) ++ x) k in
     text_all i4 i5 t (((a ++ b) ++ c) ++ d) f4 e5 ∙ ap (λ (x : List ℕ). (((a ++ b) ++ c) ++ d) ++ x) l
+
+-- the pieces of a still picture's head
+pub still_of : (a b c d e f t u v w x t' u' v' w' x' : List ℕ) → t ≡ t' → u ≡ u' → v ≡ v' → w ≡ w' → x ≡ x'
+    → a ++ (t ++ (b ++ (u ++ (c ++ (v ++ (d ++ (w ++ (e ++ (x ++ (f ++ []))))))))))
+    ≡ a ++ (t' ++ (b ++ (u' ++ (c ++ (v' ++ (d ++ (w' ++ (e ++ (x' ++ (f ++ []))))))))))
+still_of a b c d e f t u v w x t' u' v' w' x' h k l m n = rw (h, k, l, m, n) refl

@@ -40,15 +40,15 @@ scene_more moments (moment.Event e) = rw (notes_with_event moments e, events_wit
 
 pub part_of : (p q : Plan) (moments : List Moment) (m : Moment) (new mid : List ℕ) (was now : Scene) (before t : ℕ) → q ≡ p → was ≡ scene moments
     → before ≡ newest_time 0 moments → t ≡ time m → now ≡ with_moment was m
-    → mid ≡ (if enters q.stretch before t then all_changes q (scene []) was else [])
-    → new ≡ mid ++ (if is_within q.stretch t then announced q.view before m ++ all_changes q was now else [])
+    → mid ≡ (if enters q.stretch before t then all_changes q q.stretch.from (scene []) was else [])
+    → new ≡ mid ++ (if is_within q.stretch t then announced q.view before m ++ all_changes q t was now else [])
     → new ≡ part p moments m
 part_of p q moments m new mid was now before t is_plan is_was is_before is_t is_now is_mid is_new =
     let after : now ≡ scene (moments ++ m ∷ []) = is_now ∙ ap (λ (s : Scene). with_moment s m) is_was ∙ sym (scene_more moments m) in
     rw (is_new, is_mid, after, is_was, is_before, is_t, is_plan) refl
 
 pub end_of : (p q : Plan) (moments : List Moment) (new mid : List ℕ) (was : Scene) (before : ℕ) → q ≡ p → was ≡ scene moments
-    → before ≡ newest_time 0 moments → mid ≡ (if ltb before q.stretch.from then all_changes q (scene []) was else [])
+    → before ≡ newest_time 0 moments → mid ≡ (if ltb before q.stretch.from then all_changes q q.stretch.from (scene []) was else [])
     → new ≡ mid ++ tail q.view → new ≡ end p moments
 end_of p q moments new mid was before is_plan is_was is_before is_mid is_new = rw (is_new, is_mid, is_was, is_before, is_plan) refl
 

@@ -7,6 +7,7 @@ pub mod Stretch
 pub mod Scene
 pub mod Wave
 pub mod Page
+pub mod Still
 pub mod Drawn
 pub mod Explained
 pub mod Reading

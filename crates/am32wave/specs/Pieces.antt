@@ -34,6 +34,24 @@ declaration id w = codes "$var wire " ++ decimal (width w) ++ 32 ∷ id ∷ 32 �
 abbrev pub change : ℕ → ℕ → ℕ → List ℕ
 change id w v = if w == 1 then bits 1 v ++ id ∷ 10 ∷ [] else 98 ∷ bits w v ++ 32 ∷ id ∷ 10 ∷ []
 
+-- ---- a change in a still picture, at so many thousandths of a percent, in the row at this height
+
+abbrev pub percent : ℕ → List ℕ
+percent x = decimal (x / 1000) ++ 46 ∷ three_digits (x % 1000) ++ 37 ∷ []
+
+-- a shape of the picture: `h` rises, `l` falls, `b` is a box
+abbrev pub shape : ℕ → ℕ → ℕ → List ℕ
+shape id x y = codes "<use href=\"#" ++ id ∷ codes "\" x=\"" ++ percent x ++ codes "\" y=\"" ++ decimal y ++ codes "\"/>\n"
+
+abbrev pub label : ℕ → ℕ → ℕ → List ℕ
+label x y v = codes "<text x=\"" ++ percent x ++ codes "\" y=\"" ++ decimal y ++ codes "\">" ++ decimal v ++ codes "</text>\n"
+
+abbrev pub level : ℕ → ℕ → ℕ → List ℕ
+level x y v = shape (if v == 0 then 108 else 104) x y
+
+abbrev pub box : ℕ → ℕ → ℕ → List ℕ
+box x y v = shape 98 x y ++ label x y v
+
 abbrev pub piece_text : Piece → List ℕ
 piece_text (piece.Text s) = s.now
 piece_text (piece.Number n) = decimal n
@@ -44,6 +62,8 @@ piece_text (piece.Declaration id w) = declaration id w
 piece_text (piece.Stamp t) = stamp_text t.0
 piece_text (piece.Change id w v) = change id w v
 piece_text (piece.Note n) = note_bytes n
+piece_text (piece.Level x y v) = level x y v
+piece_text (piece.Box x y v) = box x y v
 
 abbrev pub text : List Piece → List ℕ
 text pieces = flat_map piece_text pieces

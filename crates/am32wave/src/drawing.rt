@@ -1,5 +1,5 @@
 //! A run as it is drawn.
-ghost use Rattle.std.specs.Prelude.{◌≡◌, ◌≤◌, ◌+◌, ◌∷◌, ◌++◌, [], if◌then◌else◌, List, All, length, ltb};
+ghost use Rattle.std.specs.Prelude.{◌≡◌, ◌≤◌, ◌<◌, ◌+◌, ◌∷◌, ◌++◌, [], if◌then◌else◌, List, All, length, ltb};
 ghost use Rattle.arrayvec.specs.ArrayVec.{array_vec_len};
 ghost use Rattle.esc_base.specs.Range.{IsWord};
 ghost use Rattle.am32wave.specs.declared.moment.Moment.{Moment as AMoment};
@@ -8,7 +8,7 @@ ghost use Rattle.am32wave.specs.After.{IsDrawnAfter as IsAfter};
 ghost use Rattle.am32wave.specs.Drawn.{told, changes, all_changes, announced, part, head, tail, end};
 ghost use Rattle.am32wave.specs.Moments.{MomentFits, newest_time};
 ghost use Rattle.am32wave.specs.Page.{page_head, stretch_line};
-ghost use Rattle.am32wave.specs.Pieces.{text, piece_text, Fits};
+ghost use Rattle.am32wave.specs.Pieces.{text, change, piece_text, Fits};
 ghost use Rattle.am32wave.specs.Scene.{scene};
 ghost use Rattle.am32wave.specs.Stretch.{is_within, enters};
 ghost use Rattle.am32wave.specs.Wave.{declarations, values, first_id, wave_head, stamp_if_new};
@@ -16,8 +16,9 @@ ghost use Rattle.am32wave.specs.Wires.{wires_of, width};
 
 use crate::moment::Moment;
 use crate::page::{push_moment_line, push_page_end, push_page_head};
-use crate::pieces::{Page, Piece};
+use crate::pieces::{Page, Piece, push_all};
 use crate::scene::Scene;
+use crate::still::{STILL_END, painted, still_head};
 use crate::view::{Plan, Stretch, View};
 use crate::wire::{Wire, wires_of};
 use esc_base::Tick;
@@ -79,36 +80,53 @@ fn push_values(wires: &[Wire], scene: &Scene, page: &mut Page)
     }
 }
 
-/// The new value of the wire with a number.
-fn told(view: View, i: u8, wire: Wire, value: u32) -> Piece
-    requires { i ≤ 37 }
-    ensures text { piece_text result ≡ told view i wire value }
+/// The new value of the wire with a number, at a tick.
+fn told(plan: &Plan, t: Tick, i: u8, wire: Wire, value: u32) -> Piece
+    requires word { IsWord t.0 }
+    requires number { i ≤ 37 }
+    ensures text { piece_text result ≡ told plan.now.view plan.now.stretch t.0 i wire value }
     ensures fits { Fits result }
 {
-    let first = match view {
-        View::Wave => FIRST_ID,
-        View::Page => PAGE_ID,
-    };
+    match plan.view {
+        View::Wave => change(FIRST_ID + i, wire, value),
+        View::Page => change(PAGE_ID + i, wire, value),
+        View::Still => painted(&plan.stretch, t, wire, value),
+    }
+}
+
+fn change(id: u8, wire: Wire, value: u32) -> Piece
+    requires { id < 128 }
+    ensures text { piece_text result ≡ change id (width wire) value }
+    ensures fits { Fits result }
+{
     Piece::Change {
-        id: first + i,
+        id,
         width: wire.width(),
         value,
     }
 }
 
 /// A change for each wire that shows another value than before.
-fn push_changes(view: View, wires: &[Wire], before: &Scene, after: &Scene, page: &mut Page)
+fn push_changes(
+    plan: &Plan,
+    t: Tick,
+    wires: &[Wire],
+    before: &Scene,
+    after: &Scene,
+    page: &mut Page,
+)
+    requires word { IsWord t.0 }
     requires few { length wires.now ≤ 38 }
     requires room { array_vec_len page.old ≤ 80 }
     requires fits { All Fits page.old.items }
-    ensures text { text page.new.items ≡ text page.old.items ++ changes view 0 before.now after.now wires.now }
+    ensures text { text page.new.items ≡ text page.old.items ++ changes plan.now.view plan.now.stretch t.0 0 before.now after.now wires.now }
     ensures fits { All Fits page.new.items }
     ensures len { array_vec_len page.new ≤ array_vec_len page.old + 38 }
 {
     for (i, wire) in wires.iter().enumerate() {
         let value = wire.value(after);
         if value != wire.value(before) {
-            page.push(told(view, i as u8, *wire, value));
+            page.push(told(plan, t, i as u8, *wire, value));
         }
     }
 }
@@ -171,29 +189,32 @@ impl Drawing {
         match self.plan.view {
             View::Wave => push_wave_head(&self.plan.stretch, self.plan.is_traced, &mut page),
             View::Page => push_page_head(&self.plan.stretch, &mut page),
+            View::Still => push_all(&still_head(&self.plan.stretch), &mut page),
         }
         page
     }
 
-    fn push_all_changes(&self, before: &Scene, after: &Scene, page: &mut Page)
+    fn push_all_changes(&self, t: Tick, before: &Scene, after: &Scene, page: &mut Page)
+        requires word { IsWord t.0 }
         requires room { array_vec_len page.old ≤ 80 }
         requires fits { All Fits page.old.items }
-        ensures text { text page.new.items ≡ text page.old.items ++ all_changes self.now.plan before.now after.now }
+        ensures text { text page.new.items ≡ text page.old.items ++ all_changes self.now.plan t.0 before.now after.now }
         ensures fits { All Fits page.new.items }
         ensures len { array_vec_len page.new ≤ array_vec_len page.old + 38 }
     {
         let wires = wires_of(self.plan.is_traced);
-        push_changes(self.plan.view, wires, before, after, page);
+        push_changes(&self.plan, t, wires, before, after, page);
     }
 
     /// What stands at the begin of the stretch.
     fn push_opening(&self, page: &mut Page)
         requires empty { page.old.items ≡ [] }
-        ensures text { text page.new.items ≡ all_changes self.now.plan (scene []) self.now.scene }
+        ensures text { text page.new.items ≡ all_changes self.now.plan self.now.plan.stretch.from (scene []) self.now.scene }
         ensures fits { All Fits page.new.items }
         ensures len { array_vec_len page.new ≤ 38 }
     {
-        self.push_all_changes(&Scene::new(), &self.scene, page);
+        let from = Tick(u64::from(self.plan.stretch.from));
+        self.push_all_changes(from, &Scene::new(), &self.scene, page);
     }
 
     /// What announces a moment.
@@ -208,13 +229,14 @@ impl Drawing {
         match self.plan.view {
             View::Wave => push_stamp(self.time, moment.time(), page),
             View::Page => push_moment_line(moment, page),
+            View::Still => {}
         }
     }
 
     /// The begin of the stretch, where no moment so far is behind it and one at this tick is.
     fn push_entry(&self, t: Tick, page: &mut Page)
         requires empty { page.old.items ≡ [] }
-        ensures text { text page.new.items ≡ (if enters self.now.plan.stretch self.now.time.0 t.0 then all_changes self.now.plan (scene []) self.now.scene else []) }
+        ensures text { text page.new.items ≡ (if enters self.now.plan.stretch self.now.time.0 t.0 then all_changes self.now.plan self.now.plan.stretch.from (scene []) self.now.scene else []) }
         ensures fits { All Fits page.new.items }
         ensures len { array_vec_len page.new ≤ 38 }
     {
@@ -226,16 +248,17 @@ impl Drawing {
     /// A moment in the stretch, and what it changes.
     fn push_moment(&self, moment: &Moment, t: Tick, after: &Scene, page: &mut Page)
         requires moment { MomentFits moment.now }
+        requires word { IsWord t.0 }
         requires room { array_vec_len page.old ≤ 38 }
         requires fits { All Fits page.old.items }
         ensures text { text page.new.items ≡ text page.old.items ++ (if is_within self.now.plan.stretch t.0
-            then announced self.now.plan.view self.now.time.0 moment.now ++ all_changes self.now.plan self.now.scene after.now
+            then announced self.now.plan.view self.now.time.0 moment.now ++ all_changes self.now.plan t.0 self.now.scene after.now
             else []) }
         ensures fits { All Fits page.new.items }
     {
         if self.plan.stretch.contains(t) {
             self.push_announced(moment, page);
-            self.push_all_changes(&self.scene, after, page);
+            self.push_all_changes(t, &self.scene, after, page);
         }
     }
 
@@ -271,7 +294,7 @@ impl Drawing {
     /// The begin of the stretch, where all moments are before it.
     fn push_late_entry(&self, page: &mut Page)
         requires empty { page.old.items ≡ [] }
-        ensures text { text page.new.items ≡ (if ltb self.now.time.0 self.now.plan.stretch.from then all_changes self.now.plan (scene []) self.now.scene else []) }
+        ensures text { text page.new.items ≡ (if ltb self.now.time.0 self.now.plan.stretch.from then all_changes self.now.plan self.now.plan.stretch.from (scene []) self.now.scene else []) }
         ensures fits { All Fits page.new.items }
         ensures len { array_vec_len page.new ≤ 38 }
     {
@@ -289,6 +312,7 @@ impl Drawing {
         match self.plan.view {
             View::Wave => {}
             View::Page => push_page_end(page),
+            View::Still => page.push(Piece::Text(STILL_END)),
         }
     }
 }

@@ -19,6 +19,7 @@ mod scene;
 mod script;
 mod sentence;
 mod status;
+mod still;
 mod tally;
 #[cfg(test)]
 mod tests;

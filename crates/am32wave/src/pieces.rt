@@ -6,7 +6,7 @@ ghost use Rattle.arrayvec.specs.ArrayVec.{array_vec_len};
 ghost use Rattle.esc_base.specs.Outside.{Rose, AppendsFront};
 ghost use Rattle.esc_base.specs.Range.{IsWord};
 ghost use Rattle.trace_text.specs.Text.{hex, bits};
-ghost use Rattle.am32wave.specs.Pieces.{time_text, stamp, tick_of, stamp_text, declaration, change, piece_text, text, Fits};
+ghost use Rattle.am32wave.specs.Pieces.{time_text, stamp, tick_of, stamp_text, declaration, change, percent, shape, label, level, box, piece_text, text, Fits};
 
 use crate::wire::Wire;
 use arrayvec::ArrayVec;
@@ -34,6 +34,10 @@ pub enum Piece {
     Change { id: u8, width: u32, value: u32 },
     /// A note's line of a journal: `Q 12043220 1`.
     Note(Note),
+    /// A wire's new level in a still picture, at `x` thousandths of a percent, in the row at the height `y`.
+    Level { x: u32, y: u32, value: u32 },
+    /// The same of a wire of several bits: a box with its value.
+    Box { x: u32, y: u32, value: u32 },
 }
 
 impl Default for Piece {
@@ -164,6 +168,66 @@ fn put_line<K: Sink>(line: &Line, out: &mut K) -> Result<(), Failed>
     out.put(line.as_bytes())
 }
 
+fn push_percent(x: u32, line: &mut Line)
+    requires { length line.old.bytes + 16 ≤ 64 }
+    ensures bytes { line.new.bytes ≡ line.old.bytes ++ percent x }
+    ensures len { length line.new.bytes ≤ length line.old.bytes + 15 }
+{
+    let rest = x % 1000;
+    line.push_number(x / 1000);
+    line.push_byte(b'.');
+    line.push_byte(b'0' + (rest / 100) as u8);
+    line.push_byte(b'0' + (rest / 10 % 10) as u8);
+    line.push_byte(b'0' + (rest % 10) as u8);
+    line.push_byte(b'%');
+}
+
+fn shape_text(id: u8, x: u32, y: u32) -> Line
+    ensures { result.bytes ≡ shape id x y }
+{
+    let mut line = Line::new();
+    line.push_bytes(b"<use href=\"#");
+    line.push_byte(id);
+    line.push_bytes(b"\" x=\"");
+    push_percent(x, &mut line);
+    line.push_bytes(b"\" y=\"");
+    line.push_number(y);
+    line.push_bytes(b"\"/>\n");
+    line
+}
+
+fn level_text(x: u32, y: u32, value: u32) -> Line
+    ensures { result.bytes ≡ level x y value }
+{
+    let id = if value == 0 { b'l' } else { b'h' };
+    shape_text(id, x, y)
+}
+
+fn label_text(x: u32, y: u32, value: u32) -> Line
+    ensures { result.bytes ≡ label x y value }
+{
+    let mut line = Line::new();
+    line.push_bytes(b"<text x=\"");
+    push_percent(x, &mut line);
+    line.push_bytes(b"\" y=\"");
+    line.push_number(y);
+    line.push_bytes(b"\">");
+    line.push_number(value);
+    line.push_bytes(b"</text>\n");
+    line
+}
+
+/// A box with its value.
+fn put_box<K: Sink>(x: u32, y: u32, value: u32, out: &mut K) -> Result<(), Failed>
+    ensures ok { OnOk result (K.given out.new ≡ append_known (K.given out.old) (box x y value)) }
+    ensures front { OnErr result (AppendsFront (K.given out.old) (box x y value) (K.given out.new)) }
+    ensures no_fewer { K.faults out.old ≤ K.faults out.new }
+    ensures failed { OnErr result (Rose (K.faults out.old) (K.faults out.new)) }
+{
+    put_line(&shape_text(b'b', x, y), out)?;
+    put_line(&label_text(x, y, value), out)
+}
+
 fn put_piece<K: Sink>(piece: Piece, out: &mut K) -> Result<(), Failed>
     requires { Fits piece }
     ensures ok { OnOk result (K.given out.new ≡ append_known (K.given out.old) (piece_text piece)) }
@@ -181,6 +245,8 @@ fn put_piece<K: Sink>(piece: Piece, out: &mut K) -> Result<(), Failed>
         Piece::Stamp(t) => put_line(&stamp_text(t), out),
         Piece::Change { id, width, value } => put_line(&change_text(id, width, value), out),
         Piece::Note(note) => put_line(&note_text(&note), out),
+        Piece::Level { x, y, value } => put_line(&level_text(x, y, value), out),
+        Piece::Box { x, y, value } => put_box(x, y, value, out),
     }
 }
 

@@ -11,6 +11,8 @@ pub enum View {
     Wave,
     /// As a page for a browser.
     Page,
+    /// As a still picture, an SVG.
+    Still,
 }
 
 /// A stretch of a run: its first and its last tick, in ticks of 48 MHz. Nothing is in one that ends before it begins.

@@ -51,6 +51,11 @@ fn command<'a>(alloc: Global) -> Result<Command<'a>, AllocError> {
             "Writes the journal in words instead, with a summary at the end",
         ))?
         .arg(flag(alloc, "html", "Writes a page for a browser instead"))?
+        .arg(flag(
+            alloc,
+            "svg",
+            "Writes a still picture of the stretch from --from to --to instead",
+        ))?
         .arg(option(
             alloc,
             "trace",
@@ -90,17 +95,24 @@ fn stretch_in(matches: &ArgMatches) -> Result<Stretch, Status> {
 /// Whether a word asks for something that words don't have: another form, a trace or a stretch.
 fn is_drawn(matches: &ArgMatches) -> bool {
     matches.get_flag("html")
+        || matches.get_flag("svg")
         || matches.get_str("trace").is_some()
         || matches.get_str("from").is_some()
         || matches.get_str("to").is_some()
 }
 
+/// A still picture is of a stretch with an end.
+fn view_in(matches: &ArgMatches) -> Result<View, Status> {
+    match (matches.get_flag("html"), matches.get_flag("svg")) {
+        (false, false) => Ok(View::Wave),
+        (true, false) => Ok(View::Page),
+        (false, true) if matches.get_str("to").is_some() => Ok(View::Still),
+        _ => Err(Status::Usage),
+    }
+}
+
 fn drawn(alloc: Global, matches: &ArgMatches) -> Result<Wish, Status> {
-    let view = if matches.get_flag("html") {
-        View::Page
-    } else {
-        View::Wave
-    };
+    let view = view_in(matches)?;
     let stretch = stretch_in(matches)?;
     let Some(path) = matches.get_str("trace") else {
         return Ok(Wish::Show(Form::Drawn(view, stretch)));

@@ -14,7 +14,7 @@ loop-i-preserved c =
       | then-value w ↦
           let items = ap (λ p. p.items) w.page-is ∙ w.push.ensures.items in
           record {
-            text = changed c.loop-i.page.items c.if-value.page.items c.args.view c.args.before.now c.args.after.now list c.loop-i.i _ w.told.result
+            text = changed c.loop-i.page.items c.if-value.page.items c.args.plan.now.view c.args.plan.now.stretch c.args.t.0 c.args.before.now c.args.after.now list c.loop-i.i _ w.told.result
                 c.value-value.result c.value.result _ c.loop-i-test.true w.told.ensures.text c.value-value.ensures c.value.ensures
                 (differs _ _ w.if-value.true) items inv.text;
             fits = rw items (All-push Fits c.loop-i.page.items _ inv.fits w.told.ensures.fits);
@@ -22,7 +22,7 @@ loop-i-preserved c =
           }
       | else-value w ↦
           record {
-            text = unchanged c.loop-i.page.items c.if-value.page.items c.args.view c.args.before.now c.args.after.now list c.loop-i.i _
+            text = unchanged c.loop-i.page.items c.if-value.page.items c.args.plan.now.view c.args.plan.now.stretch c.args.t.0 c.args.before.now c.args.after.now list c.loop-i.i _
                 c.value-value.result c.value.result _
                 c.loop-i-test.true c.value-value.ensures c.value.ensures (same _ _ w.if-value.false) (ap (λ p. p.items) w.page-is) inv.text;
             fits = rw w.page-is inv.fits;
@@ -33,4 +33,4 @@ loop-i-preserved c =
 pub returns-clause-text : goal.returns-clause-text
 returns-clause-text c =
     none_left c.loop-i.page.items _ _ c.loop-i.invariant.text
-    (no_changes c.args.view c.args.before.now c.args.after.now c.args.wires.now c.loop-i.i c.loop-i-test.false)
+    (no_changes c.args.plan.now.view c.args.plan.now.stretch c.args.t.0 c.args.before.now c.args.after.now c.args.wires.now c.loop-i.i c.loop-i-test.false)

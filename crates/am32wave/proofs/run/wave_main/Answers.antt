@@ -20,6 +20,6 @@ returns-in-Ok-clause-page g c s is done =
     let fits = subst FormFits same c.show.ensures.fits in
     wrote_page s (g.S.Source.left c.args.src.now) (g.K.Sink.given c.args.out.now) (g.K.Sink.given c.show.new.out) fits.0 fits.1
     (subst (λ (st : Status). Shown (form.Drawn view.Page s) st (g.S.Source.left c.args.src.now) (g.S.Source.left c.show.new.src)
-      (g.K.Sink.given c.args.out.now) (g.K.Sink.given c.show.new.out)) done
+    (g.K.Sink.given c.args.out.now) (g.K.Sink.given c.show.new.out)) done
     (subst (λ (f : Form). Shown f c.in-Ok.status (g.S.Source.left c.args.src.now) (g.S.Source.left c.show.new.src)
-      (g.K.Sink.given c.args.out.now) (g.K.Sink.given c.show.new.out)) same c.in-Ok.ensures.ok))
+    (g.K.Sink.given c.args.out.now) (g.K.Sink.given c.show.new.out)) same c.in-Ok.ensures.ok))
