@@ -7,7 +7,7 @@ use gate_driver::{AllOff, Chop};
 use std::marker::Model;
 
 /// Where an open CAP stands. Each place is named by the step that comes next.
-#[derive(Clone, Copy, Debug, PartialEq, Eq, Drop)]
+#[derive(Clone, Copy, Drop)]
 pub enum CapAt {
     Shut,
     /// Reads how many edges there are, or opens a window where the window timer was set.
@@ -28,7 +28,7 @@ pub enum CapAt {
 }
 
 /// Where an open TICK stands.
-#[derive(Clone, Copy, Debug, PartialEq, Eq, Drop)]
+#[derive(Clone, Copy, Drop)]
 pub enum TickAt {
     Shut,
     /// Raises the mask.
@@ -51,7 +51,7 @@ pub enum TickAt {
 }
 
 /// Where an open PWM stands.
-#[derive(Clone, Copy, Debug, PartialEq, Eq, Drop)]
+#[derive(Clone, Copy, Drop)]
 pub enum PwmAt {
     Shut,
     /// Makes a step of chopping.
@@ -60,7 +60,7 @@ pub enum PwmAt {
 }
 
 /// Where an open COMM stands.
-#[derive(Clone, Copy, Debug, PartialEq, Eq, Drop)]
+#[derive(Clone, Copy, Drop)]
 pub enum CommAt {
     Shut,
     /// Decides between a sector change, for which it reads the sector, and a postponed low switch.
@@ -81,7 +81,7 @@ pub enum CommAt {
 }
 
 /// Where an open CMP stands.
-#[derive(Clone, Copy, Debug, PartialEq, Eq, Drop)]
+#[derive(Clone, Copy, Drop)]
 pub enum CmpAt {
     Shut,
     /// Raises the mask.
@@ -102,7 +102,7 @@ pub enum CmpAt {
 }
 
 /// Where an open MAIN stands.
-#[derive(Clone, Copy, Debug, PartialEq, Eq, Drop)]
+#[derive(Clone, Copy, Drop)]
 pub enum MainAt {
     Shut,
     /// Does what waits.
@@ -111,7 +111,7 @@ pub enum MainAt {
 }
 
 /// Where an open handler stands that does nothing yet.
-#[derive(Clone, Copy, Debug, PartialEq, Eq, Drop)]
+#[derive(Clone, Copy, Drop)]
 pub enum BareAt {
     Shut,
     Back,
