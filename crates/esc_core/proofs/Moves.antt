@@ -51,7 +51,8 @@ use Rattle.input_detect.specs.Judge.{judged}
 use Rattle.settings_block.specs.Settings.{servo_of}
 use Rattle.esc_core.specs.Stepped.{Stepped, goes_on}
 use Rattle.esc_core.specs.Cap.{after_edges, after_copy, after_good, opens, takes, next_edge, judge_step, cap_step}
-use Rattle.esc_core.specs.Tick.{ticked, asked, drive_after, number_in, marks_in, off_step, tick_step}
+use Rattle.esc_core.specs.Drive.{drive_after}
+use Rattle.esc_core.specs.Tick.{ticked, asked, number_in, marks_in, off_step, tick_step}
 use Rattle.esc_core.specs.Pwm.{chopped, pwm_step}
 use Rattle.esc_core.specs.Cmp.{ready_step, judged_step, blank_step, filter_step, look_step, is_blanked, read_step, may_filter, ack_step, cmp_step}
 use Rattle.esc_core.specs.Drive.{arms}

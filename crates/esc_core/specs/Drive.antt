@@ -40,6 +40,14 @@ abbrev pub search_after : Bool → Kept → Kept
 search_after true k = after_off k
 search_after false k = k
 
+-- control has answered: a drive may start, and the search ends with a demand of 0
+abbrev pub drive_after : Bool → ℕ → Drive → Drive
+drive_after true t d = started d t
+drive_after false t d = d
+
+abbrev pub answered : Bool → Bool → ℕ → Drive → Drive
+answered starts ends t d = record (drive_after starts t d) { crossing = search_after ends d.crossing }
+
 -- how many forced sector changes stand in a row after one more change: the first one of a drive isn't forced
 abbrev pub forced_after : Drive → ℕ
 forced_after d = if d.turned then min 60 (d.forced + 1) else d.forced
