@@ -7,6 +7,7 @@ use Rattle.esc_base.specs.declared.signal.Mode.{Mode}
 use Rattle.esc_base.specs.declared.signal.Mode.TheVariants.{D300Inv, D600Inv}
 use Rattle.esc_base.specs.declared.kind.Kind.TheVariants as kind
 use Rattle.esc_base.specs.declared.note.Note.{Note}
+use Rattle.esc_base.specs.Times.{stuck_changes}
 use Rattle.timer_regs.specs.Bank.{Bank}
 use Rattle.timer_regs.specs.Effects.{read_value}
 use Rattle.timer_regs.specs.declared.regs.Reg.TheVariants as reg
@@ -471,7 +472,7 @@ comm_moves comm.Low c b l = resumed_moves c b
 comm_moves comm.Blank c b l = comm_goes 5 _ _ _ _ c b (lit< tt) (lit< tt) (arms_mask (until c.drive.crossing.phase) b)
 comm_moves comm.Period c b l = comm_goes 4 _ _ _ _ c b (lit< tt) (lit< tt) refl
 comm_moves comm.Arm c b l =
-    let left = armed_left (nat_le 60 c.drive.forced) c.drive.turn.at in
+    let left = armed_left (nat_le stuck_changes c.drive.forced) c.drive.turn.at in
     comm_goes 3 _ _ _ _ c b left.0 left.1 refl
 comm_moves comm.Stick c b l = comm_goes 2 _ _ _ _ c b (lit< tt) (lit< tt) refl
 comm_moves comm.Back c b l = record {
