@@ -60,10 +60,8 @@ pub record LineTied (s : Line) (session : Bool) : Type 0 where
   pub none_left : s.left ≡ []
   pub session_is : s.active ≡ session
 
-pub record Grounded (loaded : Loaded) (trace : List Event) (kept : Kept) (o : Orders) (s : Line) (now_level now_comp : Bool) (rests : ℕ) (time : ℕ)
-    (back : List Note) : Type 0 where
-  pub control : Stands kept back
-  pub orders : OrdersTied loaded o back
+-- what is outside: the trace, and the registers that its events set
+pub record OutsideTied (trace : List Event) (now_level now_comp : Bool) (rests time : ℕ) : Type 0 where
   pub level : now_level ≡ (line trace).level
   pub edges : StandUntil time (line trace).edges
   pub rested : IsRestFrom (line trace).edges rests
@@ -71,8 +69,14 @@ pub record Grounded (loaded : Loaded) (trace : List Event) (kept : Kept) (o : Or
   pub events : All (λ e. tick_of e ≤ time) trace
   pub in_time : IsInTime 0 trace
   pub comparator : now_comp ≡ (held trace time).level
-  pub line : LineTied s (session_at back)
   pub small : time < 2147483648
+
+pub record Grounded (loaded : Loaded) (trace : List Event) (kept : Kept) (o : Orders) (s : Line) (now_level now_comp : Bool) (rests : ℕ) (time : ℕ)
+    (back : List Note) : Type 0 where
+  pub control : Stands kept back
+  pub orders : OrdersTied loaded o back
+  pub line : LineTied s (session_at back)
+  pub outside : OutsideTied trace now_level now_comp rests time
 
 abbrev pub Ground : World → Type 0
 Ground w = Grounded w.loaded w.trace w.core.control w.core.orders w.core.line w.bank.level w.bank.comp (rests_from w.bank.changed) w.bank.time w.back

@@ -288,7 +288,7 @@ is_crossing w outer end i e over well =
     subst (λ (x : Bool). differ x (cross_seen w).expects ≡ false) u.level_is
     (subst (λ (x : Bool). differ w.bank.comp x ≡ false) u.expects_is (not-true (differ w.bank.comp w.core.drive.crossing.expects) two.0)) in
     record {
-      steady = steady_of w.trace (cross_seen w).expects (w.bank.time - 24) w.bank.time (omega arith) i.ground.in_time
+      steady = steady_of w.trace (cross_seen w).expects (w.bank.time - 24) w.bank.time (omega arith) i.ground.outside.in_time
           (bit_steady h (cross_seen w).expects w.bank.comp_changed f.begun (w.bank.time - 24) f.bit (let a = f.end_is in omega arith) two.1 level);
       blanked_before = (let a = f.end_is in let b = f.after in omega arith);
     }

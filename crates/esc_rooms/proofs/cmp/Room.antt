@@ -255,7 +255,7 @@ returns w outer i = record {
           | owed.Drives ↦ λ e. cc
           | owed.Searches ↦ λ four. has_crossed w.trace (cross_seen w).expects w.bank.time (sight_at w.back) w.core.drive.crossing.phase
               (blanked_at w.back) w.made.cmp_past
-              i.past.cmp i.ground.in_time (stands_at w outer cmp.Back w.core.drive.crossing.phase i refl).seen
+              i.past.cmp i.ground.outside.in_time (stands_at w outer cmp.Back w.core.drive.crossing.phase i refl).seen
           | owed.Nests ↦ (inside (so_far w).stack kind.Cmp outer i.on, tt)
           | l ↦ tt
         ];
@@ -459,7 +459,7 @@ cmp_law = record {
     past = past;
   }) left;
   later = λ w u from small g t.
-      subst (λ (h : Held). CrossTied (record (cross_seen w) { time = u; held = h })) (sym (held_stays w.trace w.bank.time u from g.events))
+      subst (λ (h : Held). CrossTied (record (cross_seen w) { time = u; held = h })) (sym (held_stays w.trace w.bank.time u from g.outside.events))
       (cross_later (cross_seen w) u from (t kind.Cmp));
   outside = λ w e at past g t. outside w e at past.cmp (t kind.Cmp);
 }

@@ -326,13 +326,15 @@ pub later_ground : (w : World) (u : ℕ) → w.bank.time ≤ u → u < 214748364
 later_ground w u from small g = record {
   control = g.control;
   orders = g.orders;
-  level = g.level;
-  edges = (All-later (λ e. e.t.0) (line w.trace).edges w.bank.time u from g.edges.0, g.edges.1);
-  rested = g.rested;
-  small = small;
-  events = All-later (λ e. tick_of e) w.trace w.bank.time u from g.events;
-  in_time = g.in_time;
-  comparator = g.comparator ∙ ap (λ (h : Held). h.level) (sym (held_stays w.trace w.bank.time u from g.events));
+  outside = record {
+    level = g.outside.level;
+    edges = (All-later (λ e. e.t.0) (line w.trace).edges w.bank.time u from g.outside.edges.0, g.outside.edges.1);
+    rested = g.outside.rested;
+    events = All-later (λ e. tick_of e) w.trace w.bank.time u from g.outside.events;
+    in_time = g.outside.in_time;
+    comparator = g.outside.comparator ∙ ap (λ (h : Held). h.level) (sym (held_stays w.trace w.bank.time u from g.outside.events));
+    small = small;
+  };
   line = g.line;
 }
 
@@ -372,10 +374,10 @@ outside_is b (event.Comp at level) = by_test (differ b.comp level)
 outside_is b e = refl
 
 events_now : (w : World) (e : Event) → tick_of e ≡ w.bank.time → Ground w → All (λ x. tick_of x ≤ w.bank.time) (w.trace ++ e ∷ [])
-events_now w e is g = All-push (λ x. tick_of x ≤ w.bank.time) w.trace e g.events (omega arith)
+events_now w e is g = All-push (λ x. tick_of x ≤ w.bank.time) w.trace e g.outside.events (omega arith)
 
 in_time_now : (w : World) (e : Event) → tick_of e ≡ w.bank.time → Ground w → IsInTime 0 (w.trace ++ e ∷ [])
-in_time_now w e is g = in_time_push w.trace e 0 (omega arith) g.in_time (All-later tick_of w.trace w.bank.time (tick_of e) (omega arith) g.events)
+in_time_now w e is g = in_time_push w.trace e 0 (omega arith) g.outside.in_time (All-later tick_of w.trace w.bank.time (tick_of e) (omega arith) g.outside.events)
 
 edge_ground : (v : Bool) (w : World) (level : Bool) → differ w.bank.level level ≡ v → Ground w
     → Ground (record w {
@@ -384,35 +386,39 @@ edge_ground : (v : Bool) (w : World) (level : Bool) → differ w.bank.level leve
       bank = record w.bank { level = (if v then edge_bank w.bank level else w.bank).level; changed = (if v then edge_bank w.bank level else w.bank).changed };
     })
 edge_ground true w level d g =
-    let new = line_changes w.trace w.bank level (subst (λ (l : Bool). differ l level ≡ true) g.level d) in
+    let new = line_changes w.trace w.bank level (subst (λ (l : Bool). differ l level ≡ true) g.outside.level d) in
     record {
       control = g.control;
       orders = g.orders;
-      level = ap (λ (l : Line). l.level) (sym new);
-      edges = rw new (
-        All-push (λ y. y.t.0 ≤ w.bank.time) (line w.trace).edges (edge_now w.bank level) g.edges.0 (omega arith),
-        rising_push (line w.trace).edges (edge_now w.bank level) 0 g.edges.1 g.edges.0 (omega arith),
-      );
-      rested = rw new (rest_now (line w.trace).edges (edge_now w.bank level) g.edges.0);
-      events = events_now w (event.Edge (as_tick w.bank.time) level) refl g;
-      in_time = in_time_now w (event.Edge (as_tick w.bank.time) level) refl g;
-      comparator = rw (held-push w.trace (event.Edge (as_tick w.bank.time) level) w.bank.time) g.comparator;
+      outside = record {
+        level = ap (λ (l : Line). l.level) (sym new);
+        edges = rw new (
+          All-push (λ y. y.t.0 ≤ w.bank.time) (line w.trace).edges (edge_now w.bank level) g.outside.edges.0 (omega arith),
+          rising_push (line w.trace).edges (edge_now w.bank level) 0 g.outside.edges.1 g.outside.edges.0 (omega arith),
+        );
+        rested = rw new (rest_now (line w.trace).edges (edge_now w.bank level) g.outside.edges.0);
+        events = events_now w (event.Edge (as_tick w.bank.time) level) refl g;
+        in_time = in_time_now w (event.Edge (as_tick w.bank.time) level) refl g;
+        comparator = rw (held-push w.trace (event.Edge (as_tick w.bank.time) level) w.bank.time) g.outside.comparator;
+        small = g.outside.small;
+      };
       line = g.line;
-      small = g.small;
     }
 edge_ground false w level d g =
-    let same = line_same w.trace w.bank level (subst (λ (l : Bool). differ l level ≡ false) g.level d) in
+    let same = line_same w.trace w.bank level (subst (λ (l : Bool). differ l level ≡ false) g.outside.level d) in
     record {
       control = g.control;
       orders = g.orders;
-      level = rw same g.level;
-      edges = rw same g.edges;
-      rested = rw same g.rested;
-      events = events_now w (event.Edge (as_tick w.bank.time) level) refl g;
-      in_time = in_time_now w (event.Edge (as_tick w.bank.time) level) refl g;
-      comparator = rw (held-push w.trace (event.Edge (as_tick w.bank.time) level) w.bank.time) g.comparator;
+      outside = record {
+        level = rw same g.outside.level;
+        edges = rw same g.outside.edges;
+        rested = rw same g.outside.rested;
+        events = events_now w (event.Edge (as_tick w.bank.time) level) refl g;
+        in_time = in_time_now w (event.Edge (as_tick w.bank.time) level) refl g;
+        comparator = rw (held-push w.trace (event.Edge (as_tick w.bank.time) level) w.bank.time) g.outside.comparator;
+        small = g.outside.small;
+      };
       line = g.line;
-      small = g.small;
     }
 
 outside_ground : (w : World) (e : Event) → tick_of e ≡ w.bank.time → Ground w → Ground (after_outside w e)
@@ -435,38 +441,44 @@ outside_ground w (event.Edge at level) is g =
 outside_ground w (event.Comp at level) is g = record {
   control = g.control;
   orders = g.orders;
-  level = rw (line-push w.trace (event.Comp at level)) g.level;
-  edges = rw (line-push w.trace (event.Comp at level)) g.edges;
-  rested = rw (line-push w.trace (event.Comp at level)) g.rested;
-  events = events_now w (event.Comp at level) is g;
-  in_time = in_time_now w (event.Comp at level) is g;
-  comparator = comp_now w.bank (held w.trace w.bank.time) at.0 level g.comparator ∙ ap (λ (h : Held). h.level) (sym (held_now w.trace at level w.bank.time is));
+  outside = record {
+    level = rw (line-push w.trace (event.Comp at level)) g.outside.level;
+    edges = rw (line-push w.trace (event.Comp at level)) g.outside.edges;
+    rested = rw (line-push w.trace (event.Comp at level)) g.outside.rested;
+    events = events_now w (event.Comp at level) is g;
+    in_time = in_time_now w (event.Comp at level) is g;
+    comparator = comp_now w.bank (held w.trace w.bank.time) at.0 level g.outside.comparator ∙ ap (λ (h : Held). h.level) (sym (held_now w.trace at level w.bank.time is));
+    small = g.outside.small;
+  };
   line = g.line;
-  small = g.small;
 }
 outside_ground w (event.Serial at byte) is g = record {
   control = g.control;
   orders = g.orders;
-  level = rw (line-push w.trace (event.Serial at byte)) g.level;
-  edges = rw (line-push w.trace (event.Serial at byte)) g.edges;
-  rested = rw (line-push w.trace (event.Serial at byte)) g.rested;
-  events = events_now w (event.Serial at byte) is g;
-  in_time = in_time_now w (event.Serial at byte) is g;
-  comparator = rw (held-push w.trace (event.Serial at byte) w.bank.time) g.comparator;
+  outside = record {
+    level = rw (line-push w.trace (event.Serial at byte)) g.outside.level;
+    edges = rw (line-push w.trace (event.Serial at byte)) g.outside.edges;
+    rested = rw (line-push w.trace (event.Serial at byte)) g.outside.rested;
+    events = events_now w (event.Serial at byte) is g;
+    in_time = in_time_now w (event.Serial at byte) is g;
+    comparator = rw (held-push w.trace (event.Serial at byte) w.bank.time) g.outside.comparator;
+    small = g.outside.small;
+  };
   line = g.line;
-  small = g.small;
 }
 outside_ground w (event.Stall at n) is g = record {
   control = g.control;
   orders = g.orders;
-  level = rw (line-push w.trace (event.Stall at n)) g.level;
-  edges = rw (line-push w.trace (event.Stall at n)) g.edges;
-  rested = rw (line-push w.trace (event.Stall at n)) g.rested;
-  events = events_now w (event.Stall at n) is g;
-  in_time = in_time_now w (event.Stall at n) is g;
-  comparator = rw (held-push w.trace (event.Stall at n) w.bank.time) g.comparator;
+  outside = record {
+    level = rw (line-push w.trace (event.Stall at n)) g.outside.level;
+    edges = rw (line-push w.trace (event.Stall at n)) g.outside.edges;
+    rested = rw (line-push w.trace (event.Stall at n)) g.outside.rested;
+    events = events_now w (event.Stall at n) is g;
+    in_time = in_time_now w (event.Stall at n) is g;
+    comparator = rw (held-push w.trace (event.Stall at n) w.bank.time) g.outside.comparator;
+    small = g.outside.small;
+  };
   line = g.line;
-  small = g.small;
 }
 
 pub event_ground : (w : World) (e : Event) → tick_of e ≡ w.bank.time → Ground w → Ground (record w { trace = w.trace ++ e ∷ []; bank = after_event w.bank e })

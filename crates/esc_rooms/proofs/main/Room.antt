@@ -32,14 +32,8 @@ saves w saved outer g asked none on = record {
   ground = record {
     control = other_stands (note.Saved (as_tick w.bank.time) (result_of saved)) w.core.control w.back refl refl (sym g.orders.save_is ∙ asked) g.control;
     orders = saved_tied w.loaded w.core.orders (as_tick w.bank.time) (result_of saved) w.back g.orders;
-    level = g.level;
-    edges = g.edges;
-    rested = g.rested;
-    events = g.events;
-    in_time = g.in_time;
-    comparator = g.comparator;
+    outside = g.outside;
     line = g.line;
-    small = g.small;
   };
   tie = λ told. ap (λ (n : ℕ). n + 1) none;
   others = elim [ kind.Main ↦ λ ne t. absurd (ne refl) | j ↦ λ ne t. t ];

@@ -247,14 +247,8 @@ asks lost armed_now start w outer marks demand kept i begins none st number = by
         control = st;
         orders = orders_other w.loaded w.core.orders (note.Lost (as_tick w.bank.time) (cause_number cause)) (k ∷ w.back) refl
             (orders_other w.loaded w.core.orders k w.back refl i.ground.orders);
-        level = i.ground.level;
-        edges = i.ground.edges;
-        rested = i.ground.rested;
-        events = i.ground.events;
-        in_time = i.ground.in_time;
-        comparator = i.ground.comparator;
+        outside = i.ground.outside;
         line = i.ground.line;
-        small = i.ground.small;
       };
       tie = λ told. (
         asked_ticks (demand == 0) start (w.bank.time / 2400) w.bank.time ((so_far w).ticks + 1) ticks_now,
@@ -283,14 +277,8 @@ asks lost armed_now start w outer marks demand kept i begins none st number = by
         control = st;
         orders = orders_other w.loaded w.core.orders (note.Armed (as_tick w.bank.time)) (k ∷ w.back) refl
             (orders_other w.loaded w.core.orders k w.back refl i.ground.orders);
-        level = i.ground.level;
-        edges = i.ground.edges;
-        rested = i.ground.rested;
-        events = i.ground.events;
-        in_time = i.ground.in_time;
-        comparator = i.ground.comparator;
+        outside = i.ground.outside;
         line = i.ground.line;
-        small = i.ground.small;
       };
       tie = λ told. (
         asked_ticks (demand == 0) start (w.bank.time / 2400) w.bank.time ((so_far w).ticks + 1) ticks_now,
@@ -318,14 +306,8 @@ asks lost armed_now start w outer marks demand kept i begins none st number = by
       ground = record {
         control = st;
         orders = orders_other w.loaded w.core.orders k w.back refl i.ground.orders;
-        level = i.ground.level;
-        edges = i.ground.edges;
-        rested = i.ground.rested;
-        events = i.ground.events;
-        in_time = i.ground.in_time;
-        comparator = i.ground.comparator;
+        outside = i.ground.outside;
         line = i.ground.line;
-        small = i.ground.small;
       };
       tie = λ told. (
         asked_ticks (demand == 0) start (w.bank.time / 2400) w.bank.time ((so_far w).ticks + 1) ticks_now,
@@ -382,6 +364,6 @@ reads true w outer e i =
     back t = omega arith
 reads false w outer e i =
     let tied = ticks_tie w outer tick.Read i in
-    let small : w.bank.time < 2147483648 = i.ground.small in
+    let small : w.bank.time < 2147483648 = i.ground.outside.small in
     reads_as (number_in (w.bank.time / 2400)) (marks_in (w.bank.time / 2400) w.core.line.active) w outer i (rw (lt-ltb (w.bank.time / 2400) 1073741824 (omega arith)) refl)
     (rw (lt-ltb (w.bank.time / 2400) 1073741824 (omega arith), mark_is w outer i ∙ e, i.ground.line.session_is) refl) tied.0 tied.1
