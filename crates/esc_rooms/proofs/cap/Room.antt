@@ -507,21 +507,21 @@ outside w (event.Stall at n) is g t = plain w (event.Stall at n) (line-push w.tr
 
 pub cap_law : HandlerLaw kind.Cap
 cap_law = record {
-  called = λ w g t told unheld none s. cap_called (waits_of w.core) (so_far w).signal w.trace w.core w.bank (so_far w) w.made.cap_past
-      (shut_tie w (t kind.Cap) none)
-      (shut_timer w (t kind.Cap) none) s;
-  asked = λ w g t unheld due. (tt, tt);
-  entered = λ w g t unheld none due past high. (
-    cap_entered (waits_of w.core) (so_far w).signal w.trace w.core w.bank (so_far w) w.made.cap_past refl (shut_tie w (t kind.Cap) none)
-        (shut_timer w (t kind.Cap) none) due,
-    (t kind.Cap).1,
+  called = λ w i s. cap_called (waits_of w.core) (so_far w).signal w.trace w.core w.bank (so_far w) w.made.cap_past
+      (shut_tie w (i.rest.ties kind.Cap) i.shut)
+      (shut_timer w (i.rest.ties kind.Cap) i.shut) s;
+  asked = λ w i. (tt, tt);
+  entered = λ w i. (
+    cap_entered (waits_of w.core) (so_far w).signal w.trace w.core w.bank (so_far w) w.made.cap_past refl (shut_tie w (i.rest.ties kind.Cap) i.shut)
+        (shut_timer w (i.rest.ties kind.Cap) i.shut) i.due,
+    (i.rest.ties kind.Cap).1,
     timer_off (so_far w).signal (line w.trace).edges w.made.cap_past None,
-    (t kind.Cap).3,
+    (i.rest.ties kind.Cap).3,
   );
-  beside = λ w g t unheld none due past high. elim [ kind.Cap ↦ λ ne. absurd (ne refl) | j ↦ λ ne. t j ];
-  steps = λ w answers outer given g t above alone past on left.
-      steps (so_far w).signal w.core.cap_at w outer g (t kind.Cap).3 (t kind.Cap).1 refl (t kind.Cap).0 (t kind.Cap).2 past.cap on
-      (comm_shut w.core.comm_at w.core.drive.turn.at (above kind.Comm (omega arith))) (alone kind.Tick (λ e. cc)) left;
-  later = λ w u from small g t. later w u from (t kind.Cap);
-  outside = λ w e at past g t. outside w e at g (t kind.Cap);
+  beside = λ w i. elim [ kind.Cap ↦ λ ne. absurd (ne refl) | j ↦ λ ne. i.rest.ties j ];
+  steps = λ w answers outer given i.
+      steps (so_far w).signal w.core.cap_at w outer i.rest.ground (i.rest.ties kind.Cap).3 (i.rest.ties kind.Cap).1 refl (i.rest.ties kind.Cap).0 (i.rest.ties kind.Cap).2 i.past.cap i.on
+      (comm_shut w.core.comm_at w.core.drive.turn.at (i.above kind.Comm (omega arith))) (i.alone kind.Tick (λ e. cc)) i.left;
+  later = λ w u from small i. later w u from (i.ties kind.Cap);
+  outside = λ w e i. outside w e i.now i.rest.ground (i.rest.ties kind.Cap);
 }

@@ -437,29 +437,29 @@ outside w (event.Stall at n) is past t = rw (held-push w.trace (event.Stall at n
 
 pub cmp_law : HandlerLaw kind.Cmp
 cmp_law = record {
-  called = λ w g t told unheld none s. called w t unheld (cmp_shut w.core.cmp_at none) s;
-  asked = λ w g t unheld due. (tt, tt);
-  entered = λ w g t unheld none due past high.
-      entered w t unheld (cmp_shut w.core.cmp_at none) due past (comm_shut w.core.comm_at w.core.drive.turn.at (high.shut kind.Comm (omega arith)))
-      (high.none kind.Comm (omega arith));
-  beside = λ w g t unheld none due past high. elim [
+  called = λ w i s. called w i.rest.ties i.unheld (cmp_shut w.core.cmp_at i.shut) s;
+  asked = λ w i. (tt, tt);
+  entered = λ w i.
+      entered w i.rest.ties i.unheld (cmp_shut w.core.cmp_at i.shut) i.due i.past (comm_shut w.core.comm_at w.core.drive.turn.at (i.highest.shut kind.Comm (omega arith)))
+      (i.highest.none kind.Comm (omega arith));
+  beside = λ w i. elim [
     | kind.Cmp ↦ λ ne. absurd (ne refl)
     | kind.Comm ↦ λ ne. searched_drive (drive_seen w) cmp.Raise w.core.drive.crossing
-        (comm_shut w.core.comm_at w.core.drive.turn.at (high.shut kind.Comm (omega arith)))
-        (subst (λ (x : CmpAt). commutes x ≡ false) (sym (cmp_shut w.core.cmp_at none)) refl) refl (t kind.Comm)
-    | j ↦ λ ne. t j
+        (comm_shut w.core.comm_at w.core.drive.turn.at (i.highest.shut kind.Comm (omega arith)))
+        (subst (λ (x : CmpAt). commutes x ≡ false) (sym (cmp_shut w.core.cmp_at i.shut)) refl) refl (i.rest.ties kind.Comm)
+    | j ↦ λ ne. i.rest.ties j
   ];
-  steps = λ w answers outer given g t above alone past on left. steps w.core.cmp_at w outer (record {
-    ground = g;
-    ties = t;
-    on = on;
+  steps = λ w answers outer given i. steps w.core.cmp_at w outer (record {
+    ground = i.rest.ground;
+    ties = i.rest.ties;
+    on = i.on;
     place_is = refl;
-    comm_is = comm_shut w.core.comm_at w.core.drive.turn.at (above kind.Comm (omega arith));
-    unmasked = alone kind.Tick (λ e. cc);
-    past = past;
-  }) left;
-  later = λ w u from small g t.
-      subst (λ (h : Held). CrossTied (record (cross_seen w) { time = u; held = h })) (sym (held_stays w.trace w.bank.time u from g.outside.events))
-      (cross_later (cross_seen w) u from (t kind.Cmp));
-  outside = λ w e at past g t. outside w e at past.cmp (t kind.Cmp);
+    comm_is = comm_shut w.core.comm_at w.core.drive.turn.at (i.above kind.Comm (omega arith));
+    unmasked = i.alone kind.Tick (λ e. cc);
+    past = i.past;
+  }) i.left;
+  later = λ w u from small i.
+      subst (λ (h : Held). CrossTied (record (cross_seen w) { time = u; held = h })) (sym (held_stays w.trace w.bank.time u from i.ground.outside.events))
+      (cross_later (cross_seen w) u from (i.ties kind.Cmp));
+  outside = λ w e i. outside w e i.now i.past.cmp (i.rest.ties kind.Cmp);
 }

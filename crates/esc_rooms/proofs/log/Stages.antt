@@ -48,7 +48,7 @@ use Rattle.esc_rooms.proofs.shared.Lines.{edge_now, edge_bank, line_changes, lin
 use Rattle.esc_laws.proofs.Rests.{rest_now}
 use Rattle.esc_rooms.proofs.shared.RoomSteps.{ground_noted}
 use Rattle.esc_rooms.proofs.shared.Returns.{returns_last}
-use Rattle.esc_rooms.proofs.shared.Law.{Highest, Given}
+use Rattle.esc_rooms.proofs.shared.Law.{AtEntry, AtEvent, Highest, Given}
 use Rattle.esc_rooms.proofs.log.Laws.{law}
 use Rattle.esc_laws.proofs.Comparator.{held-push, held_stays, held_now, comp_now, in_time_push}
 use Rattle.esc_laws.proofs.Placed.{placed-is}
@@ -230,7 +230,8 @@ step_made k answers loaded nest trace c b made rest outer i past above alone lef
     let some : 0 < left_of w.core k = rw (counted_left k c b) left in
     let holds : HoldsAlone k w = (λ j ne. rw (counted_need j c b) (alone j ne)) in
     let was : WordTold w.core w.bank w.back = i.gates in
-    let plain : StepKeeps k outer w s = (law k).steps w answers outer given i.ground ties shut holds past on some in
+    let plain : StepKeeps k outer w s = (law k).steps w answers outer given
+        (record { rest = record { ground = i.ground; ties = ties }; past = past; above = shut; alone = holds; on = on; left = some }) in
     elim (word_after b after (access_time b s.access)) [
       | inl same ↦ rw same.none (
         kept_stood k w rest outer s refl i.said ties (told_same k w s plain.gates was same) plain,
@@ -240,8 +241,14 @@ step_made k answers loaded nest trace c b made rest outer i past above alone lef
       )
       | inr other ↦ (
           let told : StepKeeps k outer (gated w after) s =
-          (law k).steps (gated w after) answers outer given (ground_noted w g refl refl tt refl i.ground) (λ j. gate_tie j w after (ties j)) shut holds
-          past on some in
+          (law k).steps (gated w after) answers outer given (record {
+            rest = record { ground = ground_noted w g refl refl tt refl i.ground; ties = λ j. gate_tie j w after (ties j) };
+            past = past;
+            above = shut;
+            alone = holds;
+            on = on;
+            left = some;
+          }) in
           let by = gate_said k w s plain.gates was other in
           let gate = plain.gates.fits was other.moves in
           let said : Said loaded nest trace b.time (rest ++ g ∷ []) =
@@ -304,16 +311,25 @@ pub enter_stood : (k : Kind) (loaded : Loaded) (nest : Nest) (trace : List Event
 enter_stood k loaded nest trace c b made rest stack i past none unheld due high above =
     let w : World = world_of loaded nest trace c b made rest in
     let n : Note = enters k b.time in
+    let at : AtEntry k w = record {
+      rest = record { ground = i.ground; ties = i.ties };
+      past = past;
+      told = i.gates;
+      unheld = unheld;
+      shut = none;
+      due = due;
+      highest = high;
+    } in
     let back : n ∷ reverse (opening loaded ++ rest) ≡ reverse (opening loaded ++ (rest ++ n ∷ [])) =
     sym (reverse-push (opening loaded ++ rest) n) ∙ ap reverse (append_assoc (opening loaded) rest (n ∷ [])) in
     record {
       said = subst (λ (t : ℕ). Said loaded nest trace t (rest ++ n ∷ [])) (sym (enter_time k b)) (said_push loaded nest trace b.time rest n i.said refl
-          (enter_fits k w (opening loaded ++ rest) stack (i.ties kind.Cmp) refl i.stack_is ((law k).asked w i.ground i.ties unheld due) above));
+          (enter_fits k w (opening loaded ++ rest) stack (i.ties kind.Cmp) refl i.stack_is ((law k).asked w at) above));
       gates = subst (λ (ns : List Note). WordTold (entered_core c k) (after_entry b k) ns) back (enter_told k c b (reverse (opening loaded ++ rest)) i.gates);
       ground = subst (λ (ns : List Note). Ground (record (after_enter k w) { back = ns })) back (ground_enter k w i.ground);
       ties = λ j. subst (λ (ns : List Note). Tie j (record (after_enter k w) { back = ns })) back (elim (same_kind j k) [
-        | inl e ↦ subst (λ (x : Kind). Tie x (after_enter k w)) (sym e) ((law k).entered w i.ground i.ties unheld none due past high)
-        | inr ne ↦ (law k).beside w i.ground i.ties unheld none due past high j ne
+        | inl e ↦ subst (λ (x : Kind). Tie x (after_enter k w)) (sym e) ((law k).entered w at)
+        | inr ne ↦ (law k).beside w at j ne
       ]);
       stack_is = ap (λ (ns : List Note). (place ns).stack) (sym (append_assoc (opening loaded) rest (n ∷ [])))
           ∙ ap (λ (p : Place). p.stack) (place-push (opening loaded ++ rest) n) ∙ enter_stack k (place (opening loaded ++ rest)) b.time
@@ -484,7 +500,6 @@ outside_ground w (event.Stall at n) is g = record {
 pub event_ground : (w : World) (e : Event) → tick_of e ≡ w.bank.time → Ground w → Ground (record w { trace = w.trace ++ e ∷ []; bank = after_event w.bank e })
 event_ground w e is g = subst (λ (b : Bank). Ground (record w { trace = w.trace ++ e ∷ []; bank = b })) (sym (outside_is w.bank e)) (outside_ground w e is g)
 
-pub event_tie : (j : Kind) (w : World) (e : Event) → tick_of e ≡ w.bank.time → Past w.made w.bank.time → Ground w → Ties w
-    → Tie j (record w { trace = w.trace ++ e ∷ []; bank = after_event w.bank e })
-event_tie j w e is past g t =
-    subst (λ (b : Bank). Tie j (record w { trace = w.trace ++ e ∷ []; bank = b })) (sym (outside_is w.bank e)) ((law j).outside w e is past g t)
+pub event_tie : (j : Kind) (w : World) (e : Event) → AtEvent e w → Tie j (record w { trace = w.trace ++ e ∷ []; bank = after_event w.bank e })
+event_tie j w e i =
+    subst (λ (b : Bank). Tie j (record w { trace = w.trace ++ e ∷ []; bank = b })) (sym (outside_is w.bank e)) ((law j).outside w e i)

@@ -414,41 +414,41 @@ flag_later at flag asked duty demand entered t u le d f = record {
 
 pub pwm_law : HandlerLaw kind.Pwm
 pwm_law = record {
-  called = λ w g t told unheld none s.
-      called_flag w.core.tick_at w.bank.flag (pwm_asked_at w.back) (demand_at w.back) (pwm_entered_at w.back) w.bank.time (unheld kind.Tick) (t kind.Pwm).1 s;
-  asked = λ w g t unheld due. (
+  called = λ w i s.
+      called_flag w.core.tick_at w.bank.flag (pwm_asked_at w.back) (demand_at w.back) (pwm_entered_at w.back) w.bank.time (i.unheld kind.Tick) (i.rest.ties kind.Pwm).1 s;
+  asked = λ w i. (
     tt,
-    flag_calls w.core.tick_at w.bank.flag (pwm_asked_at w.back) (demand_at w.back) (pwm_entered_at w.back) w.bank.time (flag_drives w t unheld due)
-        (t kind.Pwm).1 due,
+    flag_calls w.core.tick_at w.bank.flag (pwm_asked_at w.back) (demand_at w.back) (pwm_entered_at w.back) w.bank.time (flag_drives w i.rest.ties i.unheld i.due)
+        (i.rest.ties kind.Pwm).1 i.due,
   );
-  entered = λ w g t unheld none due past high. (
+  entered = λ w i. (
     refl,
     record {
-      new = λ e. (let z : false ≡ true = sym (duty_written w.core.tick_at (unheld kind.Tick)) ∙ e in cc);
+      new = λ e. (let z : false ≡ true = sym (duty_written w.core.tick_at (i.unheld kind.Tick)) ∙ e in cc);
       asks = λ l e. cc;
       counted = λ l e c. absurd (omega arith);
       only = λ l e. cc;
       past = omega arith;
     },
   );
-  beside = λ w g t unheld none due past high. elim [
+  beside = λ w i. elim [
     | kind.Pwm ↦ λ ne. absurd (ne refl)
     | kind.Tick ↦ λ ne. (
-      (t kind.Tick).0,
-      (t kind.Tick).1,
-      (t kind.Tick).2,
-      (t kind.Tick).3,
-      λ z. absurd (let l = flag_drives w t unheld due in omega arith),
+      (i.rest.ties kind.Tick).0,
+      (i.rest.ties kind.Tick).1,
+      (i.rest.ties kind.Tick).2,
+      (i.rest.ties kind.Tick).3,
+      λ z. absurd (let l = flag_drives w i.rest.ties i.unheld i.due in omega arith),
     )
-    | j ↦ λ ne. t j
+    | j ↦ λ ne. i.rest.ties j
   ];
-  steps = λ w answers outer given g t above alone past on left.
-      steps w.core.pwm_at w outer g t refl (comm_shut w.core.comm_at w.core.drive.turn.at (above kind.Comm (omega arith)))
-      (duty_is w.core.tick_at w.bank.duty (demand_at w.back) (alone kind.Tick (λ e. cc)) (t kind.Tick).3) (t kind.Pwm).0 on left;
-  later = λ w u from small g t. (
-    (t kind.Pwm).0,
-    flag_later w.core.tick_at w.bank.flag (pwm_asked_at w.back) w.bank.duty (demand_at w.back) (pwm_entered_at w.back) w.bank.time u from (t kind.Tick).3
-        (t kind.Pwm).1,
+  steps = λ w answers outer given i.
+      steps w.core.pwm_at w outer i.rest.ground i.rest.ties refl (comm_shut w.core.comm_at w.core.drive.turn.at (i.above kind.Comm (omega arith)))
+      (duty_is w.core.tick_at w.bank.duty (demand_at w.back) (i.alone kind.Tick (λ e. cc)) (i.rest.ties kind.Tick).3) (i.rest.ties kind.Pwm).0 i.on i.left;
+  later = λ w u from small i. (
+    (i.ties kind.Pwm).0,
+    flag_later w.core.tick_at w.bank.flag (pwm_asked_at w.back) w.bank.duty (demand_at w.back) (pwm_entered_at w.back) w.bank.time u from (i.ties kind.Tick).3
+        (i.ties kind.Pwm).1,
   );
-  outside = λ w e at past g t. t kind.Pwm;
+  outside = λ w e i. i.rest.ties kind.Pwm;
 }

@@ -449,61 +449,61 @@ shut_at w none t = subst (λ (p : TickAt). DutyTied p w.bank.duty (demand_at w.b
 
 pub tick_law : HandlerLaw kind.Tick
 tick_law = record {
-  called = λ w g t told unheld none s.
-      tick_due (waits_of w.core) w.bank (rw ((t kind.Tick).1, g.control.ties.number_is) (ltb-true (number_at w.back) (w.bank.time / 2400) s));
-  asked = λ w g t unheld due. (tt, tt);
-  entered = λ w g t unheld none due past high. (
-    (due_tick (waits_of w.core) w.bank (t kind.Tick).2 due, refl),
-    (t kind.Tick).1,
-    (t kind.Tick).2,
-    shut_at w none t,
+  called = λ w i s.
+      tick_due (waits_of w.core) w.bank (rw ((i.rest.ties kind.Tick).1, i.rest.ground.control.ties.number_is) (ltb-true (number_at w.back) (w.bank.time / 2400) s));
+  asked = λ w i. (tt, tt);
+  entered = λ w i. (
+    (due_tick (waits_of w.core) w.bank (i.rest.ties kind.Tick).2 i.due, refl),
+    (i.rest.ties kind.Tick).1,
+    (i.rest.ties kind.Tick).2,
+    shut_at w i.shut i.rest.ties,
     λ z. record {
       rest = subst (λ (p : TickAt). RestAt p w.bank.hi w.bank.lo w.bank.flag w.bank.comm w.core.drive.postponed w.bank.stuck)
-          (tick_shut w.core.tick_at none) ((t kind.Tick).4 z).rest;
-      pwm_shut = ((t kind.Tick).4 z).pwm_shut;
-      comm_shut = ((t kind.Tick).4 z).comm_shut;
+          (tick_shut w.core.tick_at i.shut) ((i.rest.ties kind.Tick).4 z).rest;
+      pwm_shut = ((i.rest.ties kind.Tick).4 z).pwm_shut;
+      comm_shut = ((i.rest.ties kind.Tick).4 z).comm_shut;
     },
   );
-  beside = λ w g t unheld none due past high. elim [
+  beside = λ w i. elim [
     | kind.Tick ↦ λ ne. absurd (ne refl)
     | kind.Pwm ↦ λ ne. (
-      (t kind.Pwm).0,
+      (i.rest.ties kind.Pwm).0,
       same_flag tick.Shut tick.Raise w.bank.flag (pwm_asked_at w.back) (demand_at w.back) (pwm_entered_at w.back) w.bank.time refl
           (subst (λ (p : TickAt). FlagTied p w.bank.flag (pwm_asked_at w.back) (demand_at w.back) (pwm_entered_at w.back) w.bank.time)
-          (tick_shut w.core.tick_at none) (t kind.Pwm).1),
+          (tick_shut w.core.tick_at i.shut) (i.rest.ties kind.Pwm).1),
     )
     | kind.Comm ↦ λ ne. retimed (drive_seen w) tick.Raise
         (λ e l s. timer_retimed (drive_seen w) tick.Raise
-        (subst (λ (p : TickAt). LowTied p (drive_seen w)) (tick_shut w.core.tick_at none) ((t kind.Comm).low e l s))) (t kind.Comm)
+        (subst (λ (p : TickAt). LowTied p (drive_seen w)) (tick_shut w.core.tick_at i.shut) ((i.rest.ties kind.Comm).low e l s))) (i.rest.ties kind.Comm)
     | kind.Cap ↦ λ ne. (
-      (t kind.Cap).0,
-      (t kind.Cap).1,
-      (t kind.Cap).2,
-      period_retimed w tick.Raise (sym (ap ends_drive (tick_shut w.core.tick_at none))) (t kind.Cap).3,
+      (i.rest.ties kind.Cap).0,
+      (i.rest.ties kind.Cap).1,
+      (i.rest.ties kind.Cap).2,
+      period_retimed w tick.Raise (sym (ap ends_drive (tick_shut w.core.tick_at i.shut))) (i.rest.ties kind.Cap).3,
     )
-    | kind.Cmp ↦ λ ne. cross_retimed (cross_seen w) tick.Raise (sym (ap ends_drive (tick_shut w.core.tick_at none))) (t kind.Cmp)
-    | j ↦ λ ne. t j
+    | kind.Cmp ↦ λ ne. cross_retimed (cross_seen w) tick.Raise (sym (ap ends_drive (tick_shut w.core.tick_at i.shut))) (i.rest.ties kind.Cmp)
+    | j ↦ λ ne. i.rest.ties j
   ];
-  steps = λ w answers outer given g t above alone past on left. steps w.core.tick_at w outer (record {
-    ground = g;
-    ties = t;
-    on = on;
+  steps = λ w answers outer given i. steps w.core.tick_at w outer (record {
+    ground = i.rest.ground;
+    ties = i.rest.ties;
+    on = i.on;
     place_is = refl;
-    comm_is = comm_shut w.core.comm_at w.core.drive.turn.at (above kind.Comm (omega arith));
-    pwm_is = pwm_shut w.core.pwm_at (above kind.Pwm (omega arith));
-    cmp_is = cmp_shut w.core.cmp_at (above kind.Cmp (omega arith));
-  }) left;
-  later = λ w u from small g t. (
-    later w.core.tick_at w.bank.number_read w.bank.time u (so_far w).ticks from (t kind.Tick).0,
-    (t kind.Tick).1,
-    (let r = (t kind.Tick).2 in omega arith),
-    (t kind.Tick).3,
+    comm_is = comm_shut w.core.comm_at w.core.drive.turn.at (i.above kind.Comm (omega arith));
+    pwm_is = pwm_shut w.core.pwm_at (i.above kind.Pwm (omega arith));
+    cmp_is = cmp_shut w.core.cmp_at (i.above kind.Cmp (omega arith));
+  }) i.left;
+  later = λ w u from small i. (
+    later w.core.tick_at w.bank.number_read w.bank.time u (so_far w).ticks from (i.ties kind.Tick).0,
+    (i.ties kind.Tick).1,
+    (let r = (i.ties kind.Tick).2 in omega arith),
+    (i.ties kind.Tick).3,
     λ z. record {
       rest = rest_later w.core.tick_at w.bank.hi w.bank.lo w.bank.flag w.bank.comm w.core.drive.postponed w.bank.stuck w.bank.duty (demand_at w.back)
-          w.bank.time u z (t kind.Tick).3 ((t kind.Tick).4 z).rest;
-      pwm_shut = ((t kind.Tick).4 z).pwm_shut;
-      comm_shut = ((t kind.Tick).4 z).comm_shut;
+          w.bank.time u z (i.ties kind.Tick).3 ((i.ties kind.Tick).4 z).rest;
+      pwm_shut = ((i.ties kind.Tick).4 z).pwm_shut;
+      comm_shut = ((i.ties kind.Tick).4 z).comm_shut;
     },
   );
-  outside = λ w e at past g t. (t kind.Tick);
+  outside = λ w e i. (i.rest.ties kind.Tick);
 }
