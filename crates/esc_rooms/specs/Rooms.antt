@@ -2,7 +2,7 @@
 -- What ties the core and the registers to the notes and the trace: what all handlers share, and a tie for each handler.
 -- Each fact holds between any two steps. A tie is a function of what it reads, so it stands by computation after each step
 -- that leaves that.
-use Rattle.std.specs.Prelude.{◌≡◌, ◌≢◌, ◌<◌, ◌≤◌, ◌/◌, ◌%◌, ℕ, Bool, true, List, [], ◌∷◌, Option, Some, None, All, ◌+◌, false}
+use Rattle.std.specs.Prelude.{◌≡◌, ◌≢◌, ◌<◌, ◌≤◌, ◌/◌, ◌%◌, ℕ, Bool, true, List, [], ◌∷◌, Option, Some, None, All, false}
 use Rattle.esc_base.specs.declared.kind.Kind.{Kind}
 use Rattle.esc_base.specs.declared.kind.Kind.TheVariants as kind
 use Rattle.esc_base.specs.declared.event.Event.{Event}
@@ -19,7 +19,7 @@ use Rattle.esc_core.specs.Line.{Line}
 use Rattle.esc_core.specs.declared.orders.Orders.{Orders}
 use Rattle.esc_core.specs.Stepped.{Stepped}
 use Rattle.esc_base.specs.Legs.{is_on}
-use Rattle.commutation.specs.Sectors.{high_of, low_of}
+use Rattle.commutation.specs.Sectors.{high_of}
 use Rattle.esc_core.specs.Firmware.{left_of, need_of, uart_left}
 use Rattle.esc_base.specs.Numbers.{kind_number, as_tick}
 use Rattle.timer_regs.specs.Bank.{Bank}

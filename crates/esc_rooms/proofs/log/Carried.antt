@@ -38,7 +38,7 @@ use Rattle.esc_laws.specs.Legal.{Legal, LegalFront}
 use Rattle.esc_rooms.specs.Logged.{Logged, CoreTurn, turned}
 use Rattle.esc_laws.specs.Looks.{Made, made}
 use Rattle.esc_rooms.specs.World.{world, after_event, enters}
-use Rattle.esc_rooms.specs.Rooms.{Past, Ground, Tie}
+use Rattle.esc_rooms.specs.Rooms.{Past}
 use Rattle.esc_laws.specs.Chopped.{Chopped}
 use Rattle.esc_rooms.specs.ChopSteps.{ChopFits}
 use Rattle.esc_laws.proofs.Pushes.{All-later, journal-push, notes-push}

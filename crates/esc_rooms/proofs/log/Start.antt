@@ -14,7 +14,7 @@ use Rattle.interrupt_machine.specs.Response.{Patient}
 use Rattle.arming.specs.Kept.{start}
 use Rattle.arming.specs.Stands.{Stands}
 use Rattle.arming.proofs.FrameTies.{start_stands, other_stands}
-use Rattle.fourway_packet.specs.Queue.{no_bytes, Queue}
+use Rattle.fourway_packet.specs.Queue.{Queue}
 use Rattle.esc_core.specs.Firmware.{left_of, need_of, new_core}
 use Rattle.esc_laws.specs.Place.{Place}
 use Rattle.esc_laws.specs.Seen.{sees}

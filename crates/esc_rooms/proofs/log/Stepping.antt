@@ -32,7 +32,6 @@ use Rattle.esc_laws.specs.Steps.{Turned, opening, notes_in, journal, after, uses
 use Rattle.esc_rooms.specs.Tied.{Keeps, WordTold}
 use Rattle.esc_laws.specs.Looks.{made}
 use Rattle.esc_rooms.specs.World.{world, enters, all_notes, open_left}
-use Rattle.esc_rooms.specs.Rooms.{Ground, Tie}
 use Rattle.esc_rooms.specs.Logged.{Logged}
 use Rattle.esc_laws.proofs.Pushes.{notes-push, own-push, made-push, since-push}
 use Rattle.esc_laws.proofs.Stalls.{free_ended}
