@@ -17,18 +17,18 @@ use Rattle.esc_laws.specs.Place.{Place, place, next}
 use Rattle.esc_laws.specs.Seen.{sees}
 use Rattle.esc_laws.specs.Steps.{Turned, is_entry, journal, open_in, own_steps, called, is_called, free, EachStep, Awaits, StepFits}
 use Rattle.esc_laws.proofs.Pushes.{place-push, journal-push, own-push, called-push}
-use Rattle.esc_chopping.specs.ChopView.{View, view, by_of, by_kind, has_leave, pwm_called, comm_called, is_comm, wait_next as waits_next}
-use Rattle.esc_chopping.specs.ChopLog.{BothIdle, NonePassed}
-use Rattle.esc_chopping.specs.ChopLaws.{IsTurn, StepMade, DriveFits}
-use Rattle.esc_chopping.specs.ChopBridge.{OneBack, BridgeFits, CallsSeen, SeesDrive}
-use Rattle.esc_chopping.proofs.ChopCalls.{Asks, asks_next, asks_start, seen_of}
+use Rattle.esc_chopping.specs.View.{View, view, by_of, by_kind, has_leave, pwm_called, comm_called, is_comm, wait_next as waits_next}
+use Rattle.esc_chopping.specs.Log.{BothIdle, NonePassed}
+use Rattle.esc_chopping.specs.Laws.{IsTurn, StepMade, DriveFits}
+use Rattle.esc_chopping.specs.FromSteps.{OneBack, BridgeFits, CallsSeen, SeesDrive}
+use Rattle.esc_chopping.proofs.Calls.{Asks, asks_next, asks_start, seen_of}
 use Rattle.esc_base.specs.Range.{InRange}
-use Rattle.esc_chopping.specs.ChopPairs.{PairFits}
-use Rattle.esc_chopping.specs.ChopNotes.{NotesFit}
+use Rattle.esc_chopping.specs.Pairs.{PairFits}
+use Rattle.esc_chopping.specs.Notes.{NotesFit}
 use Rattle.esc_laws.specs.Chopped.{Chopped}
-use Rattle.esc_chopping.proofs.ChopPushes.{view-push, view-none}
-use Rattle.esc_chopping.proofs.ChopBack.{times_fit, is_chopped}
-use Rattle.esc_chopping.proofs.ChopHigh.{same_after, waits_after as pwm_waits_after}
+use Rattle.esc_chopping.proofs.Pushes.{view-push, view-none}
+use Rattle.esc_chopping.proofs.OfJournal.{times_fit, is_chopped}
+use Rattle.esc_chopping.proofs.High.{same_after, waits_after as pwm_waits_after}
 use Rattle.std.proofs.lemmas.Bool.{and_from}
 use Rattle.interrupt_machine.proofs.OpenKinds.{kind_of-number, innermost_first}
 use Rattle.gate_driver.proofs.Bits.{off_is}

@@ -2,8 +2,8 @@
 use Rattle.std.proofs.Common.{◌≡◌, ◌≤◌, ◌<◌, ℕ, List, [], ◌∷◌, ◌++◌, refl, ap, arith}
 use Rattle.std.proofs.lemmas.List.Sums.{fold_push}
 use Rattle.esc_laws.specs.Steps.{Turned}
-use Rattle.esc_chopping.specs.ChopView.{unmoved, view, view_next}
-use Rattle.esc_chopping.specs.ChopLog.{steps_by}
+use Rattle.esc_chopping.specs.View.{unmoved, view, view_next}
+use Rattle.esc_chopping.specs.Log.{steps_by}
 use Rattle.std.proofs.lemmas.Bool.{le-leb, lt-leb}
 
 pub view-push : (log : List Turned) (e : Turned) → view (log ++ e ∷ []) ≡ view_next (view log) e

@@ -5,10 +5,10 @@ use Rattle.std.proofs.lemmas.Bool.Decides.{nat_tests}
 use Rattle.esc_base.specs.declared.note.Note.{Note}
 use Rattle.esc_base.specs.declared.note.Note.TheVariants as note
 use Rattle.esc_laws.specs.Steps.{Turned}
-use Rattle.esc_chopping.specs.ChopView.{By, View, unmoved, view_next, moved_by, told_by, by_of}
-use Rattle.esc_chopping.specs.ChopView.By.{CommEnters, CommSteps, PwmEnters, PwmSteps, Lower}
-use Rattle.esc_chopping.specs.ChopLaws.{IsTurn}
-use Rattle.esc_chopping.specs.ChopPlaced.{Placed}
+use Rattle.esc_chopping.specs.View.{By, View, unmoved, view_next, moved_by, told_by, by_of}
+use Rattle.esc_chopping.specs.View.By.{CommEnters, CommSteps, PwmEnters, PwmSteps, Lower}
+use Rattle.esc_chopping.specs.Laws.{IsTurn}
+use Rattle.esc_chopping.specs.Placed.{Placed}
 
 -- what notes leave
 pub record Same (v w : View) : Type 0 where

@@ -5,14 +5,14 @@ use Rattle.std.proofs.lemmas.Bool.{cases_lt}
 use Rattle.std.proofs.lemmas.Bool.Decides.{nat_tests}
 use Rattle.esc_base.specs.Legs.{is_on}
 use Rattle.commutation.specs.Sectors.{high_of}
-use Rattle.esc_chopping.specs.ChopView.{By, View, moved_by, pwm_called, wait_next, is_comm}
+use Rattle.esc_chopping.specs.View.{By, View, moved_by, pwm_called, wait_next, is_comm}
 use Rattle.esc_base.specs.Periods.{edges}
-use Rattle.esc_chopping.specs.ChopView.By.{CommEnters, CommSteps, PwmEnters, PwmSteps, Lower}
-use Rattle.esc_chopping.specs.ChopLog.{BothIdle}
-use Rattle.esc_chopping.specs.ChopLaws.{IsTurn, Chops, may_chop, is_quiet}
-use Rattle.esc_chopping.specs.ChopPlaced.{Placed}
-use Rattle.esc_chopping.specs.ChopFresh.{IsEdge, Stale, Early, Fresh}
-use Rattle.esc_chopping.proofs.ChopPlaced.{Same, own_cases, OwnFirst, OwnWrites, OwnOther}
+use Rattle.esc_chopping.specs.View.By.{CommEnters, CommSteps, PwmEnters, PwmSteps, Lower}
+use Rattle.esc_chopping.specs.Log.{BothIdle}
+use Rattle.esc_chopping.specs.Laws.{IsTurn, Chops, may_chop, is_quiet}
+use Rattle.esc_chopping.specs.Placed.{Placed}
+use Rattle.esc_chopping.specs.Fresh.{IsEdge, Stale, Early, Fresh}
+use Rattle.esc_chopping.proofs.Placed.{Same, own_cases, OwnFirst, OwnWrites, OwnOther}
 use Rattle.std.proofs.lemmas.Bool.{lt-ltb}
 use Rattle.std.proofs.lemmas.Bool.{or_right}
 
