@@ -9,3 +9,4 @@ pub mod Level
 pub mod OfJournal
 pub mod Calls
 pub mod FromSteps
+pub mod OpenKinds

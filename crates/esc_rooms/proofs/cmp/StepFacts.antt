@@ -1,5 +1,5 @@
 -- What each of CMP's steps makes of the search for a crossing.
-use Rattle.std.proofs.Common.{◌≡◌, ◌≤◌, ◌<◌, ◌+◌, ◌⊎◌, inl, inr, ℕ, Bool, true, false, not, ◌&&◌, ◌||◌, nat_le, if◌then◌else◌, Some, None, refl, ◌∙◌, ap, arith}
+use Rattle.std.proofs.Common.{◌≡◌, ◌≤◌, ◌+◌, ◌⊎◌, inl, inr, ℕ, Bool, true, false, not, ◌&&◌, ◌||◌, nat_le, if◌then◌else◌, Some, None, refl, ◌∙◌, ap, arith}
 use Rattle.std.proofs.lemmas.Bool.{and_parts}
 use Rattle.std.proofs.lemmas.Bool.Decides.{nat_tests}
 use Rattle.esc_base.specs.Numbers.{as_tick}
@@ -15,7 +15,7 @@ use Rattle.esc_core.specs.declared.state.CmpAt.TheVariants as cmp
 use Rattle.esc_laws.specs.Searched.{Sight, Away, Begun, Awaits, First, Settles, Second, sight_left, sight_crossed}
 use Rattle.esc_rooms.specs.CrossTied.{CrossView, CrossTied, PhaseTied, Armed, Filters, SightTied, IsBlanked, LateTied, HasQ, HasZ, to_come, is_some, is_shut, is_begun}
 use Rattle.esc_laws.proofs.Comparator.{bit_acked}
-use Rattle.std.proofs.lemmas.Bool.{leb-true}
+use Rattle.std.proofs.lemmas.Bool.{leb-true, leb-false}
 use Rattle.esc_rooms.proofs.cmp.CrossFacts.{is_false}
 use Rattle.std.proofs.lemmas.Bool.{or_right}
 use Rattle.esc_rooms.proofs.cmp.Facts.{Stands, Free, phase_more, passes_more, seen_moves, Goes}
@@ -70,9 +70,6 @@ few_reject q true true e l = l
 few_reject q false true e l = cc
 few_reject q changed false e l = l
 
-gt_by : (m n : ℕ) → nat_le m n ≡ false → n < m
-gt_by m n e = grind (arith, nat_tests)
-
 -- nothing is due
 pub looked_off : (v : CrossView) → Free v → Stands v cmp.Look phase.Off → Goes v cmp.Lower phase.Off v.changed v.enabled v.timer
 looked_off v free s = record {
@@ -107,18 +104,18 @@ looked_early v end early free s = record {
   few = few_early (v.quiet v.held.since) (is_expected v.search v.level) (armed s.regs.0 s.few);
   seen = seen_moves v.sight cmp.Look cmp.Lower (phase.Blank (as_tick end)) (phase.Blank (as_tick end)) v.held v.expects v.blanked v.time v.past (v.time + 1)
       (let l = free.past in omega arith) refl
-      (λ i l f. absurd (let a = gt_by end v.time early in let b : end ≤ v.time = f in omega arith)) (λ i z l f e. absurd (f e)) s.seen;
+      (λ i l f. absurd (let a = leb-false end v.time early in let b : end ≤ v.time = f in omega arith)) (λ i z l f e. absurd (f e)) s.seen;
   late = tt;
 }
   where
     waits : (v.timer ≡ Some end) ⊎ ((v.timer ≡ None) × (end ≤ v.time)) → v.enabled ≡ false → (v.timer ≡ Some end) × (v.enabled ≡ false)
     waits (inl c) h = (c, h)
-    waits (inr c) h = absurd (let a = gt_by end v.time early in let b = c.1 in omega arith)
+    waits (inr c) h = absurd (let a = leb-false end v.time early in let b = c.1 in omega arith)
 
     armed : (v.timer ≡ Some end) ⊎ ((v.timer ≡ None) × (end ≤ v.time))
         → v.quiet v.held.since + (if is_some v.timer then 3 else if is_expected v.search v.level then 1 else 0) ≤ 3 → v.quiet v.held.since + 3 ≤ 3
     armed (inl c) f = rw c at f
-    armed (inr c) f = absurd (let a = gt_by end v.time early in let b = c.1 in omega arith)
+    armed (inr c) f = absurd (let a = leb-false end v.time early in let b = c.1 in omega arith)
 
 -- blanking is over: a change of the comparator asks for CMP
 pub looked_blanked : (v : CrossView) (end : ℕ) → nat_le end v.time ≡ true → Free v → Stands v cmp.Look (phase.Blank (as_tick end))

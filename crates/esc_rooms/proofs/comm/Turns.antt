@@ -1,6 +1,6 @@
 -- COMM's first steps: it decides, and changes the sector.
 use Rattle.std.proofs.Common.{◌≡◌, ◌≤◌, ◌<◌, ◌+◌, ◌-◌, inl, inr, ℕ, zero, suc, min, Bool, true, false, ◌&&◌, ◌||◌, ◌==◌, nat_le, bit_and, if◌then◌else◌, List, ◌∷◌, take, refl, sym, ◌∙◌, ap, subst, arith}
-use Rattle.std.proofs.lemmas.Bool.{cases_lt, leb-true, le-leb}
+use Rattle.std.proofs.lemmas.Bool.{cases_lt, leb-true, leb-false, le-leb}
 use Rattle.std.proofs.lemmas.Bool.Decides.{nat_tests}
 use Rattle.esc_base.specs.declared.kind.Kind.{Kind}
 use Rattle.esc_base.specs.declared.kind.Kind.TheVariants as kind
@@ -136,10 +136,7 @@ resumes true w outer e early i =
 pub comm_decide_preserves : (v : Bool) (w : World) (outer : List Kind) → nat_le w.core.drive.change w.bank.time ≡ v → IsComm w outer comm.Decide w.core.drive.turn.at
     → StepKeeps kind.Comm outer w (decided v w.core w.bank)
 comm_decide_preserves true w outer e i = begins_turn w outer (leb-true w.core.drive.change w.bank.time e) i
-comm_decide_preserves false w outer e i = resumes w.core.drive.postponed w outer refl (early w.core.drive.change w.bank.time e) i
-  where
-    early : (m n : ℕ) → nat_le m n ≡ false → n < m
-    early m n e = grind (arith, nat_tests)
+comm_decide_preserves false w outer e i = resumes w.core.drive.postponed w outer refl (leb-false w.core.drive.change w.bank.time e) i
 
 -- ---- the change of sector
 

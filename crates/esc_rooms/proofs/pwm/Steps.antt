@@ -2,7 +2,6 @@
 use Rattle.std.proofs.Common.{◌≡◌, ◌<◌, ◌%◌, inl, inr, ℕ, Bool, true, false, not, ◌==◌, nat_lt, bit_and, bit_or, if◌then◌else◌, List, [], Option, Some, None, refl, sym, ◌∙◌, ap, subst, arith}
 use Rattle.std.specs.Int.Bits.{and_zero_r}
 use Rattle.std.proofs.lemmas.Bool.{lt-ltb, le-ltb}
-use Rattle.std.proofs.lemmas.Bool.Decides.{nat_tests}
 use Rattle.esc_base.specs.declared.gate.Leg.{Leg}
 use Rattle.esc_base.specs.declared.kind.Kind.{Kind}
 use Rattle.esc_base.specs.declared.kind.Kind.TheVariants as kind
@@ -29,6 +28,7 @@ use Rattle.esc_core.specs.Pwm.{chopped, pwm_step}
 use Rattle.esc_core.specs.Stepped.{Stepped}
 use Rattle.esc_core.specs.Firmware.{pwm_left}
 use Rattle.esc_laws.specs.Driven.{InPair}
+use Rattle.esc_rooms.proofs.shared.Facts.{not_zero, above_zero}
 use Rattle.esc_rooms.specs.World.{World, so_far}
 use Rattle.esc_rooms.specs.Rooms.{Ties, Chops, GateFits, GatesKeep, StepKeeps, drive_seen}
 use Rattle.esc_rooms.proofs.shared.RoomSteps.{ground_noted, inside, popped}
@@ -45,9 +45,6 @@ chops_of leg below s g b after e h = by_test below refl (subst (λ (l : Option L
   where
     some_leg : (s : ℕ) → 0 < s → chopped_leg true s ≡ Some (high_of s)
     some_leg s l = rw (not_zero s l) refl
-      where
-        not_zero : (n : ℕ) → 0 < n → (n == 0) ≡ false
-        not_zero n l = grind (arith, nat_tests)
 
     by_test : (v : Bool) → below ≡ v → HasChopped (chopped_leg below s) g b after
         → (below ≡ true → 0 < s → high_wait g b (high_of s) ≡ None → is_on after.hi (high_of s) ≡ true) × (below ≡ false → after.hi ≡ 0)
@@ -63,12 +60,9 @@ chops_of leg below s g b after e h = by_test below refl (subst (λ (l : Option L
 chopped_sector : (below : Bool) (s : ℕ) (x : Leg) → Some x ≡ chopped_leg below s → (high_of s ≡ x) × (0 < s)
 chopped_sector true s x e = by_zero (s == 0) refl e
   where
-    some_of : (n : ℕ) → (n == 0) ≡ false → 0 < n
-    some_of n e = grind (arith, nat_tests)
-
     by_zero : (v : Bool) → (s == 0) ≡ v → Some x ≡ (if not (s == 0) then Some (high_of s) else None) → (high_of s ≡ x) × (0 < s)
     by_zero true q e = absurd (let z : Some x ≡ None = e ∙ rw q refl in cc)
-    by_zero false q e = (same (e ∙ rw q refl), some_of s q)
+    by_zero false q e = (same (e ∙ rw q refl), above_zero s q)
       where
         same : Some x ≡ Some (high_of s) → high_of s ≡ x
         same f = cc
