@@ -31,13 +31,14 @@ use Rattle.esc_laws.specs.Nested.{IsAboveAll, NestRule}
 use Rattle.esc_laws.specs.Steps.{Turned, opening, load_number, journal, open_in, free, after, uses, own_steps, steps_since, entered_at, called, is_entry, StepFits, OpenFew}
 use Rattle.esc_laws.specs.Legal.{Legal}
 use Rattle.esc_laws.specs.Chopped.{disturbs}
-use Rattle.esc_laws.specs.Refused.{enters, leaves, nothing, ticks, entry, own, two_edges}
+use Rattle.esc_laws.specs.refused.Notes.{enters, leaves, nothing, ticks}
+use Rattle.esc_laws.specs.refused.Steps.{entry, own, two_edges}
 use Rattle.esc_laws.specs.Allowed.{tick_and_verdict, SomeAreLegal}
 use Rattle.esc_laws.specs.Said.{Said}
 use Rattle.esc_laws.proofs.Notes.{said_push, lawful_of}
 use Rattle.esc_laws.proofs.Opening.{first_in_range, start_said}
 use Rattle.esc_laws.proofs.ChopFront.{chopped_none}
-use Rattle.esc_laws.proofs.RefusedSteps.{none_open, no_stall_there}
+use Rattle.esc_laws.proofs.refused.Steps.{none_open, no_stall_there}
 use Rattle.esc_laws.specs.NoteLaw as owed
 
 -- no Q stands in them, and no step of COMM

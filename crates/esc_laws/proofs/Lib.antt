@@ -18,12 +18,7 @@ pub mod Notes
 pub mod NotesGrow
 pub mod Parts
 pub mod ChopFront
-pub mod Refused
-pub mod RefusedCrossings
-pub mod RefusedReplies
-pub mod RefusedDrive
 pub mod UpTo
-pub mod RefusedChops
 pub mod DutyKept
-pub mod RefusedSteps
+pub mod refused
 pub mod Allowed

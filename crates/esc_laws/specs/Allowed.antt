@@ -6,7 +6,8 @@ use Rattle.settings_block.specs.declared.stored.Loaded.{Loaded}
 use Rattle.interrupt_machine.specs.declared.nest.Nest.{Nest}
 use Rattle.esc_laws.specs.Steps.{opening}
 use Rattle.esc_laws.specs.Legal.{Legal}
-use Rattle.esc_laws.specs.Refused.{enters, leaves, nothing, ticks, two_edges}
+use Rattle.esc_laws.specs.refused.Notes.{enters, leaves, nothing, ticks}
+use Rattle.esc_laws.specs.refused.Steps.{two_edges}
 
 -- TICK works control tick 1 off in one step, and CAP judges the first window, which closed at 4200, in another one
 abbrev pub tick_and_verdict : List Note

@@ -1,9 +1,13 @@
 //! What the laws refuse, and what they don't.
 ghost use Rattle.esc_laws.specs.Allowed.{SomeAreLegal};
-ghost use Rattle.esc_laws.specs.Refused.{ControlRefuses, DriveRefuses, GatesRefuse, NestingRefuses, StepsRefuse, TurnsRefuse, WindowsRefuse};
-ghost use Rattle.esc_laws.specs.RefusedChops.{ChoppingRefuses, SomeAreChopped};
-ghost use Rattle.esc_laws.specs.RefusedCrossings.{ActivationsRefuse, CrossedTurnsRefuse, CrossingsRefuse, SearchesRefuse};
-ghost use Rattle.esc_laws.specs.RefusedReplies.{RepliesRefuse, ReplyWindowsRefuse, SomeAreReplied};
+ghost use Rattle.esc_laws.specs.refused.Control.{ControlRefuses};
+ghost use Rattle.esc_laws.specs.refused.Drive.{DriveRefuses, GatesRefuse, TurnsRefuse};
+ghost use Rattle.esc_laws.specs.refused.Nesting.{NestingRefuses};
+ghost use Rattle.esc_laws.specs.refused.Steps.{StepsRefuse};
+ghost use Rattle.esc_laws.specs.refused.Windows.{WindowsRefuse};
+ghost use Rattle.esc_laws.specs.refused.Chops.{ChoppingRefuses, SomeAreChopped};
+ghost use Rattle.esc_laws.specs.refused.Crossings.{ActivationsRefuse, CrossedTurnsRefuse, CrossingsRefuse, SearchesRefuse};
+ghost use Rattle.esc_laws.specs.refused.Replies.{RepliesRefuse, ReplyWindowsRefuse, SomeAreReplied};
 
 /// The rules of control refuse each of these small journals.
 pub fn control_refuses()

@@ -17,7 +17,8 @@ use Rattle.esc_laws.specs.Place.{place}
 use Rattle.esc_laws.specs.Rested.{first_rested}
 use Rattle.esc_laws.specs.Seen.{sees}
 use Rattle.esc_laws.specs.Steps.{Turned, opening, notes_in, journal, open_in, free, after, called, is_entry, EachStep, StepFits, Awaits}
-use Rattle.esc_laws.specs.Refused.{enters, leaves, ticks, entry, own, two_edges, cap_waits, two_later_edges, cap_rests, drive_waits, drive_starts, StepsRefuse}
+use Rattle.esc_laws.specs.refused.Notes.{enters, leaves, ticks}
+use Rattle.esc_laws.specs.refused.Steps.{entry, own, two_edges, cap_waits, two_later_edges, cap_rests, drive_waits, drive_starts, StepsRefuse}
 use Rattle.esc_laws.proofs.Pushes.{journal-push, after-push, after-none, free-none, own-push}
 use Rattle.esc_laws.proofs.Stalls.{free_later}
 

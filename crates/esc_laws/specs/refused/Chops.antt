@@ -5,7 +5,7 @@ use Rattle.std.specs.Prelude.{ℕ, ◌≤◌, List, [], ◌∷◌, ◌++◌, All
 use Rattle.esc_base.specs.declared.note.Note.{Note}
 use Rattle.esc_base.specs.Journal.{time_of}
 use Rattle.esc_laws.specs.Chopped.{Undisturbed, Chopped}
-use Rattle.esc_laws.specs.Refused.{first_two, ticks, switches, turns}
+use Rattle.esc_laws.specs.refused.Notes.{first_two, ticks, switches, turns}
 
 -- a drive with demand 100 starts in sector 1, whose high leg is A, word 1, and whose low one is B, word 2
 abbrev pub drive : List Note → List Note

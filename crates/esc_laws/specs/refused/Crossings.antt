@@ -12,7 +12,9 @@ use Rattle.commutation.specs.Commutated.{Commutated}
 use Rattle.esc_laws.specs.Crossed.{Crossed}
 use Rattle.esc_laws.specs.Searched.{Searched}
 use Rattle.esc_laws.specs.Steps.{Turned, StepFits}
-use Rattle.esc_laws.specs.Refused.{enters, leaves, ticks, turns, crosses, first_two, Unnested, entry, own}
+use Rattle.esc_laws.specs.refused.Notes.{enters, leaves, ticks, turns, crosses, first_two}
+use Rattle.esc_laws.specs.refused.Nesting.{Unnested}
+use Rattle.esc_laws.specs.refused.Steps.{entry, own}
 
 -- a drive that goes forward throughout
 abbrev pub forwards : List Note → Bool

@@ -17,10 +17,12 @@ use Rattle.esc_laws.specs.Replied.{reply_start, ReplyRuleAt, ReplyRule, Replied}
 use Rattle.esc_laws.specs.Seen.{sees}
 use Rattle.esc_laws.specs.Steps.{journal, open_in, free, after, StepFits}
 use Rattle.esc_laws.specs.Looks.{placed}
-use Rattle.esc_laws.specs.Refused.{enters, leaves, window, bad, found, ticks, turns, first_two, entry}
-use Rattle.esc_laws.specs.RefusedReplies.{tells, replies, none_bits, thousand_bits, listens, with_frame, with_period, with_reply, changes_at, six_turns, seven_turns, later_frame, reply_ends, RepliesRefuse, ReplyWindowsRefuse, SomeAreReplied}
+use Rattle.esc_laws.specs.refused.Notes.{enters, leaves, window, bad, found, ticks, turns, first_two}
+use Rattle.esc_laws.specs.refused.Steps.{entry}
+use Rattle.esc_laws.specs.refused.Replies.{tells, replies, none_bits, thousand_bits, listens, with_frame, with_period, with_reply, changes_at, six_turns, seven_turns, later_frame, reply_ends, RepliesRefuse, ReplyWindowsRefuse, SomeAreReplied}
 use Rattle.esc_laws.proofs.Rests.{first_more}
-use Rattle.esc_laws.proofs.Refused.{window_fits, nest_fits}
+use Rattle.esc_laws.proofs.refused.Windows.{window_fits}
+use Rattle.esc_laws.proofs.refused.Nesting.{nest_fits}
 use Rattle.esc_laws.proofs.Placed.{placed-is}
 
 -- ---- replies

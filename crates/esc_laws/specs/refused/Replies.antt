@@ -11,7 +11,10 @@ use Rattle.settings_block.specs.declared.stored.Loaded.{Loaded}
 use Rattle.interrupt_machine.specs.declared.nest.Nest.{Nest}
 use Rattle.esc_laws.specs.Replied.{Replied}
 use Rattle.esc_laws.specs.Steps.{Turned, StepFits}
-use Rattle.esc_laws.specs.Refused.{enters, leaves, window, good, bad, found, ticks, turns, first_two, Unwindowed, Unnested, entry, own}
+use Rattle.esc_laws.specs.refused.Notes.{enters, leaves, window, good, bad, found, ticks, turns, first_two}
+use Rattle.esc_laws.specs.refused.Windows.{Unwindowed}
+use Rattle.esc_laws.specs.refused.Nesting.{Unnested}
+use Rattle.esc_laws.specs.refused.Steps.{entry, own}
 
 -- V and R
 abbrev pub tells : ℕ → Option ℕ → Note

@@ -8,7 +8,8 @@ use Rattle.commutation.specs.Commutated.{Commutated, TurnRule}
 use Rattle.gate_driver.specs.DeadSafe.{DeadSafe, IsSafe}
 use Rattle.esc_laws.specs.Driven.{Driven, IsDriven}
 use Rattle.esc_laws.specs.Saves.{forward_at}
-use Rattle.esc_laws.specs.Refused.{ticks, acts, leaves, switches, turns, crosses, driving, GatesRefuse, DriveRefuses, TurnsRefuse}
+use Rattle.esc_laws.specs.refused.Notes.{ticks, acts, leaves, switches, turns, crosses}
+use Rattle.esc_laws.specs.refused.Drive.{driving, GatesRefuse, DriveRefuses, TurnsRefuse}
 
 -- ---- the dead time
 

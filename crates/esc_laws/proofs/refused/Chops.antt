@@ -15,8 +15,8 @@ use Rattle.commutation.specs.Commutated.{sector_at}
 use Rattle.gate_driver.specs.DeadSafe.{low_at, low_free_at}
 use Rattle.esc_laws.specs.Steps.{stall_end}
 use Rattle.esc_laws.specs.Chopped.{upto, by_tick, disturbs, Undisturbed, IsChopped, Chopped}
-use Rattle.esc_laws.specs.Refused.{first_two, ticks, switches}
-use Rattle.esc_laws.specs.RefusedChops.{drive, low_on, ChoppingRefuses, in_time, SomeAreChopped}
+use Rattle.esc_laws.specs.refused.Notes.{first_two, ticks, switches}
+use Rattle.esc_laws.specs.refused.Chops.{drive, low_on, ChoppingRefuses, in_time, SomeAreChopped}
 use Rattle.esc_laws.proofs.UpTo.{up_to_all, up_to_none, up_to_before}
 
 -- ---- a drive whose newest K, Q and low switches stand early enough, and then gates alone

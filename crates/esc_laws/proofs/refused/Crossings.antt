@@ -19,10 +19,11 @@ use Rattle.esc_laws.specs.Searched.{Searched, SearchRule}
 use Rattle.esc_laws.specs.Saves.{advance_of}
 use Rattle.esc_laws.specs.Calls.{HasTurned, HasCaughtUp, turns_in, turn_was_due}
 use Rattle.esc_laws.specs.Steps.{journal, open_in, free, after, StepFits}
-use Rattle.esc_laws.specs.Refused.{enters, leaves, ticks, turns, crosses, first_two, entry}
-use Rattle.esc_laws.specs.RefusedCrossings.{forwards, first_turn, up_from, commutes, looks, first_sector, CrossingsRefuse, CrossedTurnsRefuse, SearchesRefuse, ActivationsRefuse}
+use Rattle.esc_laws.specs.refused.Notes.{enters, leaves, ticks, turns, crosses, first_two}
+use Rattle.esc_laws.specs.refused.Steps.{entry}
+use Rattle.esc_laws.specs.refused.Crossings.{forwards, first_turn, up_from, commutes, looks, first_sector, CrossingsRefuse, CrossedTurnsRefuse, SearchesRefuse, ActivationsRefuse}
 use Rattle.arming.proofs.InOrder.{each_at}
-use Rattle.esc_laws.proofs.Refused.{nest_fits}
+use Rattle.esc_laws.proofs.refused.Nesting.{nest_fits}
 
 -- ---- crossings
 
