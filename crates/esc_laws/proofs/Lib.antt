@@ -2,6 +2,7 @@ pub mod Apart
 pub mod Modes
 pub mod Opening
 pub mod Placed
+pub mod Flash
 pub mod Pushes
 pub mod Stalls
 pub mod Rests
@@ -21,4 +22,4 @@ pub mod ChopFront
 pub mod UpTo
 pub mod DutyKept
 pub mod refused
-pub mod Allowed
+pub mod allowed

@@ -6,3 +6,4 @@ pub mod Steps
 pub mod Crossings
 pub mod Replies
 pub mod Chops
+pub mod Flash

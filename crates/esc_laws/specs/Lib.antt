@@ -21,5 +21,5 @@ pub mod Said
 pub mod Legal
 pub mod Saves
 pub mod refused
-pub mod Allowed
+pub mod allowed
 pub mod DutyKept

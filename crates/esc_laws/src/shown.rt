@@ -1,5 +1,9 @@
 //! What the laws refuse, and what they don't.
-ghost use Rattle.esc_laws.specs.Allowed.{SomeAreLegal};
+ghost use Rattle.esc_laws.specs.allowed.Journals.{SomeAreLegal};
+ghost use Rattle.esc_laws.specs.allowed.Calls.{CallsBegin};
+ghost use Rattle.esc_laws.specs.allowed.Flash.{SomeFlashesFit};
+ghost use Rattle.esc_laws.specs.allowed.Windows.{SomeWindowsOpen};
+ghost use Rattle.esc_laws.specs.refused.Flash.{FlashRefuses};
 ghost use Rattle.esc_laws.specs.refused.Control.{ControlRefuses};
 ghost use Rattle.esc_laws.specs.refused.Drive.{DriveRefuses, GatesRefuse, TurnsRefuse};
 ghost use Rattle.esc_laws.specs.refused.Nesting.{NestingRefuses};
@@ -92,4 +96,24 @@ pub fn some_are_chopped()
 /// Some whole journals are legal.
 pub fn some_are_legal()
     ensures { SomeAreLegal }
+{}
+
+/// From which ticks on small journals call for each kind.
+pub fn calls_begin()
+    ensures { CallsBegin }
+{}
+
+/// The law of saves refuses each of these flashes.
+pub fn flash_refuses()
+    ensures { FlashRefuses }
+{}
+
+/// And it allows some: one whose save was done, and one whose save was refused.
+pub fn some_flashes_fit()
+    ensures { SomeFlashesFit }
+{}
+
+/// The rules of windows allow a window at the first tick at which one may open.
+pub fn some_windows_open()
+    ensures { SomeWindowsOpen }
 {}

@@ -4,6 +4,8 @@ use Rattle.std.proofs.lemmas.Bool.{cases_lt, le-leb, lt-leb}
 use Rattle.std.proofs.lemmas.List.{reverse-append}
 use Rattle.std.proofs.lemmas.List.Elements.{All-head, All-tail, All-nil, All-cons}
 use Rattle.esc_base.specs.declared.event.Event.{Event}
+use Rattle.esc_base.specs.declared.event.Event.TheVariants as event
+use Rattle.esc_base.specs.Numbers.{as_tick}
 use Rattle.esc_base.specs.declared.gate.Leg.TheVariants as leg
 use Rattle.esc_base.specs.declared.note.Note.{Note}
 use Rattle.esc_base.specs.declared.note.Note.TheVariants as note
@@ -15,7 +17,7 @@ use Rattle.commutation.specs.Commutated.{sector_at}
 use Rattle.gate_driver.specs.DeadSafe.{low_at, low_free_at}
 use Rattle.esc_laws.specs.Steps.{stall_end}
 use Rattle.esc_laws.specs.Chopped.{upto, by_tick, disturbs, Undisturbed, IsChopped, Chopped}
-use Rattle.esc_laws.specs.refused.Notes.{first_two, ticks, switches}
+use Rattle.esc_laws.specs.refused.Notes.{enters, leaves, first_two, ticks, switches}
 use Rattle.esc_laws.specs.refused.Chops.{drive, low_on, ChoppingRefuses, in_time, SomeAreChopped}
 use Rattle.esc_laws.proofs.UpTo.{up_to_all, up_to_none, up_to_before}
 
@@ -229,10 +231,24 @@ at_period (suc (suc (suc n))) d y = record {
   other_low_off = λ t lt lo hi. absurd (omega arith);
 }
 
+-- a fact of all notes is one of those at the end
+behind : (front rest : List Note) → All Calm (front ++ rest) → All Calm rest
+behind [] rest a = a
+behind (n ∷ front) rest a = behind front rest (All-tail Calm n (front ++ rest) a)
+
 pub some_are_chopped : SomeAreChopped
 some_are_chopped = record {
   in_time_is_chopped = λ p d y.
       subst (λ (q : ℕ). Undisturbed 1 [] in_time q d → IsChopped 1 6000 in_time q d (sector_at (by_tick (q - 1) in_time))) (sym y.starts)
       (at_period y.number d) y;
   one_is_undisturbed = one_period;
+  comm_disturbs = λ d y. (
+      let e = All-head (Calm) (enters 5000 6) (leaves 5010 6 ∷ []) (behind (first_two ++ low_on (switches 4048 1 2 ∷ switches 4148 0 2 ∷ []))
+      (enters 5000 6 ∷ leaves 5010 6 ∷ []) y.none) in
+      let z : true ≡ false = e (omega arith) (omega arith) in cc);
+  stall_disturbs = λ d y. elim (All-head (λ (e : Event). (stall_end e ≤ 3952) ⊎ (5999 < tick_of e)) (event.Stall (as_tick 4500) 10) [] y.stalls) [
+    | inl l ↦ absurd (omega arith)
+    | inr l ↦ absurd (omega arith)
+  ];
+  late_low_disturbs = λ d y. (let f = y.free in absurd (omega arith));
 }

@@ -33,6 +33,10 @@ stalled : free (event.Stall (as_tick 100) 50 ∷ []) 120 ≡ 150
 unfolding free
 stalled = refl
 
+stalled_at_once : free (event.Stall (as_tick 120) 50 ∷ []) 120 ≡ 170
+unfolding free
+stalled_at_once = refl
+
 rested_open : (loaded : Loaded) → open_in loaded cap_rests ≡ []
 unfolding place
 rested_open loaded = refl
@@ -235,6 +239,7 @@ steps_refuse = record {
   cap_enters_late_after_nothing = not_so_late;
   own_step_late = late;
   step_before_the_cost = λ loaded nest cost trace before e later lt f. before_cost cost trace before e later lt f.later;
+  step_at_the_start_of_a_stall = λ before loaded nest cost f. (let e = f.free_at in let s = stalled_at_once in absurd (omega arith));
   step_in_a_stall = λ before loaded nest cost f. (let e = f.free_at in let s = stalled in absurd (omega arith));
   step_49_of_tick = λ trace before t notes all loaded nest cost f. (let most = f.few refl in let next = own-push kind.Tick before
       (own t kind.Tick notes) in absurd (omega arith));

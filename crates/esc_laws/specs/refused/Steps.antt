@@ -80,6 +80,7 @@ pub record StepsRefuse : Type 0 where
   -- steps are as far apart as the cost, and none stands in a stall
   pub step_before_the_cost : (loaded : Loaded) (nest : Nest) (cost : ℕ) (trace : List Event) (before : List Turned) (e later : Turned)
       → later.tick < e.tick + cost → StepFits loaded nest cost trace (before ++ e ∷ []) later → ⊥
+  pub step_at_the_start_of_a_stall : (before : List Turned) → Unmade (event.Stall (as_tick 120) 50 ∷ []) before (entry 120 kind.Tick)
   pub step_in_a_stall : (before : List Turned) → Unmade (event.Stall (as_tick 100) 50 ∷ []) before (entry 120 kind.Tick)
   -- an activation of TICK has at most 48 own steps, and fewer while it is open
   pub step_49_of_tick : (trace : List Event) (before : List Turned) (t : ℕ) (notes : List Note) → own_steps kind.Tick before ≡ 48

@@ -33,7 +33,7 @@ use Rattle.esc_laws.specs.Legal.{Legal}
 use Rattle.esc_laws.specs.Chopped.{disturbs}
 use Rattle.esc_laws.specs.refused.Notes.{enters, leaves, nothing, ticks}
 use Rattle.esc_laws.specs.refused.Steps.{entry, own, two_edges}
-use Rattle.esc_laws.specs.Allowed.{tick_and_verdict, SomeAreLegal}
+use Rattle.esc_laws.specs.allowed.Journals.{tick_and_verdict, SomeAreLegal}
 use Rattle.esc_laws.specs.Said.{Said}
 use Rattle.esc_laws.proofs.Notes.{said_push, lawful_of}
 use Rattle.esc_laws.proofs.Opening.{first_in_range, start_said}
