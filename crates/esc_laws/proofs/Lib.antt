@@ -23,3 +23,4 @@ pub mod UpTo
 pub mod DutyKept
 pub mod refused
 pub mod allowed
+pub mod LogFixed

@@ -23,3 +23,4 @@ pub mod Saves
 pub mod refused
 pub mod allowed
 pub mod DutyKept
+pub mod LogFixed

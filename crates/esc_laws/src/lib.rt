@@ -3,10 +3,12 @@
 #![tactic(auto)]
 
 mod drive_laws;
+mod log_laws;
 mod shown;
 mod signal_laws;
 
 pub use drive_laws::duty_is_kept;
+pub use log_laws::log_is_fixed;
 pub use shown::{
     activations_refuse, calls_begin, chopping_refuses, control_refuses, crossed_turns_refuse,
     crossings_refuse, drive_refuses, flash_refuses, gates_refuse, nesting_refuses, replies_refuse,
