@@ -28,7 +28,7 @@ use Rattle.esc_laws.specs.Windowed.{verdict_note, Answers, WindowRule}
 use Rattle.esc_laws.specs.Replied.{HasReplied}
 use Rattle.esc_laws.specs.Saves.{advance_of}
 use Rattle.esc_laws.specs.Nested.{IsAboveAll, NestRule}
-use Rattle.esc_laws.specs.Steps.{Turned, opening, load_number, journal, open_in, free, after, uses, own_steps, steps_since, entered_at, called, is_entry, StepFits, OpenFew}
+use Rattle.esc_laws.specs.Steps.{Turned, opening, load_number, journal, open_in, free, after, uses, own_steps, steps_since, entered_at, called, is_entry, is_gate, StepFits, OpenFew}
 use Rattle.esc_laws.specs.Legal.{Legal}
 use Rattle.esc_laws.specs.Chopped.{disturbs}
 use Rattle.esc_laws.specs.refused.Notes.{enters, leaves, nothing, ticks}
@@ -209,11 +209,12 @@ fits_tick_in loaded nest =
       entry = λ e. refl;
       own = λ e. cc;
       reached = λ e. cc;
-      some = λ e. cc;
       few = λ e. cc;
       at_tick = All-cons (λ n. time_of n ≡ 2400) (enters 2400 2) [] refl (All-nil (λ n. time_of n ≡ 2400));
       no_entry = λ e. cc;
       returns = λ e. cc;
+      gate_first = All-nil (λ m. is_gate m ≡ false);
+      six = omega arith;
       patient = λ k. (let none = none_waits_one loaded nest k in omega arith);
     }
 
@@ -238,13 +239,14 @@ fits_tick_out loaded nest =
       entry = λ e. cc;
       own = λ e. rw (open_one loaded) refl;
       reached = λ e. reached_tick_out;
-      some = λ e. omega arith;
       few = λ e. omega arith;
       at_tick = All-cons (λ n. time_of n ≡ 2402) (ticks 2402 1 0 0) (leaves 2402 2 ∷ []) refl
           (All-cons (λ n. time_of n ≡ 2402) (leaves 2402 2) [] refl (All-nil (λ n. time_of n ≡ 2402)));
       no_entry = λ e. All-cons (λ n. is_entry n ≡ false) (ticks 2402 1 0 0) (leaves 2402 2 ∷ []) refl
           (All-cons (λ n. is_entry n ≡ false) (leaves 2402 2) [] refl (All-nil (λ n. is_entry n ≡ false)));
       returns = λ e. (refl, refl);
+      gate_first = All-cons (λ m. is_gate m ≡ false) (leaves 2402 2) [] refl (All-nil (λ m. is_gate m ≡ false));
+      six = omega arith;
       patient = λ k. (let none = none_waits_two loaded nest k in omega arith);
     }
 
@@ -260,11 +262,12 @@ fits_cap_in loaded nest =
       entry = λ e. refl;
       own = λ e. cc;
       reached = λ e. cc;
-      some = λ e. cc;
       few = λ e. cc;
       at_tick = All-cons (λ n. time_of n ≡ 4200) (enters 4200 3) [] refl (All-nil (λ n. time_of n ≡ 4200));
       no_entry = λ e. cc;
       returns = λ e. cc;
+      gate_first = All-nil (λ m. is_gate m ≡ false);
+      six = omega arith;
       patient = λ k. (let none = none_waits_three loaded nest k in omega arith);
     }
 
@@ -289,13 +292,14 @@ fits_cap_out loaded nest =
       entry = λ e. cc;
       own = λ e. rw (open_three loaded) refl;
       reached = λ e. reached_cap_out;
-      some = λ e. omega arith;
       few = λ e. omega arith;
       at_tick = All-cons (λ n. time_of n ≡ 4202) (nothing 4202) (leaves 4202 3 ∷ []) refl
           (All-cons (λ n. time_of n ≡ 4202) (leaves 4202 3) [] refl (All-nil (λ n. time_of n ≡ 4202)));
       no_entry = λ e. All-cons (λ n. is_entry n ≡ false) (nothing 4202) (leaves 4202 3 ∷ []) refl
           (All-cons (λ n. is_entry n ≡ false) (leaves 4202 3) [] refl (All-nil (λ n. is_entry n ≡ false)));
       returns = λ e. (refl, refl);
+      gate_first = All-cons (λ m. is_gate m ≡ false) (leaves 4202 3) [] refl (All-nil (λ m. is_gate m ≡ false));
+      six = omega arith;
       patient = λ k. (let none = none_waits_four loaded nest k in omega arith);
     }
 

@@ -1,5 +1,5 @@
 -- The wrong steps break the rules of steps.
-use Rattle.std.proofs.Common.{◌≡◌, ◌<◌, ◌≤◌, ◌+◌, ℕ, true, false, List, [], ◌∷◌, ◌++◌, All, refl, sym, ◌∙◌, ap, subst, arith, append-nil, append_assoc}
+use Rattle.std.proofs.Common.{◌≡◌, ◌<◌, ◌≤◌, ◌+◌, ℕ, true, false, List, [], ◌∷◌, ◌++◌, All, Some, refl, sym, ◌∙◌, ap, subst, arith, append-nil, append_assoc}
 use Rattle.std.proofs.lemmas.List.Elements.{All-nil, All-cons, All-head, All-tail}
 use Rattle.esc_base.specs.declared.kind.Kind.TheVariants as kind
 use Rattle.esc_base.specs.declared.event.Event.{Event}
@@ -13,11 +13,12 @@ use Rattle.edge_capture.specs.Burst.{burst}
 use Rattle.settings_block.specs.declared.stored.Loaded.{Loaded}
 use Rattle.interrupt_machine.specs.declared.nest.Nest.{Nest}
 use Rattle.interrupt_machine.specs.declared.nest.Nest.TheVariants.{Full}
+use Rattle.interrupt_machine.specs.Open.{innermost}
 use Rattle.esc_laws.specs.Place.{place}
 use Rattle.esc_laws.specs.Rested.{first_rested}
 use Rattle.esc_laws.specs.Seen.{sees}
-use Rattle.esc_laws.specs.Steps.{Turned, opening, notes_in, journal, open_in, free, after, called, is_entry, EachStep, StepFits, Awaits}
-use Rattle.esc_laws.specs.refused.Notes.{enters, leaves, ticks}
+use Rattle.esc_laws.specs.Steps.{Turned, opening, notes_in, journal, open_in, free, after, called, is_entry, is_gate, EachStep, StepFits, Awaits}
+use Rattle.esc_laws.specs.refused.Notes.{enters, leaves, switches, ticks}
 use Rattle.esc_laws.specs.refused.Steps.{entry, own, two_edges, cap_waits, two_later_edges, cap_rests, drive_waits, drive_starts, StepsRefuse}
 use Rattle.esc_laws.proofs.Pushes.{journal-push, after-push, after-none, free-none, own-push}
 use Rattle.esc_laws.proofs.Stalls.{free_later}
@@ -230,6 +231,13 @@ steps_refuse = record {
   save_within_a_step_of_tick = λ trace before loaded nest cost f. (let e = (f.returns refl).1 in absurd (cc));
   return_of_another_kind = λ trace before loaded nest cost f. (let e = (f.returns refl).0 in absurd (omega arith));
   note_at_another_tick = λ trace before loaded nest cost f. (let e = All-head (λ n. time_of n ≡ 2404) (ticks 2406 1 0 0) [] f.at_tick in absurd (omega arith));
+  gate_behind_a_turn = λ trace before loaded nest cost f. (
+      let e : true ≡ false = All-head (λ m. is_gate m ≡ false) (switches 2404 0 2) [] f.gate_first in absurd (cc));
+  low_switch_off_and_on = λ trace before loaded nest cost f. (
+      let e : true ≡ false = All-head (λ m. is_gate m ≡ false) (switches 2404 0 2) [] f.gate_first in absurd (cc));
+  seven_notes = λ trace before a b c d e f g loaded nest cost s. (let few = s.six in absurd (omega arith));
+  step_of_another_kind = λ trace loaded nest cost f. (
+      let e = f.own refl in let t = tick_open loaded in let z : Some kind.Tick ≡ Some kind.Cap = ap innermost (sym t) ∙ e in cc);
   own_step_where_none_is_open = λ trace loaded nest cost f. (let e = (f.first (none_open loaded)).0 in absurd (cc));
   main_enters_before_tick = λ loaded nest cost f. (let e = (f.first (none_open loaded)).1 kind.Tick refl in absurd (omega arith));
   tick_enters_a_tick_late = λ loaded nest cost f. (

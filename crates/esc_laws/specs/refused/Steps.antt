@@ -12,7 +12,7 @@ use Rattle.interrupt_machine.specs.declared.nest.Nest.{Nest}
 use Rattle.interrupt_machine.specs.declared.nest.Nest.TheVariants.{Full}
 use Rattle.esc_laws.specs.Steps.{Turned, opening, open_in, own_steps, EachStep, StepFits, OpenFew}
 use Rattle.esc_laws.specs.Legal.{Legal, LegalFront}
-use Rattle.esc_laws.specs.refused.Notes.{enters, leaves, nothing, ticks, saves}
+use Rattle.esc_laws.specs.refused.Notes.{enters, leaves, switches, turns, nothing, ticks, saves}
 
 -- a kind's entry, and an own step with its notes
 abbrev pub entry : ℕ → Kind → Turned
@@ -69,6 +69,14 @@ pub record StepsRefuse : Type 0 where
   pub return_of_another_kind : (trace : List Event) (before : List Turned) → Unmade trace before (own 2404 kind.Tick (leaves 2404 0 ∷ []))
   -- its notes stand at its tick
   pub note_at_another_tick : (trace : List Event) (before : List Turned) → Unmade trace before (own 2404 kind.Tick (ticks 2406 1 0 0 ∷ []))
+  -- its G is its first note and its only one, and it has six notes at most
+  pub gate_behind_a_turn : (trace : List Event) (before : List Turned) → Unmade trace before (own 2404 kind.Comm (turns 2404 1 ∷ switches 2404 0 2 ∷ []))
+  pub low_switch_off_and_on : (trace : List Event) (before : List Turned)
+      → Unmade trace before (own 2404 kind.Comm (switches 2404 0 0 ∷ switches 2404 0 2 ∷ []))
+  pub seven_notes : (trace : List Event) (before : List Turned) (a b c d e f g : Note)
+      → Unmade trace before (own 2404 kind.Tick (a ∷ b ∷ c ∷ d ∷ e ∷ f ∷ g ∷ []))
+  -- an own step is one of the innermost open kind, also where it has no note: CAP makes none while TICK is open alone
+  pub step_of_another_kind : (trace : List Event) → Unmade trace (entry 2400 kind.Tick ∷ []) (own 2402 kind.Cap [])
   -- while no kind is open a step is an entry, of the highest kind that is due or a higher one, at the first tick at which one is
   pub own_step_where_none_is_open : (trace : List Event) → Unmade trace [] (own 2404 kind.Tick [])
   pub main_enters_before_tick : Unmade [] [] (entry 2400 kind.Main)
