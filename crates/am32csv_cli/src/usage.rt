@@ -1,6 +1,5 @@
 //! The command line.
-use crate::Status;
-use crate::layout::{Clock, Layout, Rate};
+use am32csv::{Clock, Layout, Rate, Status};
 use clap::{Arg, ArgAction, ArgMatches, Command};
 use std::alloc::{AllocError, Global};
 use trace_text::number_in;

@@ -1,34 +1,16 @@
-//! `am32sim`: a motor speed controller's control core, run on a trace of outside events.
+//! The program `am32sim`: a motor speed controller's control core, run on a trace of outside events.
 #![tactic(auto)]
 
-#[cfg(test)]
-mod crossing_tests;
-#[cfg(test)]
-mod drive_tests;
-mod options;
-#[cfg(test)]
-mod reply_tests;
-mod run;
-mod show;
-mod status;
-#[cfg(test)]
-mod tests;
 mod usage;
-mod words;
-#[cfg(test)]
-mod words_tests;
 
+use am32sim::{Status, Words, sim_main, status_text};
 use esc_base::{FileFlash, InSource, OutSink, Sink, Source};
-pub use options::{Command, Options};
-pub use run::sim_main;
-pub use status::{Status, status_text};
 use std::cell::Cell;
 use std::process::ExitCode;
 use std::{env, io};
 use trace_runner::Room;
 use trace_tools::PipeEnd;
 use usage::usage_text;
-pub use words::{Asked, Words};
 
 /// The words behind the program's name. A word that isn't text is in no command.
 fn words_of(rt: &HostRuntime) -> Result<Words, Status> {
