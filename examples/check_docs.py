@@ -91,6 +91,12 @@ BLOCKS = {
     ("docs/JOURNAL.md", "I 12123660 3"): Part("examples/bidirectional.journal"),
     ("docs/JOURNAL.md", "CAP  "): DRAWN,
     ("docs/JOURNAL.md", "I 2400 2"): Part("examples/nested.journal"),
+    ("docs/LIBRARY.md", "library_example: "): Part("crates.txt", exact=True),
+    ("docs/LIBRARY.md", "pub fn frame_word"): Part("crates/library_example/src/lib.rt", exact=True),
+    ("docs/LIBRARY.md", "pub fn tells_period"): Part("crates/library_example/src/lib.rt", exact=True),
+    ("docs/LIBRARY.md", "pub returns"): Part("crates/library_example/proofs/tells_period/Answers.antt", exact=True),
+    ("docs/LIBRARY.md", "pub fn has_crc"): Part("crates/library_example/src/lib.rt", exact=True),
+    ("docs/LIBRARY.md", "pub fn percent"): Part("crates/library_example/src/lib.rt", exact=True),
     ("docs/READING.md", "pub fn verdict"): Part("crates/dshot_frame/src/judge.rt", exact=True),
     ("docs/READING.md", "ensures read_fault"): Part("crates/am32sim/src/run.rt", exact=True),
     ("docs/SCRIPT.md", "am32trace < flight.script"): Run(),
@@ -137,9 +143,9 @@ def blocks_of(text):
     """Each block between lines of three backquotes, or further in by four blanks: the number of its first line, and its lines."""
     lines, at = text.split("\n"), 0
     while at < len(lines):
-        if lines[at].startswith("```"):
-            end = lines.index("```", at + 1)
-            yield at + 2, lines[at + 1:end]
+        if lines[at].strip().startswith("```"):
+            end = next(it for it in range(at + 1, len(lines)) if lines[it].strip() == "```")
+            yield at + 2, [it.strip() if lines[at].startswith(" ") else it for it in lines[at + 1:end]]
             at = end
         elif lines[at].startswith("    ") and not (at and lines[at - 1].strip()):
             end = at
@@ -157,7 +163,7 @@ def quoted_of(text):
     """Each word or sentence between backquotes outside of blocks, with the number of its line."""
     is_block = False
     for number, line in enumerate(text.split("\n"), 1):
-        if line.startswith("```"):
+        if line.strip().startswith("```"):
             is_block = not is_block
         elif not is_block and not line.startswith("    "):
             for quoted in re.findall(r"`([^`]+)`", line):
