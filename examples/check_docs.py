@@ -84,7 +84,7 @@ BLOCKS = {
     ("docs/DRIVE.md", "tick         p"): DRAWN,
     ("docs/DRIVE.md", "PWM    I  m"): DRAWN,
     ("docs/DRIVE.md", "            Q 12043220"): DRAWN,
-    ("docs/DRIVE.md", "CMP    I  m"): DRAWN,
+    ("docs/DRIVE.md", "CMP    I  m  e"): DRAWN,
     ("docs/DRIVE.md", "Q 12043220 1"): Part("examples/spin_up.journal"),
     ("docs/DRIVE.md", "I 12043200 2"): Part("examples/first_sectors.journal"),
     ("docs/JOURNAL.md", "U 0 1"): Part("examples/dshot600.journal"),
