@@ -1,1 +1,2 @@
+pub mod Preserves
 pub mod Room

@@ -1,3 +1,4 @@
 pub mod Facts
+pub mod Preserves
 pub mod Control
 pub mod Room

@@ -98,7 +98,7 @@ copies true x outer w m left v g per sound e k on = record {
   gates = quiet_gates kind.Cap x _ (λ e. cc) refl refl refl;
   fits = λ told. tt;
   ground = g;
-  tie = λ told. (copy_tied x.trace x.core x.bank (so_far x) w m left e sound g.small k, sound, rw e tt, per);
+  tie = λ told. (copy_tied x.trace x.core x.bank (so_far x) w m left e sound g.outside.small k, sound, rw e tt, per);
   others = elim [ kind.Cap ↦ λ ne t. absurd (ne refl) | j ↦ λ ne t. t ];
   stack_is = on;
 }
@@ -119,7 +119,7 @@ open_window x outer s g per e may none done on = record {
   );
   ground = ground_noted x (note.Window (as_tick x.bank.time) (mode_number x.core.control.mode)) refl refl tt refl g;
   tie = λ told. (
-    opens_tied x.trace x.core x.bank (so_far x) g.edges.0 none done,
+    opens_tied x.trace x.core x.bank (so_far x) g.outside.edges.0 none done,
     record { past = λ k d l. absurd (omega arith); order = λ a b le l. absurd (omega arith); few = omega arith },
     tt,
     per,
@@ -138,7 +138,7 @@ pauses x outer f at opens_next g per sound e k shut is on = record {
   tie = λ told. (
     pause_tied x.trace x.core x.bank (so_far x) f at opens_next e k shut,
     sound,
-    rw (e, is) (set_now (line x.trace).edges (f + least_pause) x.bank.time (rests_from x.bank.changed) g.edges.0 g.rested),
+    rw (e, is) (set_now (line x.trace).edges (f + least_pause) x.bank.time (rests_from x.bank.changed) g.outside.edges.0 g.outside.rested),
     per,
   );
   others = elim [ kind.Cap ↦ λ ne t. absurd (ne refl) | j ↦ λ ne t. t ];
@@ -155,7 +155,7 @@ waits x outer end at g per sound e k is on = record {
   tie = λ told. (
     replied_tied x.trace x.core x.bank (so_far x) end at e k,
     sound,
-    rw (e, is) (set_now (line x.trace).edges end x.bank.time (rests_from x.bank.changed) g.edges.0 g.rested),
+    rw (e, is) (set_now (line x.trace).edges end x.bank.time (rests_from x.bank.changed) g.outside.edges.0 g.outside.rested),
     per,
   );
   others = elim [ kind.Cap ↦ λ ne t. absurd (ne refl) | j ↦ λ ne t. t ];
@@ -254,14 +254,8 @@ good None x outer frame w m g per sound e k same answers on shut named st = reco
   ground = record {
     control = st;
     orders = orders_other x.loaded x.core.orders (note.Good (as_tick x.bank.time) frame.value (bit_of frame.telemetry)) x.back refl g.orders;
-    level = g.level;
-    edges = g.edges;
-    rested = g.rested;
-    events = g.events;
-    in_time = g.in_time;
-    comparator = g.comparator;
+    outside = g.outside;
     line = g.line;
-    small = g.small;
   };
   tie = λ told. (
     good_tied None frame x.trace x.core x.bank (so_far x) w m e k same,
@@ -285,14 +279,8 @@ good (Some act) x outer frame w m g per sound e k same answers on shut named st 
         control = st;
         orders = obeyed_tied x.loaded x.core.orders act (as_tick x.bank.time) (n ∷ x.back) (named act refl)
             (orders_other x.loaded x.core.orders n x.back refl g.orders);
-        level = g.level;
-        edges = g.edges;
-        rested = g.rested;
-        events = g.events;
-        in_time = g.in_time;
-        comparator = g.comparator;
+        outside = g.outside;
         line = g.line;
-        small = g.small;
       };
       tie = λ told. (
         good_tied (Some act) frame x.trace x.core x.bank (so_far x) w m e k same,
@@ -343,14 +331,8 @@ judges (Found mode) x outer w m g per sound e k same answers on shut = record {
   ground = record {
     control = found_stands x.core.control x.back (as_tick x.bank.time) mode g.control;
     orders = orders_other x.loaded x.core.orders (note.Detected (as_tick x.bank.time) (mode_number mode)) x.back refl g.orders;
-    level = g.level;
-    edges = g.edges;
-    rested = g.rested;
-    events = g.events;
-    in_time = g.in_time;
-    comparator = g.comparator;
+    outside = g.outside;
     line = g.line;
-    small = g.small;
   };
   tie = λ told. (
     (
@@ -428,7 +410,7 @@ steps (Listens w m) cap.Start x outer g per sound e k timer past on shut need le
     (begins x outer w m g per sound e k on)
 steps (Listens w m) (cap.Copy rest) x outer g per sound e k timer past on shut need left =
     copies (takes x.core.burst (next_edge x.core x.bank)) x outer w m rest
-    (copy_goes x.trace x.core x.bank (so_far x) w m rest (few x.bank sound) sound g.small k) g per sound e k on
+    (copy_goes x.trace x.core x.bank (so_far x) w m rest (few x.bank sound) sound g.outside.small k) g per sound e k on
 steps (Listens w m) cap.Judge x outer g per sound e k timer past on shut need left =
     judges (judged x.core.window x.core.burst x.core.orders.settings.input (servo_of x.core.orders.settings)) x outer w m g per sound e k.0 k.1
     (answered x (so_far x).signal w m x.bank.time _ e (answers_is x w m g k.0 k.1)) on shut
@@ -491,16 +473,16 @@ edge : (v : Bool) (w : World) (level : Bool) → differ w.bank.level level ≡ v
 edge true w level d g t = (
   signal_follows (so_far w).signal w.core.cap_at (cap_seen w)
       (cap_view (w.trace ++ event.Edge (as_tick w.bank.time) level ∷ []) w.core (edge_bank w.bank level) (so_far w))
-      (edge_follows w.trace w.core w.bank (so_far w) level (rising_push (line w.trace).edges (edge_now w.bank level) 0 g.edges.1 g.edges.0 (omega arith))
-      (ap (λ (l : Line). l.edges) (line_changes w.trace w.bank level (subst (λ (l : Bool). differ l level ≡ true) g.level d)))) t.0,
+      (edge_follows w.trace w.core w.bank (so_far w) level (rising_push (line w.trace).edges (edge_now w.bank level) 0 g.outside.edges.1 g.outside.edges.0 (omega arith))
+      (ap (λ (l : Line). l.edges) (line_changes w.trace w.bank level (subst (λ (l : Bool). differ l level ≡ true) g.outside.level d)))) t.0,
   edge_sound w.bank.window (edge_now w.bank level) t.1,
   subst (λ (edges : List Edge). TimerTied (so_far w).signal w.core.cap_at edges w.made.cap_past (put_off w.bank.timer w.bank.time))
-      (sym (ap (λ (l : Line). l.edges) (line_changes w.trace w.bank level (subst (λ (l : Bool). differ l level ≡ true) g.level d))))
-      (timer_grows (so_far w).signal w.core.cap_at (line w.trace).edges (edge_now w.bank level) w.made.cap_past w.bank.timer g.edges.0 t.2),
+      (sym (ap (λ (l : Line). l.edges) (line_changes w.trace w.bank level (subst (λ (l : Bool). differ l level ≡ true) g.outside.level d))))
+      (timer_grows (so_far w).signal w.core.cap_at (line w.trace).edges (edge_now w.bank level) w.made.cap_past w.bank.timer g.outside.edges.0 t.2),
   t.3,
 )
 edge false w level d g t =
-    plain w (event.Edge (as_tick w.bank.time) level) (line_same w.trace w.bank level (subst (λ (l : Bool). differ l level ≡ false) g.level d)) (omega arith) t
+    plain w (event.Edge (as_tick w.bank.time) level) (line_same w.trace w.bank level (subst (λ (l : Bool). differ l level ≡ false) g.outside.level d)) (omega arith) t
 
 outside : (w : World) (e : Event) → tick_of e ≡ w.bank.time → Ground w → CapTie w → CapTie (after_outside w e)
 outside w (event.Edge at level) is g t =
@@ -525,21 +507,21 @@ outside w (event.Stall at n) is g t = plain w (event.Stall at n) (line-push w.tr
 
 pub cap_law : HandlerLaw kind.Cap
 cap_law = record {
-  called = λ w g t told unheld none s. cap_called (waits_of w.core) (so_far w).signal w.trace w.core w.bank (so_far w) w.made.cap_past
-      (shut_tie w (t kind.Cap) none)
-      (shut_timer w (t kind.Cap) none) s;
-  asked = λ w g t unheld due. (tt, tt);
-  entered = λ w g t unheld none due past high. (
-    cap_entered (waits_of w.core) (so_far w).signal w.trace w.core w.bank (so_far w) w.made.cap_past refl (shut_tie w (t kind.Cap) none)
-        (shut_timer w (t kind.Cap) none) due,
-    (t kind.Cap).1,
+  called = λ w i s. cap_called (waits_of w.core) (so_far w).signal w.trace w.core w.bank (so_far w) w.made.cap_past
+      (shut_tie w (i.rest.ties kind.Cap) i.shut)
+      (shut_timer w (i.rest.ties kind.Cap) i.shut) s;
+  asked = λ w i. (tt, tt);
+  entered = λ w i. (
+    cap_entered (waits_of w.core) (so_far w).signal w.trace w.core w.bank (so_far w) w.made.cap_past refl (shut_tie w (i.rest.ties kind.Cap) i.shut)
+        (shut_timer w (i.rest.ties kind.Cap) i.shut) i.due,
+    (i.rest.ties kind.Cap).1,
     timer_off (so_far w).signal (line w.trace).edges w.made.cap_past None,
-    (t kind.Cap).3,
+    (i.rest.ties kind.Cap).3,
   );
-  beside = λ w g t unheld none due past high. elim [ kind.Cap ↦ λ ne. absurd (ne refl) | j ↦ λ ne. t j ];
-  steps = λ w answers outer given g t above alone past on left.
-      steps (so_far w).signal w.core.cap_at w outer g (t kind.Cap).3 (t kind.Cap).1 refl (t kind.Cap).0 (t kind.Cap).2 past.cap on
-      (comm_shut w.core.comm_at w.core.drive.turn.at (above kind.Comm (omega arith))) (alone kind.Tick (λ e. cc)) left;
-  later = λ w u from small g t. later w u from (t kind.Cap);
-  outside = λ w e at past g t. outside w e at g (t kind.Cap);
+  beside = λ w i. elim [ kind.Cap ↦ λ ne. absurd (ne refl) | j ↦ λ ne. i.rest.ties j ];
+  steps = λ w answers outer given i.
+      steps (so_far w).signal w.core.cap_at w outer i.rest.ground (i.rest.ties kind.Cap).3 (i.rest.ties kind.Cap).1 refl (i.rest.ties kind.Cap).0 (i.rest.ties kind.Cap).2 i.past.cap i.on
+      (comm_shut w.core.comm_at w.core.drive.turn.at (i.above kind.Comm (omega arith))) (i.alone kind.Tick (λ e. cc)) i.left;
+  later = λ w u from small i. later w u from (i.ties kind.Cap);
+  outside = λ w e i. outside w e i.now i.rest.ground (i.rest.ties kind.Cap);
 }

@@ -1,5 +1,5 @@
 -- CMP's room.
-use Rattle.std.proofs.Common.{zero, suc, ◌≡◌, ◌≤◌, ◌<◌, ◌+◌, inl, inr, ℕ, Bool, true, false, ◌&&◌, ◌||◌, ◌==◌, min, nat_le, if◌then◌else◌, List, [], ◌∷◌, ◌++◌, Some, refl, sym, ◌∙◌, ap, subst, arith}
+use Rattle.std.proofs.Common.{zero, suc, ◌≡◌, ◌≤◌, ◌<◌, ◌+◌, ◌⊎◌, inl, inr, ℕ, Bool, true, false, ◌&&◌, ◌||◌, ◌==◌, min, nat_le, if◌then◌else◌, List, [], ◌∷◌, ◌++◌, Some, refl, sym, ◌∙◌, ap, subst, arith}
 use Rattle.std.proofs.lemmas.Bool.{cases_lt, le-leb}
 use Rattle.std.proofs.lemmas.Bool.Decides.{nat_tests}
 use Rattle.esc_base.specs.declared.kind.Kind.{Kind}
@@ -13,7 +13,7 @@ use Rattle.esc_base.specs.Numbers.{as_tick}
 use Rattle.esc_base.specs.Times.{is_reached}
 use Rattle.esc_base.specs.Trace.{differ, tick_of}
 use Rattle.timer_regs.specs.declared.regs.Reg.TheVariants as reg
-use Rattle.interrupt_machine.specs.Did.{Writes}
+use Rattle.interrupt_machine.specs.Did.{Reads, Writes}
 use Rattle.zero_cross.specs.declared.phase.Phase.{Phase}
 use Rattle.zero_cross.specs.declared.phase.Phase.TheVariants as phase
 use Rattle.zero_cross.specs.Comparator.{Held, held, held_to}
@@ -51,52 +51,26 @@ use Rattle.esc_rooms.proofs.cmp.CrossFacts.{cmp_shut, tick_unmasked}
 use Rattle.esc_rooms.proofs.cmp.Facts.{Stands, stands, goes, cmp_moves, read_ready, read_unready, acked, armed, commuted, lowered, returned}
 use Rattle.esc_rooms.proofs.cmp.Events.{reached_at, cross_later, cross_changes, seen_due, cross_entered}
 use Rattle.esc_rooms.proofs.shared.Law.{HandlerLaw}
-use Rattle.esc_rooms.proofs.cmp.Looks.{free_at, IsCmp, free_of, stands_at, searched_drive, quiet_drive, not_shut, raises, q_drives, looks}
+use Rattle.esc_rooms.proofs.cmp.Preserves.{free_at, IsCmp, free_of, stands_at, searched_drive, quiet_drive, not_shut, cmp_step_preserves, cmp_wait_preserves}
+use Rattle.esc_rooms.proofs.cmp.Looks.{cmp_raise_preserves, q_drives, cmp_look_preserves}
 use Rattle.esc_laws.specs.NoteLaw as owed
 
--- ---- it reads the comparator as blanking is over
+-- ---- it cmp_read_preserves the comparator as blanking is over
 
-reads_ready : (w : World) (outer : List Kind) → IsBlanked w.core.drive.crossing.phase w.bank.time → is_expected w.core.drive.crossing w.bank.comp ≡ true
-    → IsCmp w outer cmp.Read → StepKeeps kind.Cmp outer w (ready_step true w.core w.bank)
-reads_ready w outer over well i = record {
-  gates = quiet_gates kind.Cmp w _ (λ e. cc) refl refl refl;
-  fits = λ told. tt;
-  ground = i.ground;
-  tie = λ told. cmp_moves (cross_seen w) cmp.Ack w.core.drive.crossing w.bank.comp_changed w.bank.comp_enabled w.bank.crossing
-      (not_shut w outer cmp.Read refl i)
-      (free_of w outer cmp.Read i) (i.ties kind.Cmp)
-      (goes (cross_seen w) cmp.Ack w.core.drive.crossing.phase w.core.drive.crossing w.bank.comp_changed w.bank.comp_enabled w.bank.crossing refl refl
-      (read_ready (cross_seen w) w.core.drive.crossing.phase over well (free_of w outer cmp.Read i)
-      (stands_at w outer cmp.Read w.core.drive.crossing.phase i refl)));
-  others = elim [
-    | kind.Cmp ↦ λ ne u. absurd (ne refl)
-    | kind.Comm ↦ λ ne u. quiet_drive w outer cmp.Read cmp.Ack w.core.drive.crossing refl refl i
-    | j ↦ λ ne u. u
-  ];
-  stack_is = i.on;
-}
+read_ready_preserves : (w : World) (outer : List Kind) → IsBlanked w.core.drive.crossing.phase w.bank.time
+    → is_expected w.core.drive.crossing w.bank.comp ≡ true → IsCmp w outer cmp.Read → StepKeeps kind.Cmp outer w (ready_step true w.core w.bank)
+read_ready_preserves w outer over well i =
+    cmp_wait_preserves w outer cmp.Read cmp.Ack w.core.drive.crossing.phase w.core.hold (Reads reg.CmpState) i refl refl refl refl refl
+    (read_ready (cross_seen w) w.core.drive.crossing.phase over well (free_of w outer cmp.Read i)
+    (stands_at w outer cmp.Read w.core.drive.crossing.phase i refl))
 
-reads_unready : (w : World) (outer : List Kind) → IsBlanked w.core.drive.crossing.phase w.bank.time → is_expected w.core.drive.crossing w.bank.comp ≡ false
-    → IsCmp w outer cmp.Read → StepKeeps kind.Cmp outer w (ready_step false w.core w.bank)
-reads_unready w outer over ill i = record {
-  gates = quiet_gates kind.Cmp w _ (λ e. cc) refl refl refl;
-  fits = λ told. tt;
-  ground = i.ground;
-  tie = λ told. cmp_moves (cross_seen w) cmp.Lower (record w.core.drive.crossing { phase = phase.Watch }) w.bank.comp_changed w.bank.comp_enabled
-      w.bank.crossing
-      (not_shut w outer cmp.Read refl i)
-      (free_of w outer cmp.Read i) (i.ties kind.Cmp)
-      (goes (cross_seen w) cmp.Lower phase.Watch (record w.core.drive.crossing { phase = phase.Watch }) w.bank.comp_changed w.bank.comp_enabled w.bank.crossing
-      refl refl
-      (read_unready (cross_seen w) w.core.drive.crossing.phase over ill (free_of w outer cmp.Read i) (i.ties kind.Cmp)
-      (stands_at w outer cmp.Read w.core.drive.crossing.phase i refl)));
-  others = elim [
-    | kind.Cmp ↦ λ ne u. absurd (ne refl)
-    | kind.Comm ↦ λ ne u. quiet_drive w outer cmp.Read cmp.Lower (record w.core.drive.crossing { phase = phase.Watch }) refl refl i
-    | j ↦ λ ne u. u
-  ];
-  stack_is = i.on;
-}
+read_unready_preserves : (w : World) (outer : List Kind) → IsBlanked w.core.drive.crossing.phase w.bank.time
+    → is_expected w.core.drive.crossing w.bank.comp ≡ false → IsCmp w outer cmp.Read → StepKeeps kind.Cmp outer w (ready_step false w.core w.bank)
+read_unready_preserves w outer over ill i =
+    cmp_step_preserves w outer cmp.Read cmp.Lower phase.Watch (record w.core.drive.crossing { phase = phase.Watch }) w.core.hold w.bank.comp_changed
+    w.bank.comp_enabled w.bank.crossing (Reads reg.CmpState) i refl refl refl refl refl refl
+    (read_unready (cross_seen w) w.core.drive.crossing.phase over ill (free_of w outer cmp.Read i) (i.ties kind.Cmp)
+    (stands_at w outer cmp.Read w.core.drive.crossing.phase i refl))
 
 blanked_is : (p : Phase) (t : ℕ) → IsBlanked p t → is_blanked p t ≡ true
 blanked_is (phase.Blank end) t b = le-leb end.0 t b
@@ -105,39 +79,26 @@ blanked_is phase.Watch t b = absurd b
 blanked_is (phase.Filter end) t b = absurd b
 blanked_is phase.Done t b = absurd b
 
-reads_by : (v : Bool) (w : World) (outer : List Kind) → IsBlanked w.core.drive.crossing.phase w.bank.time
+read_blanked_preserves : (v : Bool) (w : World) (outer : List Kind) → IsBlanked w.core.drive.crossing.phase w.bank.time
     → is_expected w.core.drive.crossing w.bank.comp ≡ v → IsCmp w outer cmp.Read → StepKeeps kind.Cmp outer w (ready_step v w.core w.bank)
-reads_by true w outer over well i = reads_ready w outer over well i
-reads_by false w outer over ill i = reads_unready w outer over ill i
+read_blanked_preserves true w outer over well i = read_ready_preserves w outer over well i
+read_blanked_preserves false w outer over ill i = read_unready_preserves w outer over ill i
 
-reads : (v : Bool) (w : World) (outer : List Kind) → is_blanked w.core.drive.crossing.phase w.bank.time ≡ v → IsCmp w outer cmp.Read
+cmp_read_preserves : (v : Bool) (w : World) (outer : List Kind) → is_blanked w.core.drive.crossing.phase w.bank.time ≡ v → IsCmp w outer cmp.Read
     → StepKeeps kind.Cmp outer w (read_step v w.core w.bank)
-reads true w outer e i =
-    reads_by (is_expected w.core.drive.crossing w.bank.comp) w outer (stands_at w outer cmp.Read w.core.drive.crossing.phase i refl).regs.0 refl i
-reads false w outer e i = absurd (
+cmp_read_preserves true w outer e i =
+    read_blanked_preserves (is_expected w.core.drive.crossing w.bank.comp) w outer (stands_at w outer cmp.Read w.core.drive.crossing.phase i refl).regs.0 refl i
+cmp_read_preserves false w outer e i = absurd (
     let b = blanked_is w.core.drive.crossing.phase w.bank.time (stands_at w outer cmp.Read w.core.drive.crossing.phase i refl).regs.0 in
     let z : false ≡ true = sym e ∙ b in cc)
 
 -- ---- a filter begins
 
-acks : (w : World) (outer : List Kind) → IsCmp w outer cmp.Ack → StepKeeps kind.Cmp outer w (ack_step true w.core w.bank)
-acks w outer i = record {
-  gates = quiet_gates kind.Cmp w _ (λ e. cc) refl refl refl;
-  fits = λ told. tt;
-  ground = i.ground;
-  tie = λ told. cmp_moves (cross_seen w) cmp.Arm (after_changed w.core.drive.crossing w.bank.time) (false) (w.bank.comp_enabled) (w.bank.crossing)
-      (not_shut w outer cmp.Ack refl i)
-      (free_of w outer cmp.Ack i) (i.ties kind.Cmp)
-      (goes (cross_seen w) cmp.Arm (phase.Filter (as_tick (w.bank.time + 24))) (after_changed w.core.drive.crossing w.bank.time) (false) (w.bank.comp_enabled)
-      (w.bank.crossing) refl refl
-      (acked (cross_seen w) w.core.drive.crossing.phase (free_of w outer cmp.Ack i) (stands_at w outer cmp.Ack w.core.drive.crossing.phase i refl)));
-  others = elim [
-    | kind.Cmp ↦ λ ne u. absurd (ne refl)
-    | kind.Comm ↦ λ ne u. quiet_drive w outer cmp.Ack cmp.Arm (after_changed w.core.drive.crossing w.bank.time) refl refl i
-    | j ↦ λ ne u. u
-  ];
-  stack_is = i.on;
-}
+ack_filter_preserves : (w : World) (outer : List Kind) → IsCmp w outer cmp.Ack → StepKeeps kind.Cmp outer w (ack_step true w.core w.bank)
+ack_filter_preserves w outer i =
+    cmp_step_preserves w outer cmp.Ack cmp.Arm (phase.Filter (as_tick (w.bank.time + 24))) (after_changed w.core.drive.crossing w.bank.time) w.core.hold false
+    w.bank.comp_enabled w.bank.crossing (Writes reg.CmpAck 0) i refl refl refl refl refl refl
+    (acked (cross_seen w) w.core.drive.crossing.phase (free_of w outer cmp.Ack i) (stands_at w outer cmp.Ack w.core.drive.crossing.phase i refl))
 
 may_is : (p : Phase) (t : ℕ) → MayFilter p t → may_filter p t ≡ true
 may_is (phase.Blank end) t m = le-leb end.0 t m
@@ -146,58 +107,30 @@ may_is phase.Off t m = absurd m
 may_is (phase.Filter end) t m = absurd m
 may_is phase.Done t m = absurd m
 
-by_may : (v : Bool) (w : World) (outer : List Kind) → may_filter w.core.drive.crossing.phase w.bank.time ≡ v → IsCmp w outer cmp.Ack
+cmp_ack_preserves : (v : Bool) (w : World) (outer : List Kind) → may_filter w.core.drive.crossing.phase w.bank.time ≡ v → IsCmp w outer cmp.Ack
     → StepKeeps kind.Cmp outer w (ack_step v w.core w.bank)
-by_may true w outer e i = acks w outer i
-by_may false w outer e i = absurd (
+cmp_ack_preserves true w outer e i = ack_filter_preserves w outer i
+cmp_ack_preserves false w outer e i = absurd (
     let m = may_is w.core.drive.crossing.phase w.bank.time (stands_at w outer cmp.Ack w.core.drive.crossing.phase i refl).regs in
     let z : false ≡ true = sym e ∙ m in cc)
 
 -- ---- the registers are written
 
-arms_blank : (end : Tick) (w : World) (outer : List Kind) → w.core.drive.crossing.phase ≡ phase.Blank end → IsCmp w outer cmp.Arm
+-- the end of blanking or of a filter
+arm_end_preserves : (end : Tick) (p : Phase) (w : World) (outer : List Kind) → (p ≡ phase.Blank end) ⊎ (p ≡ phase.Filter end)
+    → w.core.drive.crossing.phase ≡ p → IsCmp w outer cmp.Arm
     → StepKeeps kind.Cmp outer w (goes_on (record w.core { cmp_at = cmp.Lower }) (Writes reg.CmpAt end.0))
-arms_blank end w outer e i = record {
-  gates = quiet_gates kind.Cmp w _ (λ e. cc) refl refl refl;
-  fits = λ told. tt;
-  ground = i.ground;
-  tie = λ told. cmp_moves (cross_seen w) cmp.Lower (w.core.drive.crossing) (w.bank.comp_changed) (false) (Some end.0) (not_shut w outer cmp.Arm refl i)
-      (free_of w outer cmp.Arm i) (i.ties kind.Cmp)
-      (goes (cross_seen w) cmp.Lower (phase.Blank end) (w.core.drive.crossing) (w.bank.comp_changed) (false) (Some end.0) e refl
-      (armed (cross_seen w) (phase.Blank end) end.0 (inl refl) (free_of w outer cmp.Arm i) (stands_at w outer cmp.Arm (phase.Blank end) i e)));
-  others = elim [
-    | kind.Cmp ↦ λ ne u. absurd (ne refl)
-    | kind.Comm ↦ λ ne u. quiet_drive w outer cmp.Arm cmp.Lower (w.core.drive.crossing) refl refl i
-    | j ↦ λ ne u. u
-  ];
-  stack_is = i.on;
-}
+arm_end_preserves end p w outer ends e i =
+    cmp_step_preserves w outer cmp.Arm cmp.Lower p w.core.drive.crossing w.core.hold w.bank.comp_changed false (Some end.0) (Writes reg.CmpAt end.0) i refl
+    refl refl refl e refl (armed (cross_seen w) p end.0 ends (free_of w outer cmp.Arm i) (stands_at w outer cmp.Arm p i e))
 
-arms_filter : (end : Tick) (w : World) (outer : List Kind) → w.core.drive.crossing.phase ≡ phase.Filter end → IsCmp w outer cmp.Arm
-    → StepKeeps kind.Cmp outer w (goes_on (record w.core { cmp_at = cmp.Lower }) (Writes reg.CmpAt end.0))
-arms_filter end w outer e i = record {
-  gates = quiet_gates kind.Cmp w _ (λ e. cc) refl refl refl;
-  fits = λ told. tt;
-  ground = i.ground;
-  tie = λ told. cmp_moves (cross_seen w) cmp.Lower (w.core.drive.crossing) (w.bank.comp_changed) (false) (Some end.0) (not_shut w outer cmp.Arm refl i)
-      (free_of w outer cmp.Arm i) (i.ties kind.Cmp)
-      (goes (cross_seen w) cmp.Lower (phase.Filter end) (w.core.drive.crossing) (w.bank.comp_changed) (false) (Some end.0) e refl
-      (armed (cross_seen w) (phase.Filter end) end.0 (inr refl) (free_of w outer cmp.Arm i) (stands_at w outer cmp.Arm (phase.Filter end) i e)));
-  others = elim [
-    | kind.Cmp ↦ λ ne u. absurd (ne refl)
-    | kind.Comm ↦ λ ne u. quiet_drive w outer cmp.Arm cmp.Lower (w.core.drive.crossing) refl refl i
-    | j ↦ λ ne u. u
-  ];
-  stack_is = i.on;
-}
-
-arms_by : (p : Phase) (w : World) (outer : List Kind) → w.core.drive.crossing.phase ≡ p → IsCmp w outer cmp.Arm
+cmp_arm_preserves : (p : Phase) (w : World) (outer : List Kind) → w.core.drive.crossing.phase ≡ p → IsCmp w outer cmp.Arm
     → StepKeeps kind.Cmp outer w (goes_on (record w.core { cmp_at = cmp.Lower }) (arms (until p)))
-arms_by (phase.Blank end) w outer e i = arms_blank end w outer e i
-arms_by (phase.Filter end) w outer e i = arms_filter end w outer e i
-arms_by phase.Off w outer e i = absurd (stands_at w outer cmp.Arm phase.Off i e).regs
-arms_by phase.Watch w outer e i = absurd (stands_at w outer cmp.Arm phase.Watch i e).regs
-arms_by phase.Done w outer e i = absurd (stands_at w outer cmp.Arm phase.Done i e).regs
+cmp_arm_preserves (phase.Blank end) w outer e i = arm_end_preserves end (phase.Blank end) w outer (inl refl) e i
+cmp_arm_preserves (phase.Filter end) w outer e i = arm_end_preserves end (phase.Filter end) w outer (inr refl) e i
+cmp_arm_preserves phase.Off w outer e i = absurd (stands_at w outer cmp.Arm phase.Off i e).regs
+cmp_arm_preserves phase.Watch w outer e i = absurd (stands_at w outer cmp.Arm phase.Watch i e).regs
+cmp_arm_preserves phase.Done w outer e i = absurd (stands_at w outer cmp.Arm phase.Done i e).regs
 
 z_drives : (turn : Turn) (demand : ℕ) → HasZ turn → (demand ≡ 0 → turn ≡ Idle) → 0 < demand
 z_drives turn demand q idle = elim (cases_lt 0 demand) [
@@ -233,9 +166,9 @@ timed_drive v shut unmasked was t = record {
 }
 
 -- the time of the sector change is set
-commutes_at : (w : World) (outer : List Kind) → w.core.drive.crossing.phase ≡ phase.Done → IsCmp w outer cmp.Commute
+cmp_commute_preserves : (w : World) (outer : List Kind) → w.core.drive.crossing.phase ≡ phase.Done → IsCmp w outer cmp.Commute
     → StepKeeps kind.Cmp outer w (cmp_step cmp.Commute w.core w.bank)
-commutes_at w outer e i =
+cmp_commute_preserves w outer e i =
     let st = stands_at w outer cmp.Commute phase.Done i e in
     let some : 0 < demand_at w.back = z_drives (turn_at w.back) (demand_at w.back) st.phase_is (i.ties kind.Comm).next.idle in
     record {
@@ -255,26 +188,12 @@ commutes_at w outer e i =
       stack_is = i.on;
     }
 
--- ---- it lowers the mask, and returns
+-- ---- it cmp_lower_preserves the mask, and cmp_return_preserves
 
-lowers : (w : World) (outer : List Kind) → IsCmp w outer cmp.Lower → StepKeeps kind.Cmp outer w (cmp_step cmp.Lower w.core w.bank)
-lowers w outer i = record {
-  gates = quiet_gates kind.Cmp w _ (λ e. cc) refl refl refl;
-  fits = λ told. tt;
-  ground = i.ground;
-  tie = λ told. cmp_moves (cross_seen w) cmp.Back (w.core.drive.crossing) (w.bank.comp_changed) (w.bank.comp_enabled) (w.bank.crossing)
-      (not_shut w outer cmp.Lower refl i)
-      (free_of w outer cmp.Lower i) (i.ties kind.Cmp)
-      (goes (cross_seen w) cmp.Back (w.core.drive.crossing.phase) (w.core.drive.crossing) (w.bank.comp_changed) (w.bank.comp_enabled) (w.bank.crossing) refl
-      refl
-      (lowered (cross_seen w) w.core.drive.crossing.phase (free_of w outer cmp.Lower i) (stands_at w outer cmp.Lower w.core.drive.crossing.phase i refl)));
-  others = elim [
-    | kind.Cmp ↦ λ ne u. absurd (ne refl)
-    | kind.Comm ↦ λ ne u. quiet_drive w outer cmp.Lower cmp.Back (w.core.drive.crossing) refl refl i
-    | j ↦ λ ne u. u
-  ];
-  stack_is = i.on;
-}
+cmp_lower_preserves : (w : World) (outer : List Kind) → IsCmp w outer cmp.Lower → StepKeeps kind.Cmp outer w (cmp_step cmp.Lower w.core w.bank)
+cmp_lower_preserves w outer i =
+    cmp_wait_preserves w outer cmp.Lower cmp.Back w.core.drive.crossing.phase w.core.hold (Writes reg.Mask 0) i refl refl refl refl refl
+    (lowered (cross_seen w) w.core.drive.crossing.phase (free_of w outer cmp.Lower i) (stands_at w outer cmp.Lower w.core.drive.crossing.phase i refl))
 
 -- with the Z that is owed
 has_crossed : (trace : List Event) (expects : Bool) (t : ℕ) (s : Sight) (p : Phase) (blanked past : ℕ) → past ≤ t → IsInTime 0 trace
@@ -286,8 +205,8 @@ has_crossed trace expects t (Awaits u) p blanked past le order s = tt
 has_crossed trace expects t (First i) p blanked past le order s = tt
 has_crossed trace expects t (Settles i u) p blanked past le order s = tt
 
-returns : (w : World) (outer : List Kind) → IsCmp w outer cmp.Back → StepKeeps kind.Cmp outer w (cmp_step cmp.Back w.core w.bank)
-returns w outer i = record {
+cmp_return_preserves : (w : World) (outer : List Kind) → IsCmp w outer cmp.Back → StepKeeps kind.Cmp outer w (cmp_step cmp.Back w.core w.bank)
+cmp_return_preserves w outer i = record {
   gates = quiet_gates kind.Cmp w _ (λ e. cc) refl refl refl;
   fits = λ told. (
     record {
@@ -300,7 +219,7 @@ returns w outer i = record {
           | owed.Drives ↦ λ e. cc
           | owed.Searches ↦ λ four. has_crossed w.trace (cross_seen w).expects w.bank.time (sight_at w.back) w.core.drive.crossing.phase
               (blanked_at w.back) w.made.cmp_past
-              i.past.cmp i.ground.in_time (stands_at w outer cmp.Back w.core.drive.crossing.phase i refl).seen
+              i.past.cmp i.ground.outside.in_time (stands_at w outer cmp.Back w.core.drive.crossing.phase i refl).seen
           | owed.Nests ↦ (inside (so_far w).stack kind.Cmp outer i.on, tt)
           | l ↦ tt
         ];
@@ -323,14 +242,14 @@ returns w outer i = record {
 
 steps : (place : CmpAt) (w : World) (outer : List Kind) → IsCmp w outer place → 0 < cmp_left place → StepKeeps kind.Cmp outer w (cmp_step place w.core w.bank)
 steps cmp.Shut w outer i left = absurd (omega arith)
-steps cmp.Raise w outer i left = raises w outer i
-steps cmp.Look w outer i left = looks w.core.drive.crossing.phase w outer refl i
-steps cmp.Read w outer i left = reads (is_blanked w.core.drive.crossing.phase w.bank.time) w outer refl i
-steps cmp.Ack w outer i left = by_may (may_filter w.core.drive.crossing.phase w.bank.time) w outer refl i
-steps cmp.Arm w outer i left = arms_by w.core.drive.crossing.phase w outer refl i
-steps cmp.Commute w outer i left = commutes_at w outer (stands_at w outer cmp.Commute w.core.drive.crossing.phase i refl).regs.0 i
-steps cmp.Lower w outer i left = lowers w outer i
-steps cmp.Back w outer i left = returns w outer i
+steps cmp.Raise w outer i left = cmp_raise_preserves w outer i
+steps cmp.Look w outer i left = cmp_look_preserves w.core.drive.crossing.phase w outer refl i
+steps cmp.Read w outer i left = cmp_read_preserves (is_blanked w.core.drive.crossing.phase w.bank.time) w outer refl i
+steps cmp.Ack w outer i left = cmp_ack_preserves (may_filter w.core.drive.crossing.phase w.bank.time) w outer refl i
+steps cmp.Arm w outer i left = cmp_arm_preserves w.core.drive.crossing.phase w outer refl i
+steps cmp.Commute w outer i left = cmp_commute_preserves w outer (stands_at w outer cmp.Commute w.core.drive.crossing.phase i refl).regs.0 i
+steps cmp.Lower w outer i left = cmp_lower_preserves w outer i
+steps cmp.Back w outer i left = cmp_return_preserves w outer i
 
 -- ---- what the notes call is due
 
@@ -482,29 +401,29 @@ outside w (event.Stall at n) is past t = rw (held-push w.trace (event.Stall at n
 
 pub cmp_law : HandlerLaw kind.Cmp
 cmp_law = record {
-  called = λ w g t told unheld none s. called w t unheld (cmp_shut w.core.cmp_at none) s;
-  asked = λ w g t unheld due. (tt, tt);
-  entered = λ w g t unheld none due past high.
-      entered w t unheld (cmp_shut w.core.cmp_at none) due past (comm_shut w.core.comm_at w.core.drive.turn.at (high.shut kind.Comm (omega arith)))
-      (high.none kind.Comm (omega arith));
-  beside = λ w g t unheld none due past high. elim [
+  called = λ w i s. called w i.rest.ties i.unheld (cmp_shut w.core.cmp_at i.shut) s;
+  asked = λ w i. (tt, tt);
+  entered = λ w i.
+      entered w i.rest.ties i.unheld (cmp_shut w.core.cmp_at i.shut) i.due i.past (comm_shut w.core.comm_at w.core.drive.turn.at (i.highest.shut kind.Comm (omega arith)))
+      (i.highest.none kind.Comm (omega arith));
+  beside = λ w i. elim [
     | kind.Cmp ↦ λ ne. absurd (ne refl)
     | kind.Comm ↦ λ ne. searched_drive (drive_seen w) cmp.Raise w.core.drive.crossing
-        (comm_shut w.core.comm_at w.core.drive.turn.at (high.shut kind.Comm (omega arith)))
-        (subst (λ (x : CmpAt). commutes x ≡ false) (sym (cmp_shut w.core.cmp_at none)) refl) refl (t kind.Comm)
-    | j ↦ λ ne. t j
+        (comm_shut w.core.comm_at w.core.drive.turn.at (i.highest.shut kind.Comm (omega arith)))
+        (subst (λ (x : CmpAt). commutes x ≡ false) (sym (cmp_shut w.core.cmp_at i.shut)) refl) refl (i.rest.ties kind.Comm)
+    | j ↦ λ ne. i.rest.ties j
   ];
-  steps = λ w answers outer given g t above alone past on left. steps w.core.cmp_at w outer (record {
-    ground = g;
-    ties = t;
-    on = on;
+  steps = λ w answers outer given i. steps w.core.cmp_at w outer (record {
+    ground = i.rest.ground;
+    ties = i.rest.ties;
+    on = i.on;
     place_is = refl;
-    comm_is = comm_shut w.core.comm_at w.core.drive.turn.at (above kind.Comm (omega arith));
-    unmasked = alone kind.Tick (λ e. cc);
-    past = past;
-  }) left;
-  later = λ w u from small g t.
-      subst (λ (h : Held). CrossTied (record (cross_seen w) { time = u; held = h })) (sym (held_stays w.trace w.bank.time u from g.events))
-      (cross_later (cross_seen w) u from (t kind.Cmp));
-  outside = λ w e at past g t. outside w e at past.cmp (t kind.Cmp);
+    comm_is = comm_shut w.core.comm_at w.core.drive.turn.at (i.above kind.Comm (omega arith));
+    unmasked = i.alone kind.Tick (λ e. cc);
+    past = i.past;
+  }) i.left;
+  later = λ w u from small i.
+      subst (λ (h : Held). CrossTied (record (cross_seen w) { time = u; held = h })) (sym (held_stays w.trace w.bank.time u from i.ground.outside.events))
+      (cross_later (cross_seen w) u from (i.ties kind.Cmp));
+  outside = λ w e i. outside w e i.now i.past.cmp (i.rest.ties kind.Cmp);
 }

@@ -516,38 +516,38 @@ later v u l t = record {
 
 pub comm_law : HandlerLaw kind.Comm
 comm_law = record {
-  called = λ w g t told unheld none s. called w t told unheld (comm_shut w.core.comm_at w.core.drive.turn.at none) s;
-  asked = λ w g t unheld due. (tt, tt);
-  entered = λ w g t unheld none due past high. entered w t unheld (comm_shut w.core.comm_at w.core.drive.turn.at none) due past.comm;
-  beside = λ w g t unheld none due past high. elim [
+  called = λ w i s. called w i.rest.ties i.told i.unheld (comm_shut w.core.comm_at w.core.drive.turn.at i.shut) s;
+  asked = λ w i. (tt, tt);
+  entered = λ w i. entered w i.rest.ties i.unheld (comm_shut w.core.comm_at w.core.drive.turn.at i.shut) i.due i.past.comm;
+  beside = λ w i. elim [
     | kind.Comm ↦ λ ne. absurd (ne refl)
     | kind.Tick ↦ λ ne. (
-      (t kind.Tick).0,
-      (t kind.Tick).1,
-      (t kind.Tick).2,
-      (t kind.Tick).3,
-      λ z. absurd (let l = entry_drives w t unheld due in omega arith),
+      (i.rest.ties kind.Tick).0,
+      (i.rest.ties kind.Tick).1,
+      (i.rest.ties kind.Tick).2,
+      (i.rest.ties kind.Tick).3,
+      λ z. absurd (let l = entry_drives w i.rest.ties i.unheld i.due in omega arith),
     )
     | kind.Cap ↦ λ ne. (
-      (t kind.Cap).0,
-      (t kind.Cap).1,
-      (t kind.Cap).2,
-      period_kept w _ (rw (comm_shut w.core.comm_at w.core.drive.turn.at none) refl) (t kind.Cap).3,
+      (i.rest.ties kind.Cap).0,
+      (i.rest.ties kind.Cap).1,
+      (i.rest.ties kind.Cap).2,
+      period_kept w _ (rw (comm_shut w.core.comm_at w.core.drive.turn.at i.shut) refl) (i.rest.ties kind.Cap).3,
     )
     | kind.Cmp ↦ λ ne. moved_cross (cross_seen w) comm.Decide w.core.drive.turn.at w.core.drive.postponed
-        (rw (comm_shut w.core.comm_at w.core.drive.turn.at none) refl) (λ e. cc) (t kind.Cmp).late (t kind.Cmp)
-    | j ↦ λ ne. t j
+        (rw (comm_shut w.core.comm_at w.core.drive.turn.at i.shut) refl) (λ e. cc) (i.rest.ties kind.Cmp).late (i.rest.ties kind.Cmp)
+    | j ↦ λ ne. i.rest.ties j
   ];
-  steps = λ w answers outer given g t above alone past on left. steps w.core.comm_at w outer (record {
-    ground = g;
-    ties = t;
-    on = on;
+  steps = λ w answers outer given i. steps w.core.comm_at w outer (record {
+    ground = i.rest.ground;
+    ties = i.rest.ties;
+    on = i.on;
     place_is = refl;
     change_is = refl;
-    drives = open_drives w t (not_shut w.core.comm_at w.core.drive.turn.at left);
-    past = past.comm;
-    alone = alone;
-  }) left;
-  later = λ w u from small g t. later (drive_seen w) u from (t kind.Comm);
-  outside = λ w e at past g t. t kind.Comm;
+    drives = open_drives w i.rest.ties (not_shut w.core.comm_at w.core.drive.turn.at i.left);
+    past = i.past.comm;
+    alone = i.alone;
+  }) i.left;
+  later = λ w u from small i. later (drive_seen w) u from (i.ties kind.Comm);
+  outside = λ w e i. i.rest.ties kind.Comm;
 }

@@ -48,7 +48,7 @@ use Rattle.esc_rooms.proofs.shared.Lines.{edge_now, edge_bank, line_changes, lin
 use Rattle.esc_laws.proofs.Rests.{rest_now}
 use Rattle.esc_rooms.proofs.shared.RoomSteps.{ground_noted}
 use Rattle.esc_rooms.proofs.shared.Returns.{returns_last}
-use Rattle.esc_rooms.proofs.shared.Law.{Highest, Given}
+use Rattle.esc_rooms.proofs.shared.Law.{AtEntry, AtEvent, Highest, Given}
 use Rattle.esc_rooms.proofs.log.Laws.{law}
 use Rattle.esc_laws.proofs.Comparator.{held-push, held_stays, held_now, comp_now, in_time_push}
 use Rattle.esc_laws.proofs.Placed.{placed-is}
@@ -244,7 +244,8 @@ step_made k answers loaded nest trace c b made rest outer i past above alone lef
     let some : 0 < left_of w.core k = rw (counted_left k c b) left in
     let holds : HoldsAlone k w = (λ j ne. rw (counted_need j c b) (alone j ne)) in
     let was : WordTold w.core w.bank w.back = i.gates in
-    let plain : StepKeeps k outer w s = (law k).steps w answers outer given i.ground ties shut holds past on some in
+    let plain : StepKeeps k outer w s = (law k).steps w answers outer given
+        (record { rest = record { ground = i.ground; ties = ties }; past = past; above = shut; alone = holds; on = on; left = some }) in
     elim (word_after b after (access_time b s.access)) [
       | inl same ↦ rw same.none (
         kept_stood k w rest outer s refl i.said ties (told_same k w s plain.gates was same) plain,
@@ -255,8 +256,14 @@ step_made k answers loaded nest trace c b made rest outer i past above alone lef
       )
       | inr other ↦ (
           let told : StepKeeps k outer (gated w after) s =
-          (law k).steps (gated w after) answers outer given (ground_noted w g refl refl tt refl i.ground) (λ j. gate_tie j w after (ties j)) shut holds
-          past on some in
+          (law k).steps (gated w after) answers outer given (record {
+            rest = record { ground = ground_noted w g refl refl tt refl i.ground; ties = λ j. gate_tie j w after (ties j) };
+            past = past;
+            above = shut;
+            alone = holds;
+            on = on;
+            left = some;
+          }) in
           let by = gate_said k w s plain.gates was other in
           let gate = plain.gates.fits was other.moves in
           let said : Said loaded nest trace b.time (rest ++ g ∷ []) =
@@ -320,16 +327,25 @@ pub enter_stood : (k : Kind) (loaded : Loaded) (nest : Nest) (trace : List Event
 enter_stood k loaded nest trace c b made rest stack i past none unheld due high above =
     let w : World = world_of loaded nest trace c b made rest in
     let n : Note = enters k b.time in
+    let at : AtEntry k w = record {
+      rest = record { ground = i.ground; ties = i.ties };
+      past = past;
+      told = i.gates;
+      unheld = unheld;
+      shut = none;
+      due = due;
+      highest = high;
+    } in
     let back : n ∷ reverse (opening loaded ++ rest) ≡ reverse (opening loaded ++ (rest ++ n ∷ [])) =
     sym (reverse-push (opening loaded ++ rest) n) ∙ ap reverse (append_assoc (opening loaded) rest (n ∷ [])) in
     record {
       said = subst (λ (t : ℕ). Said loaded nest trace t (rest ++ n ∷ [])) (sym (enter_time k b)) (said_push loaded nest trace b.time rest n i.said refl
-          (enter_fits k w (opening loaded ++ rest) stack (i.ties kind.Cmp) refl i.stack_is ((law k).asked w i.ground i.ties unheld due) above));
+          (enter_fits k w (opening loaded ++ rest) stack (i.ties kind.Cmp) refl i.stack_is ((law k).asked w at) above));
       gates = subst (λ (ns : List Note). WordTold (entered_core c k) (after_entry b k) ns) back (enter_told k c b (reverse (opening loaded ++ rest)) i.gates);
       ground = subst (λ (ns : List Note). Ground (record (after_enter k w) { back = ns })) back (ground_enter k w i.ground);
       ties = λ j. subst (λ (ns : List Note). Tie j (record (after_enter k w) { back = ns })) back (elim (same_kind j k) [
-        | inl e ↦ subst (λ (x : Kind). Tie x (after_enter k w)) (sym e) ((law k).entered w i.ground i.ties unheld none due past high)
-        | inr ne ↦ (law k).beside w i.ground i.ties unheld none due past high j ne
+        | inl e ↦ subst (λ (x : Kind). Tie x (after_enter k w)) (sym e) ((law k).entered w at)
+        | inr ne ↦ (law k).beside w at j ne
       ]);
       stack_is = ap (λ (ns : List Note). (place ns).stack) (sym (append_assoc (opening loaded) rest (n ∷ [])))
           ∙ ap (λ (p : Place). p.stack) (place-push (opening loaded ++ rest) n) ∙ enter_stack k (place (opening loaded ++ rest)) b.time
@@ -342,13 +358,15 @@ pub later_ground : (w : World) (u : ℕ) → w.bank.time ≤ u → u < 214748364
 later_ground w u from small g = record {
   control = g.control;
   orders = g.orders;
-  level = g.level;
-  edges = (All-later (λ e. e.t.0) (line w.trace).edges w.bank.time u from g.edges.0, g.edges.1);
-  rested = g.rested;
-  small = small;
-  events = All-later (λ e. tick_of e) w.trace w.bank.time u from g.events;
-  in_time = g.in_time;
-  comparator = g.comparator ∙ ap (λ (h : Held). h.level) (sym (held_stays w.trace w.bank.time u from g.events));
+  outside = record {
+    level = g.outside.level;
+    edges = (All-later (λ e. e.t.0) (line w.trace).edges w.bank.time u from g.outside.edges.0, g.outside.edges.1);
+    rested = g.outside.rested;
+    events = All-later (λ e. tick_of e) w.trace w.bank.time u from g.outside.events;
+    in_time = g.outside.in_time;
+    comparator = g.outside.comparator ∙ ap (λ (h : Held). h.level) (sym (held_stays w.trace w.bank.time u from g.outside.events));
+    small = small;
+  };
   line = g.line;
 }
 
@@ -388,10 +406,10 @@ outside_is b (event.Comp at level) = by_test (differ b.comp level)
 outside_is b e = refl
 
 events_now : (w : World) (e : Event) → tick_of e ≡ w.bank.time → Ground w → All (λ x. tick_of x ≤ w.bank.time) (w.trace ++ e ∷ [])
-events_now w e is g = All-push (λ x. tick_of x ≤ w.bank.time) w.trace e g.events (omega arith)
+events_now w e is g = All-push (λ x. tick_of x ≤ w.bank.time) w.trace e g.outside.events (omega arith)
 
 in_time_now : (w : World) (e : Event) → tick_of e ≡ w.bank.time → Ground w → IsInTime 0 (w.trace ++ e ∷ [])
-in_time_now w e is g = in_time_push w.trace e 0 (omega arith) g.in_time (All-later tick_of w.trace w.bank.time (tick_of e) (omega arith) g.events)
+in_time_now w e is g = in_time_push w.trace e 0 (omega arith) g.outside.in_time (All-later tick_of w.trace w.bank.time (tick_of e) (omega arith) g.outside.events)
 
 edge_ground : (v : Bool) (w : World) (level : Bool) → differ w.bank.level level ≡ v → Ground w
     → Ground (record w {
@@ -400,35 +418,39 @@ edge_ground : (v : Bool) (w : World) (level : Bool) → differ w.bank.level leve
       bank = record w.bank { level = (if v then edge_bank w.bank level else w.bank).level; changed = (if v then edge_bank w.bank level else w.bank).changed };
     })
 edge_ground true w level d g =
-    let new = line_changes w.trace w.bank level (subst (λ (l : Bool). differ l level ≡ true) g.level d) in
+    let new = line_changes w.trace w.bank level (subst (λ (l : Bool). differ l level ≡ true) g.outside.level d) in
     record {
       control = g.control;
       orders = g.orders;
-      level = ap (λ (l : Line). l.level) (sym new);
-      edges = rw new (
-        All-push (λ y. y.t.0 ≤ w.bank.time) (line w.trace).edges (edge_now w.bank level) g.edges.0 (omega arith),
-        rising_push (line w.trace).edges (edge_now w.bank level) 0 g.edges.1 g.edges.0 (omega arith),
-      );
-      rested = rw new (rest_now (line w.trace).edges (edge_now w.bank level) g.edges.0);
-      events = events_now w (event.Edge (as_tick w.bank.time) level) refl g;
-      in_time = in_time_now w (event.Edge (as_tick w.bank.time) level) refl g;
-      comparator = rw (held-push w.trace (event.Edge (as_tick w.bank.time) level) w.bank.time) g.comparator;
+      outside = record {
+        level = ap (λ (l : Line). l.level) (sym new);
+        edges = rw new (
+          All-push (λ y. y.t.0 ≤ w.bank.time) (line w.trace).edges (edge_now w.bank level) g.outside.edges.0 (omega arith),
+          rising_push (line w.trace).edges (edge_now w.bank level) 0 g.outside.edges.1 g.outside.edges.0 (omega arith),
+        );
+        rested = rw new (rest_now (line w.trace).edges (edge_now w.bank level) g.outside.edges.0);
+        events = events_now w (event.Edge (as_tick w.bank.time) level) refl g;
+        in_time = in_time_now w (event.Edge (as_tick w.bank.time) level) refl g;
+        comparator = rw (held-push w.trace (event.Edge (as_tick w.bank.time) level) w.bank.time) g.outside.comparator;
+        small = g.outside.small;
+      };
       line = g.line;
-      small = g.small;
     }
 edge_ground false w level d g =
-    let same = line_same w.trace w.bank level (subst (λ (l : Bool). differ l level ≡ false) g.level d) in
+    let same = line_same w.trace w.bank level (subst (λ (l : Bool). differ l level ≡ false) g.outside.level d) in
     record {
       control = g.control;
       orders = g.orders;
-      level = rw same g.level;
-      edges = rw same g.edges;
-      rested = rw same g.rested;
-      events = events_now w (event.Edge (as_tick w.bank.time) level) refl g;
-      in_time = in_time_now w (event.Edge (as_tick w.bank.time) level) refl g;
-      comparator = rw (held-push w.trace (event.Edge (as_tick w.bank.time) level) w.bank.time) g.comparator;
+      outside = record {
+        level = rw same g.outside.level;
+        edges = rw same g.outside.edges;
+        rested = rw same g.outside.rested;
+        events = events_now w (event.Edge (as_tick w.bank.time) level) refl g;
+        in_time = in_time_now w (event.Edge (as_tick w.bank.time) level) refl g;
+        comparator = rw (held-push w.trace (event.Edge (as_tick w.bank.time) level) w.bank.time) g.outside.comparator;
+        small = g.outside.small;
+      };
       line = g.line;
-      small = g.small;
     }
 
 outside_ground : (w : World) (e : Event) → tick_of e ≡ w.bank.time → Ground w → Ground (after_outside w e)
@@ -451,44 +473,49 @@ outside_ground w (event.Edge at level) is g =
 outside_ground w (event.Comp at level) is g = record {
   control = g.control;
   orders = g.orders;
-  level = rw (line-push w.trace (event.Comp at level)) g.level;
-  edges = rw (line-push w.trace (event.Comp at level)) g.edges;
-  rested = rw (line-push w.trace (event.Comp at level)) g.rested;
-  events = events_now w (event.Comp at level) is g;
-  in_time = in_time_now w (event.Comp at level) is g;
-  comparator = comp_now w.bank (held w.trace w.bank.time) at.0 level g.comparator ∙ ap (λ (h : Held). h.level) (sym (held_now w.trace at level w.bank.time is));
+  outside = record {
+    level = rw (line-push w.trace (event.Comp at level)) g.outside.level;
+    edges = rw (line-push w.trace (event.Comp at level)) g.outside.edges;
+    rested = rw (line-push w.trace (event.Comp at level)) g.outside.rested;
+    events = events_now w (event.Comp at level) is g;
+    in_time = in_time_now w (event.Comp at level) is g;
+    comparator = comp_now w.bank (held w.trace w.bank.time) at.0 level g.outside.comparator ∙ ap (λ (h : Held). h.level) (sym (held_now w.trace at level w.bank.time is));
+    small = g.outside.small;
+  };
   line = g.line;
-  small = g.small;
 }
 outside_ground w (event.Serial at byte) is g = record {
   control = g.control;
   orders = g.orders;
-  level = rw (line-push w.trace (event.Serial at byte)) g.level;
-  edges = rw (line-push w.trace (event.Serial at byte)) g.edges;
-  rested = rw (line-push w.trace (event.Serial at byte)) g.rested;
-  events = events_now w (event.Serial at byte) is g;
-  in_time = in_time_now w (event.Serial at byte) is g;
-  comparator = rw (held-push w.trace (event.Serial at byte) w.bank.time) g.comparator;
+  outside = record {
+    level = rw (line-push w.trace (event.Serial at byte)) g.outside.level;
+    edges = rw (line-push w.trace (event.Serial at byte)) g.outside.edges;
+    rested = rw (line-push w.trace (event.Serial at byte)) g.outside.rested;
+    events = events_now w (event.Serial at byte) is g;
+    in_time = in_time_now w (event.Serial at byte) is g;
+    comparator = rw (held-push w.trace (event.Serial at byte) w.bank.time) g.outside.comparator;
+    small = g.outside.small;
+  };
   line = g.line;
-  small = g.small;
 }
 outside_ground w (event.Stall at n) is g = record {
   control = g.control;
   orders = g.orders;
-  level = rw (line-push w.trace (event.Stall at n)) g.level;
-  edges = rw (line-push w.trace (event.Stall at n)) g.edges;
-  rested = rw (line-push w.trace (event.Stall at n)) g.rested;
-  events = events_now w (event.Stall at n) is g;
-  in_time = in_time_now w (event.Stall at n) is g;
-  comparator = rw (held-push w.trace (event.Stall at n) w.bank.time) g.comparator;
+  outside = record {
+    level = rw (line-push w.trace (event.Stall at n)) g.outside.level;
+    edges = rw (line-push w.trace (event.Stall at n)) g.outside.edges;
+    rested = rw (line-push w.trace (event.Stall at n)) g.outside.rested;
+    events = events_now w (event.Stall at n) is g;
+    in_time = in_time_now w (event.Stall at n) is g;
+    comparator = rw (held-push w.trace (event.Stall at n) w.bank.time) g.outside.comparator;
+    small = g.outside.small;
+  };
   line = g.line;
-  small = g.small;
 }
 
 pub event_ground : (w : World) (e : Event) → tick_of e ≡ w.bank.time → Ground w → Ground (record w { trace = w.trace ++ e ∷ []; bank = after_event w.bank e })
 event_ground w e is g = subst (λ (b : Bank). Ground (record w { trace = w.trace ++ e ∷ []; bank = b })) (sym (outside_is w.bank e)) (outside_ground w e is g)
 
-pub event_tie : (j : Kind) (w : World) (e : Event) → tick_of e ≡ w.bank.time → Past w.made w.bank.time → Ground w → Ties w
-    → Tie j (record w { trace = w.trace ++ e ∷ []; bank = after_event w.bank e })
-event_tie j w e is past g t =
-    subst (λ (b : Bank). Tie j (record w { trace = w.trace ++ e ∷ []; bank = b })) (sym (outside_is w.bank e)) ((law j).outside w e is past g t)
+pub event_tie : (j : Kind) (w : World) (e : Event) → AtEvent e w → Tie j (record w { trace = w.trace ++ e ∷ []; bank = after_event w.bank e })
+event_tie j w e i =
+    subst (λ (b : Bank). Tie j (record w { trace = w.trace ++ e ∷ []; bank = b })) (sym (outside_is w.bank e)) ((law j).outside w e i)

@@ -32,37 +32,36 @@ use Rattle.esc_laws.specs.Steps.{Turned, opening, notes_in, journal, after, uses
 use Rattle.esc_rooms.specs.Tied.{Keeps, WordTold}
 use Rattle.esc_laws.specs.Looks.{made}
 use Rattle.esc_rooms.specs.World.{world, enters, all_notes, open_left}
-use Rattle.esc_rooms.specs.Rooms.{Ground, Tie}
 use Rattle.esc_rooms.specs.Logged.{Logged}
 use Rattle.esc_laws.proofs.Pushes.{notes-push, own-push, made-push, since-push}
 use Rattle.esc_laws.proofs.Stalls.{free_ended}
 use Rattle.esc_rooms.proofs.shared.Facts.{of_self, of_other, some_open, outer_open, left_open, access_time}
-use Rattle.esc_rooms.proofs.shared.Law.{Highest, Given}
+use Rattle.esc_rooms.proofs.shared.Law.{AtRest, Highest, Given}
 use Rattle.esc_rooms.proofs.log.Laws.{law}
 use Rattle.esc_rooms.proofs.log.Stages.{world_of, IsOwn, enter_time, enter_stood, step_made}
 use Rattle.esc_laws.proofs.Placed.{placed-is}
 use Rattle.esc_rooms.proofs.log.Entries.{unheld_down, holds_alone, entered_others, entered_most, entry_above_all, keeps_entry, entry_above_kinds}
 use Rattle.esc_rooms.proofs.log.OwnTurns.{steady, keeps_own}
 use Rattle.esc_rooms.proofs.log.ChopSteps.{entry_chops, own_chops}
-use Rattle.esc_rooms.proofs.log.Turns.{reached_on, reached_new, by_on, by_new, stood, logged_after}
+use Rattle.esc_rooms.proofs.log.Turns.{reached_on, reached_new, by_on, by_new, stood, at_rest, logged_after}
 
 -- ---- what is seen due, and isn't open, is due
 
 waits_due : (loaded : Loaded) (nest : Nest) (trace : List Event) (c : Brain) (b : Bank) (stack : List Kind) (log : List Turned) → Keeps c b stack
-    → Ground (world loaded nest trace c b log) → ((j : Kind) → Tie j (world loaded nest trace c b log)) → WordTold c b (reverse (journal loaded log))
+    → AtRest (world loaded nest trace c b log) → WordTold c b (reverse (journal loaded log))
     → ((j : Kind) → 8 < need_of c j) → (k : Kind) → sees loaded trace (journal loaded log) b.time k ≡ true → is_open stack k ≡ false
     → due_now (waits_of c) b k ≡ true
-waits_due loaded nest trace c b stack log keeps g t told unheld k s f =
-    (law k).called (world loaded nest trace c b log) g t told unheld (keeps.shut k f)
+waits_due loaded nest trace c b stack log keeps rest told unheld k s f =
+    (law k).called (world loaded nest trace c b log) (record { rest = rest; told = told; unheld = unheld; shut = keeps.shut k f })
     (subst (λ (p : Place). sees_at loaded trace p (reverse (journal loaded log)) b.time k ≡ true) (sym (placed-is (journal loaded log))) s)
 
 pub sees_due : (loaded : Loaded) (nest : Nest) (trace : List Event) (c : Brain) (b : Bank) (stack : List Kind) (log : List Turned) → Keeps c b stack
-    → Ground (world loaded nest trace c b log) → ((j : Kind) → Tie j (world loaded nest trace c b log)) → WordTold c b (reverse (journal loaded log))
+    → AtRest (world loaded nest trace c b log) → WordTold c b (reverse (journal loaded log))
     → ((j : Kind) → 8 < need_of c j) → (k : Kind) → is_waiting (sees loaded trace (journal loaded log) b.time) stack k ≡ true
     → due_now (waits_of c) b k ≡ true
-sees_due loaded nest trace c b stack log keeps g t told unheld k e =
+sees_due loaded nest trace c b stack log keeps rest told unheld k e =
     let parts = and_parts (sees loaded trace (journal loaded log) b.time k) (not (is_open stack k)) e in
-    waits_due loaded nest trace c b stack log keeps g t told unheld k parts.0 (not-true (is_open stack k) parts.1)
+    waits_due loaded nest trace c b stack log keeps rest told unheld k parts.0 (not-true (is_open stack k) parts.1)
 
 -- ---- an entry
 
@@ -84,7 +83,7 @@ entry_fits loaded nest cost trace c b stack log k l down chosen calls = record {
   first = λ o. (
     refl,
     λ j s. highest_most (due_now (waits_of c) b) k j
-        (waits_due loaded nest trace c b stack log l.keeps l.ground l.ties l.gates (unheld_down c b stack l.keeps down) j s
+        (waits_due loaded nest trace c b stack log l.keeps (at_rest loaded nest cost trace b.time c b stack log l) l.gates (unheld_down c b stack l.keeps down) j s
         (empty_open stack j (l.marks.stack_is ∙ o)))
         (entry_highest nest stack (due_now (waits_of c) b) k chosen),
   );
@@ -176,7 +175,7 @@ entry_turn loaded nest cost trace c b stack log k some l down chosen =
           rw still
           (entry_patient nest stack (due_now (waits_of c) b) (sees loaded trace (journal loaded log) b.time)
           (sees loaded trace (journal loaded (log ++ entry_of b.time k ∷ [])) b.time) k c.hold (entered_core c k).hold (called loaded nest trace log)
-          (sees_due loaded nest trace c b stack log l.keeps l.ground l.ties l.gates (unheld_down c b stack l.keeps down)) chosen (rw down at l.patient));
+          (sees_due loaded nest trace c b stack log l.keeps (at_rest loaded nest cost trace b.time c b stack log l) l.gates (unheld_down c b stack l.keeps down)) chosen (rw down at l.patient));
       owes = entry_owes c b stack log k l.owes;
       reached = entry_reached cost trace b stack log k l.at_next l.reached;
       reached_by = entry_by cost trace b stack log k l.at_next l.reached;
@@ -264,7 +263,7 @@ own_turn loaded nest cost trace c b outer log k answers some given l none short 
       patient =
           own_patient nest k outer (open_left k outer s) (due_now (waits_of c) b) (sees loaded trace (journal loaded log) b.time)
           (sees loaded trace (journal loaded (log ++ own_of b.time k notes ∷ [])) b.time) b.masked b'.masked c.hold s.core.hold (called loaded nest trace log)
-          (λ m. sees_due loaded nest trace c b (k ∷ outer) log l.keeps l.ground l.ties l.gates (unheld_down c b (k ∷ outer) l.keeps m)) none
+          (λ m. sees_due loaded nest trace c b (k ∷ outer) log l.keeps (at_rest loaded nest cost trace b.time c b (k ∷ outer) log l) l.gates (unheld_down c b (k ∷ outer) l.keeps m)) none
           (left_goes s.over b'.masked k outer (mask_down k (need_of c k) c.hold b s bound.mask)) held (λ m. bound.mask.most) bound.mask.less l.patient;
       owes = own_owes c s.core outer log k b.time notes s.over l.owes bound.moves.less (λ j ne. (bound.moves.others j ne).0);
       reached = λ j o. reached_on cost trace log (own_of b.time k notes) j refl (l.at_next (λ e. cc)) (l.reached j (left_open s.over k j outer o));

@@ -32,14 +32,8 @@ saves w saved outer g asked none on = record {
   ground = record {
     control = other_stands (note.Saved (as_tick w.bank.time) (result_of saved)) w.core.control w.back refl refl (sym g.orders.save_is ∙ asked) g.control;
     orders = saved_tied w.loaded w.core.orders (as_tick w.bank.time) (result_of saved) w.back g.orders;
-    level = g.level;
-    edges = g.edges;
-    rested = g.rested;
-    events = g.events;
-    in_time = g.in_time;
-    comparator = g.comparator;
+    outside = g.outside;
     line = g.line;
-    small = g.small;
   };
   tie = λ told. ap (λ (n : ℕ). n + 1) none;
   others = elim [ kind.Main ↦ λ ne t. absurd (ne refl) | j ↦ λ ne t. t ];
@@ -76,11 +70,11 @@ asked_if c l d = asked_by c.orders.save_asked (line_waits c.line) (rw l.none_wai
 
 pub main_law : HandlerLaw kind.Main
 main_law = record {
-  called = λ w g t told unheld none s. waits_if w.core (g.orders.save_is ∙ s);
-  asked = λ w g t unheld due. (tt, tt);
-  entered = λ w g t unheld none due past high. (asked_if w.core g.line due, refl);
-  beside = λ w g t unheld none due past high. elim [ kind.Main ↦ λ ne. absurd (ne refl) | j ↦ λ ne. t j ];
-  steps = λ w answers outer given g t above alone past on left. steps w.core.main_at w answers outer g (t kind.Main) on left;
-  later = λ w u from small g t. (t kind.Main);
-  outside = λ w e at past g t. (t kind.Main);
+  called = λ w i s. waits_if w.core (i.rest.ground.orders.save_is ∙ s);
+  asked = λ w i. (tt, tt);
+  entered = λ w i. (asked_if w.core i.rest.ground.line i.due, refl);
+  beside = λ w i. elim [ kind.Main ↦ λ ne. absurd (ne refl) | j ↦ λ ne. i.rest.ties j ];
+  steps = λ w answers outer given i. steps w.core.main_at w answers outer i.rest.ground (i.rest.ties kind.Main) i.on i.left;
+  later = λ w u from small i. (i.ties kind.Main);
+  outside = λ w e i. (i.rest.ties kind.Main);
 }

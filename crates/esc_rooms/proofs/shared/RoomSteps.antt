@@ -30,13 +30,7 @@ pub ground_noted : (w : World) (n : Note) → changes_control n ≡ false → sa
 ground_noted w n c s p o g = record {
   control = other_stands n w.core.control w.back c s p g.control;
   orders = orders_other w.loaded w.core.orders n w.back o g.orders;
-  level = g.level;
-  edges = g.edges;
-  rested = g.rested;
-  small = g.small;
-  events = g.events;
-  in_time = g.in_time;
-  comparator = g.comparator;
+  outside = g.outside;
   line = line_other w.core.line n w.back o g.line;
 }
 
