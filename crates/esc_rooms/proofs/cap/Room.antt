@@ -1,4 +1,5 @@
 -- CAP's room.
+use Rattle.std.proofs.lemmas.Bool.{le-leb}
 use Rattle.std.proofs.Common.{◌≡◌, ◌≤◌, ◌<◌, ◌+◌, ℕ, Bool, true, false, if◌then◌else◌, List, [], ◌∷◌, ◌++◌, length, Option, Some, None, refl, sym, ◌∙◌, ap, subst, arith, ◌⊎◌, inl, inr}
 use Rattle.esc_base.specs.declared.kind.Kind.{Kind}
 use Rattle.esc_base.specs.declared.kind.Kind.TheVariants as kind
@@ -17,7 +18,7 @@ use Rattle.esc_base.proofs.TraceLaws.{line-push}
 use Rattle.edge_capture.specs.Modes.{most}
 use Rattle.timer_regs.specs.Bank.{Bank}
 use Rattle.timer_regs.specs.Rest.{rests_from, put_off}
-use Rattle.timer_regs.specs.Effects.{after_line, read_value}
+use Rattle.timer_regs.specs.Effects.{after_entry, after_line, read_value}
 use Rattle.timer_regs.specs.declared.regs.Reg.TheVariants as reg
 use Rattle.interrupt_machine.specs.Did.{NoAccess, Reads}
 use Rattle.dshot_commands.specs.declared.act.Act.{Act}
@@ -41,11 +42,13 @@ use Rattle.settings_block.specs.Settings.{servo_of}
 use Rattle.esc_core.specs.Orders.{obeyed_if}
 use Rattle.esc_core.specs.Stepped.{goes_on}
 use Rattle.esc_core.specs.Cap.{act_in, after_edges, after_copy, after_good, command_note, judge_step, next_edge, opens, period_read, period_step, reply_from, reply_step, takes, cap_step}
-use Rattle.esc_core.specs.Firmware.{cap_left, tick_need, waits_of}
+use Rattle.esc_core.specs.Brain.{Brain}
+use Rattle.esc_core.specs.Firmware.{cap_left, entered_core, tick_need, waits_of}
 use Rattle.commutation.specs.Drive.{turns_at, rests_at, period_at}
 use Rattle.gcr_reply.specs.Reply.{reply_of}
 use Rattle.gcr_reply.proofs.Replies.{reply_of-tells}
-use Rattle.esc_laws.specs.Place.{Signal, Listens, Judged, Owes, Tells, Replies, Rests}
+use Rattle.esc_laws.specs.Asked.{IsCapAsked}
+use Rattle.esc_laws.specs.Place.{Place, Signal, Listens, Judged, Owes, Tells, Replies, Rests}
 use Rattle.esc_laws.specs.Windowed.{verdict_note, Answers, AnswersAt, OpensAt}
 use Rattle.esc_rooms.specs.Tied.{cap_view, IsClosing, IsCopying, IsJudged, HasBurst, SignalTied, TimerTied, WindowSound, MainTied}
 use Rattle.esc_rooms.specs.World.{World, so_far, at_time, after_outside}
@@ -60,7 +63,7 @@ use Rattle.esc_rooms.proofs.cmp.CrossFacts.{tick_unmasked}
 use Rattle.esc_rooms.proofs.cap.Period.{sum_tells}
 use Rattle.esc_rooms.proofs.cap.Ties.{start_tied, copy_goes, copy_tied, good_tied, framed_timer, period_tied, reply_starts, reply_tied, opens_tied, pause_tied, replied_tied, back_tied, back_timer, timer_off, timer_grows, back_done, back_may, back_replied}
 use Rattle.esc_rooms.proofs.shared.Lines.{plain_follows, edge_now, edge_bank, edge_follows, rising_push, edge_sound, line_changes, line_same}
-use Rattle.esc_rooms.proofs.shared.Dues.{cap_called, cap_entered, signal_follows, time_follows}
+use Rattle.esc_rooms.proofs.shared.Dues.{cap_called, cap_place, cap_entered, signal_follows, time_follows}
 use Rattle.esc_laws.proofs.Rests.{set_now}
 use Rattle.esc_rooms.proofs.shared.Law.{HandlerLaw}
 use Rattle.esc_rooms.proofs.shared.RoomSteps.{quiet_gates, ground_noted, inside, popped, if_true, if_false}
@@ -505,12 +508,24 @@ outside w (event.Comp at level) is g t = plain w (event.Comp at level) (line-pus
 outside w (event.Serial at byte) is g t = plain w (event.Serial at byte) (line-push w.trace (event.Serial at byte)) (omega arith) t
 outside w (event.Stall at n) is g t = plain w (event.Stall at n) (line-push w.trace (event.Stall at n)) (omega arith) t
 
+-- what it is entered for
+cap_asked : (s : Signal) (trace : List Event) (c : Brain) (b : Bank) (p : Place)
+    → SignalTied s cap.Start (cap_view trace (entered_core c kind.Cap) (after_entry b kind.Cap) (cap_place p b.time)) → IsCapAsked trace s b.time
+cap_asked (Listens w m) trace c b p i = rw i.closes (le-leb i.closed_at b.time i.waits)
+cap_asked (Rests from latest r) trace c b p i = i.rested
+cap_asked s trace c b p i = absurd i
+
 pub cap_law : HandlerLaw kind.Cap
 cap_law = record {
   called = λ w i s. cap_called (waits_of w.core) (so_far w).signal w.trace w.core w.bank (so_far w) w.made.cap_past
       (shut_tie w (i.rest.ties kind.Cap) i.shut)
       (shut_timer w (i.rest.ties kind.Cap) i.shut) s;
-  asked = λ w i. (tt, tt);
+  asked = λ w i. (
+    tt,
+    cap_asked (so_far w).signal w.trace w.core w.bank (so_far w)
+        (cap_entered (waits_of w.core) (so_far w).signal w.trace w.core w.bank (so_far w) w.made.cap_past refl (shut_tie w (i.rest.ties kind.Cap) i.shut)
+        (shut_timer w (i.rest.ties kind.Cap) i.shut) i.due),
+  );
   entered = λ w i. (
     cap_entered (waits_of w.core) (so_far w).signal w.trace w.core w.bank (so_far w) w.made.cap_past refl (shut_tie w (i.rest.ties kind.Cap) i.shut)
         (shut_timer w (i.rest.ties kind.Cap) i.shut) i.due,

@@ -1,5 +1,5 @@
 -- CMP's room.
-use Rattle.std.proofs.Common.{zero, suc, ◌≡◌, ◌≤◌, ◌<◌, ◌+◌, ◌⊎◌, inl, inr, ℕ, Bool, true, false, ◌&&◌, ◌||◌, ◌==◌, min, nat_le, if◌then◌else◌, List, [], ◌∷◌, ◌++◌, Some, refl, sym, ◌∙◌, ap, subst, arith}
+use Rattle.std.proofs.Common.{zero, suc, ◌≡◌, ◌≤◌, ◌<◌, ◌+◌, ◌⊎◌, inl, inr, ℕ, Option, None, Bool, true, false, ◌&&◌, ◌||◌, ◌==◌, min, nat_le, if◌then◌else◌, List, [], ◌∷◌, ◌++◌, Some, refl, sym, ◌∙◌, ap, subst, arith}
 use Rattle.std.proofs.lemmas.Bool.{cases_lt, le-leb}
 use Rattle.std.proofs.lemmas.Bool.Decides.{nat_tests}
 use Rattle.esc_base.specs.declared.kind.Kind.{Kind}
@@ -34,12 +34,13 @@ use Rattle.esc_core.specs.Drive.{low_free, due_at, arms}
 use Rattle.esc_core.specs.Cmp.{ready_step, is_blanked, read_step, may_filter, ack_step, cmp_step}
 use Rattle.esc_core.specs.Stepped.{goes_on}
 use Rattle.esc_core.specs.Firmware.{cmp_left, tick_need}
+use Rattle.esc_laws.specs.Asked.{IsInSector}
 use Rattle.esc_laws.specs.Calls.{turned_at}
 use Rattle.esc_laws.specs.Crossed.{blanked_at, expects_at}
 use Rattle.esc_laws.specs.Searched.{Sight, Away, Begun, Awaits, First, Settles, Second, calls_cmp, sight_at, quiet_at, HasCrossed}
 use Rattle.esc_laws.specs.Saves.{forward_at}
 use Rattle.esc_rooms.specs.DriveTied.{DriveView, DriveTied, CommTied, LowTied, TimerKept, commutes}
-use Rattle.esc_rooms.specs.CrossTied.{CrossTied, RegsTied, HasQ, HasZ, IsEarly, SightTied, LateTied, IsBlanked, begins_search}
+use Rattle.esc_rooms.specs.CrossTied.{CrossTied, RegsTied, HasQ, HasZ, IsEarly, PhaseTied, Armed, SightTied, LateTied, IsBlanked, begins_search}
 use Rattle.esc_rooms.specs.World.{World, so_far, enters, after_enter, after_outside}
 use Rattle.esc_laws.specs.InTime.{IsInTime}
 use Rattle.esc_rooms.specs.Rooms.{Ties, Tie, Unheld, Past, StepKeeps, drive_seen, cross_seen}
@@ -50,7 +51,7 @@ use Rattle.esc_laws.proofs.Apart.{apart_legs}
 use Rattle.esc_rooms.proofs.cmp.CrossFacts.{cmp_shut, tick_unmasked}
 use Rattle.esc_rooms.proofs.cmp.Facts.{Stands, stands, goes, cmp_moves, read_ready, read_unready, acked, armed, commuted, lowered, returned}
 use Rattle.esc_rooms.proofs.cmp.Events.{reached_at, cross_later, cross_changes, seen_due, cross_entered}
-use Rattle.esc_rooms.proofs.shared.Law.{HandlerLaw}
+use Rattle.esc_rooms.proofs.shared.Law.{HandlerLaw, AtEntry}
 use Rattle.esc_rooms.proofs.cmp.Preserves.{free_at, IsCmp, free_of, stands_at, searched_drive, quiet_drive, not_shut, cmp_step_preserves, cmp_wait_preserves}
 use Rattle.esc_rooms.proofs.cmp.Looks.{cmp_raise_preserves, q_drives, cmp_look_preserves}
 use Rattle.esc_laws.specs.NoteLaw as owed
@@ -399,10 +400,40 @@ outside w (event.Edge at level) is past t = rw (held-push w.trace (event.Edge at
 outside w (event.Serial at byte) is past t = rw (held-push w.trace (event.Serial at byte) w.bank.time) t
 outside w (event.Stall at n) is past t = rw (held-push w.trace (event.Stall at n) w.bank.time) t
 
+-- ---- what it is entered for
+
+stands_entered : (w : World) → AtEntry kind.Cmp w → Stands (cross_seen w) cmp.Shut w.core.drive.crossing.phase
+stands_entered w i =
+    stands (cross_seen w) cmp.Shut w.core.drive.crossing.phase (cmp_shut w.core.cmp_at i.shut) refl
+    (free_at w (comm_shut w.core.comm_at w.core.drive.turn.at (i.highest.shut kind.Comm (omega arith))) (i.unheld kind.Tick) i.past) (i.rest.ties kind.Cmp)
+
+sector_of : (turn : Turn) → HasQ turn → IsInSector turn
+sector_of (Turned q) h = tt
+sector_of Idle h = absurd h
+sector_of Started h = absurd h
+sector_of (Crossed q z) h = absurd h
+
+nothing_due : (timer : Option ℕ) (enabled changed : Bool) (t : ℕ) → timer ≡ None → enabled ≡ false → (is_reached timer t || (enabled && changed)) ≡ true → ⊥
+nothing_due timer enabled changed t none off due = let e : (is_reached timer t || (enabled && changed)) ≡ false = rw (none, off) refl in cc
+
+-- CMP comes due only after a Q
+in_sector : (p : Phase) (timer : Option ℕ) (enabled changed : Bool) (since blanked past t : ℕ) (turn : Turn)
+    → PhaseTied p turn changed since blanked t past → Armed p timer enabled → (is_reached timer t || (enabled && changed)) ≡ true → IsInSector turn
+in_sector phase.Off timer enabled changed since blanked past t turn tied armed due = absurd (nothing_due timer enabled changed t armed.0 armed.1 due)
+in_sector (phase.Blank end) timer enabled changed since blanked past t turn tied armed due = sector_of turn tied.0
+in_sector phase.Watch timer enabled changed since blanked past t turn tied armed due = sector_of turn tied.0
+in_sector (phase.Filter end) timer enabled changed since blanked past t turn tied armed due = sector_of turn tied.0
+in_sector phase.Done timer enabled changed since blanked past t turn tied armed due = absurd (nothing_due timer enabled changed t armed.0 armed.1 due)
+
 pub cmp_law : HandlerLaw kind.Cmp
 cmp_law = record {
   called = λ w i s. called w i.rest.ties i.unheld (cmp_shut w.core.cmp_at i.shut) s;
-  asked = λ w i. (tt, tt);
+  asked = λ w i. (
+    tt,
+    in_sector w.core.drive.crossing.phase w.bank.crossing w.bank.comp_enabled w.bank.comp_changed (held w.trace w.bank.time).since (blanked_at w.back)
+        w.made.cmp_past w.bank.time (turn_at w.back)
+        (stands_entered w i).phase_is (stands_entered w i).regs i.due,
+  );
   entered = λ w i.
       entered w i.rest.ties i.unheld (cmp_shut w.core.cmp_at i.shut) i.due i.past (comm_shut w.core.comm_at w.core.drive.turn.at (i.highest.shut kind.Comm (omega arith)))
       (i.highest.none kind.Comm (omega arith));

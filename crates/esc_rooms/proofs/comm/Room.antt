@@ -1,6 +1,6 @@
 -- COMM's room.
 use Rattle.std.proofs.Common.{◌≡◌, ◌≤◌, ◌<◌, ◌+◌, ◌⊎◌, inl, inr, ℕ, zero, suc, min, Bool, true, false, not, ◌&&◌, ◌||◌, nat_lt, nat_le, if◌then◌else◌, List, Option, Some, None, refl, sym, ◌∙◌, ap, subst, arith}
-use Rattle.std.proofs.lemmas.Bool.{cases_lt, and_parts, ltb-true, leb-true, le-leb, or_left, or_right, not-true}
+use Rattle.std.proofs.lemmas.Bool.{cases_lt, and_parts, lt-ltb, ltb-true, leb-true, le-leb, or_left, or_right, not-true}
 use Rattle.esc_base.specs.declared.kind.Kind.{Kind}
 use Rattle.esc_base.specs.declared.kind.Kind.TheVariants as kind
 use Rattle.esc_base.specs.declared.note.Note.TheVariants as note
@@ -24,9 +24,9 @@ use Rattle.esc_core.specs.Comm.{comm_step}
 use Rattle.esc_core.specs.Stepped.{Stepped, goes_on}
 use Rattle.esc_core.specs.Firmware.{comm_left, tick_need}
 use Rattle.esc_laws.specs.Saves.{advance_of}
-use Rattle.esc_laws.specs.Calls.{calls_turn, calls_low, turn_is_due, turned_at, turns_in, postponed_at, low_is_on, HasTurned, HasCaughtUp}
+use Rattle.esc_laws.specs.Calls.{calls_turn, calls_low, calls_comm, turn_is_due, turned_at, turns_in, postponed_at, low_is_on, HasTurned, HasCaughtUp}
 use Rattle.esc_rooms.specs.Tied.{WordTold}
-use Rattle.esc_rooms.specs.DriveTied.{DriveView, DriveTied, CommTied, LowTied, TimerKept, ChangeTied, Resumes, Resumed, HasActed, OnOrHeld, low_on, TurnTied}
+use Rattle.esc_rooms.specs.DriveTied.{DriveView, DriveTied, CommTied, LowTied, TimerKept, ChangeTied, Resumes, Resumed, HasActed, OnOrHeld, OnOrLate, low_on, TurnTied}
 use Rattle.esc_rooms.specs.World.{World, so_far, after_enter}
 use Rattle.commutation.specs.Turns.{six_of}
 use Rattle.commutation.specs.Drive.{turns_at, rests_at}
@@ -40,7 +40,7 @@ use Rattle.zero_cross.specs.Kept.{until}
 use Rattle.esc_core.specs.Drive.{arms as arms_crossing}
 use Rattle.esc_rooms.proofs.cmp.CrossFacts.{cmp_unmasked, tick_unmasked, unmasked_commutes, moved_cross, armed_cross, left_cross}
 use Rattle.esc_rooms.proofs.comm.Facts.{same_words, moved_view, comm_moves, IsComm, place_tie, before_step, same_to, same_marked}
-use Rattle.esc_rooms.proofs.shared.Law.{HandlerLaw}
+use Rattle.esc_rooms.proofs.shared.Law.{HandlerLaw, AtEntry}
 use Rattle.esc_rooms.proofs.cap.Period.{period_kept, period_written, driven_on}
 use Rattle.esc_rooms.proofs.comm.Goes.{same_sums, beside_tick, no_commute, same_search, goes}
 use Rattle.esc_rooms.proofs.comm.Turns.{decides}
@@ -271,9 +271,9 @@ returns at w outer i =
     has_done told to (inr r) = inr (record { none = r.none; not_due = r.not_due; postponed = r.postponed; low = low_same told ∙ r.low })
 
     on_or_late : ((turns_in w.back ≡ 1) × OnOrHeld (drive_seen w)) ⊎ Resumed (drive_seen w)
-        → ((low_on (drive_seen w) ≡ true) × (w.core.drive.postponed ≡ false)) ⊎ (w.core.drive.postponed ≡ true)
+        → OnOrLate (drive_seen w)
     on_or_late (inl (one, inl o)) = inl o
-    on_or_late (inl (one, inr h)) = inr h.0
+    on_or_late (inl (one, inr h)) = inr (h.0, h.1)
     on_or_late (inr r) = inl (r.low, r.prompt)
 
     keeps_timer : (at : TickAt) → 8 < tick_need at → TimerKept view → LowTied at view
@@ -347,7 +347,7 @@ change_due v (inr (at, e, now, c)) l = reached v.timer at v.time e now
 low_due : (v : DriveView) → TimerKept v → low_on v ≡ false → low_free v.drive ≤ v.time → is_reached v.timer v.time ≡ true
 low_due v (inl (e, inl o)) off l = (let z : true ≡ false = sym o.0 ∙ off in cc)
 low_due v (inl (e, inr late)) off l =
-    reached v.timer (due_at v.drive) v.time e (by_low v.drive.postponed v.drive.change (low_free v.drive) v.time late l)
+    reached v.timer (due_at v.drive) v.time e (by_low v.drive.postponed v.drive.change (low_free v.drive) v.time late.0 l)
 low_due v (inr (at, e, now, c)) off l = reached v.timer at v.time e now
 
 turn_due : (wait : ℕ) (turn : Turn) (change time : ℕ) → ChangeTied wait turn change time → turn_is_due wait turn time ≡ true → change ≤ time
@@ -424,6 +424,60 @@ brought v (inl (e, o)) due =
     due_split v.drive.postponed v.drive.change (low_free v.drive) v.time
     (leb-true (due_at v.drive) v.time (subst (λ (x : Option ℕ). is_reached x v.time ≡ true) e due))
 brought v (inr (at, e, now, c)) due = inl c.due
+
+-- so the notes call for it: for the change, or for the low switch, which is off
+calls_change : (wait : ℕ) (turn : Turn) (change time : ℕ) → ChangeTied wait turn change time → change ≤ time → turn_is_due wait turn time ≡ true
+calls_change wait Idle change time c l = absurd c
+calls_change wait Started change time c l = refl
+calls_change wait (Turned q) change time c l = le-leb (q + 240000) time (let s : change ≡ q + 240000 = c in omega arith)
+calls_change wait (Crossed q z) change time c l = le-leb (z + wait) time (let s : change ≡ z + wait = c in omega arith)
+
+late_off : (v : DriveView) → TimerKept v → v.drive.postponed ≡ true → (low_on v ≡ false) ⊎ (v.drive.change ≤ v.time)
+late_off v (inl (e, inl o)) late = (let z : true ≡ false = sym late ∙ o.1 in cc)
+late_off v (inl (e, inr h)) late = inl h.1
+late_off v (inr (at, e, now, c)) late = inr c.due
+
+comm_asked : (w : World) → AtEntry kind.Comm w → calls_comm (advance_of w.loaded.settings) w.back w.bank.time ≡ true
+comm_asked w i = elim (brought (drive_seen w) kept i.due) [
+  | inl change ↦ turn change
+  | inr late ↦ by_sector w.bank.sector refl late.0 late.1
+]
+  where
+    d : DriveTied (drive_seen w)
+    d = i.rest.ties kind.Comm
+
+    shut : w.core.comm_at ≡ comm.Shut
+    shut = comm_shut w.core.comm_at w.core.drive.turn.at i.shut
+
+    some : 0 < demand_at w.back
+    some = entry_drives w i.rest.ties i.unheld i.due
+
+    kept : TimerKept (drive_seen w)
+    kept = timer_kept w.core.tick_at (drive_seen w) (i.unheld kind.Tick)
+        (d.low shut some (unmasked_commutes w.core.cmp_at (cmp_unmasked w.core.cmp_at (i.unheld kind.Cmp))))
+
+    turn : w.core.drive.change ≤ w.bank.time → calls_comm (advance_of w.loaded.settings) w.back w.bank.time ≡ true
+    turn l = or_left (calls_turn (advance_of w.loaded.settings) w.back w.bank.time) (calls_low w.back w.bank.time)
+        (calls_change (drive_seen w).wait (turn_at w.back) w.core.drive.change w.bank.time (d.next.due some) l)
+
+    low : low_on (drive_seen w) ≡ false → high_free_at (low_of (sector_at w.back)) w.back ≤ w.bank.time
+        → calls_comm (advance_of w.loaded.settings) w.back w.bank.time ≡ true
+    low off free =
+        let told : low_is_on w.back ≡ false =
+        subst (λ (lo : ℕ). is_on lo (low_of (sector_at w.back)) ≡ false) (sym i.told.lo_is)
+        (subst (λ (x : ℕ). is_on w.bank.lo (low_of x) ≡ false) d.switches.sector_is off) in
+        or_right (calls_turn (advance_of w.loaded.settings) w.back w.bank.time) (calls_low w.back w.bank.time)
+        (rw (lt-ltb 0 (demand_at w.back) some, told, le-leb (high_free_at (low_of (sector_at w.back)) w.back) w.bank.time free) refl)
+
+    by_sector : (s : ℕ) → w.bank.sector ≡ s → w.core.drive.postponed ≡ true → low_free w.core.drive ≤ w.bank.time
+        → calls_comm (advance_of w.loaded.settings) w.back w.bank.time ≡ true
+    by_sector zero z late free = turn (d.next.first z some)
+    by_sector (suc n) z late free =
+        let to : w.core.drive.turn.to ≡ w.bank.sector = d.newest.to_is (rw shut refl) (omega arith) in
+        elim (late_off (drive_seen w) kept late) [
+          | inl off ↦ low off (rw (i.told.hi_free (low_of (sector_at w.back)), ← d.switches.sector_is, ← to) free)
+          | inr change ↦ turn change
+        ]
 
 entered : (w : World) → Ties w → Unheld w → w.core.comm_at ≡ comm.Shut → is_reached w.bank.comm w.bank.time ≡ true → w.made.comm_past ≤ w.bank.time
     → Tie kind.Comm (after_enter kind.Comm w)
@@ -517,7 +571,7 @@ later v u l t = record {
 pub comm_law : HandlerLaw kind.Comm
 comm_law = record {
   called = λ w i s. called w i.rest.ties i.told i.unheld (comm_shut w.core.comm_at w.core.drive.turn.at i.shut) s;
-  asked = λ w i. (tt, tt);
+  asked = λ w i. (tt, comm_asked w i);
   entered = λ w i. entered w i.rest.ties i.unheld (comm_shut w.core.comm_at w.core.drive.turn.at i.shut) i.due i.past.comm;
   beside = λ w i. elim [
     | kind.Comm ↦ λ ne. absurd (ne refl)

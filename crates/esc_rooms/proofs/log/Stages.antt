@@ -31,7 +31,8 @@ use Rattle.gate_driver.specs.DeadSafe.{high_at, low_at, IsSafe, IsTied}
 use Rattle.gate_driver.proofs.OffTimes.{gates_same}
 use Rattle.gate_driver.proofs.DeadTime.{said_after}
 use Rattle.zero_cross.specs.Comparator.{Held, held}
-use Rattle.esc_laws.specs.Nested.{IsAboveAll, IsBuilt, IsAsked}
+use Rattle.esc_laws.specs.Asked.{IsAsked}
+use Rattle.esc_laws.specs.Nested.{IsAboveAll, IsBuilt}
 use Rattle.esc_laws.specs.Steps.{opening, is_entry, is_gate, ReturnsLast, GateFirst}
 use Rattle.esc_laws.specs.Saves.{is_save}
 use Rattle.esc_rooms.specs.Tied.{WordTold}
@@ -245,7 +246,7 @@ step_made k answers loaded nest trace c b made rest outer i past above alone lef
     let holds : HoldsAlone k w = (λ j ne. rw (counted_need j c b) (alone j ne)) in
     let was : WordTold w.core w.bank w.back = i.gates in
     let plain : StepKeeps k outer w s = (law k).steps w answers outer given
-        (record { rest = record { ground = i.ground; ties = ties }; past = past; above = shut; alone = holds; on = on; left = some }) in
+    (record { rest = record { ground = i.ground; ties = ties }; past = past; above = shut; alone = holds; on = on; left = some }) in
     elim (word_after b after (access_time b s.access)) [
       | inl same ↦ rw same.none (
         kept_stood k w rest outer s refl i.said ties (told_same k w s plain.gates was same) plain,
@@ -303,7 +304,7 @@ enter_stack k p t = refl
 
 -- an I fits where the kind is asked for and above all open ones
 enter_fits : (k : Kind) (w : World) (before : List Note) (stack : List Kind) → Tie kind.Cmp w → reverse before ≡ w.back → (place before).stack ≡ stack
-    → IsBuilt k × IsAsked k w.back w.bank.time → IsAboveAll w.nest stack (kind_number k) → NoteFits w.loaded w.nest w.trace before (enters k w.bank.time)
+    → IsBuilt k × IsAsked w.loaded w.trace (so_far w) w.back w.bank.time k → IsAboveAll w.nest stack (kind_number k) → NoteFits w.loaded w.nest w.trace before (enters k w.bank.time)
 enter_fits k w before stack few e open_is asked above =
     note_fits w before (enters k w.bank.time) e (record {
       laws = elim [
@@ -312,8 +313,8 @@ enter_fits k w before stack few e open_is asked above =
           rw (kind_of-number k) asked.0,
           subst (λ (st : List Kind). IsAboveAll w.nest st (kind_number k))
               (sym (ap (λ (p : Place). p.stack) (ap placed (sym e) ∙ placed-is before) ∙ open_is)) above,
-          rw (kind_of-number k) asked.1,
         )
+        | owed.Asks ↦ rw (kind_of-number k) asked.1
         | l ↦ tt
       ];
       waits = tt;
