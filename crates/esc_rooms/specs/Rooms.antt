@@ -1,4 +1,3 @@
--- Machinery, and no law: how a run is proved to be legal. Nothing that `Legal` means rests on this.
 -- What ties the core and the registers to the notes and the trace: what all handlers share, and a tie for each handler.
 -- Each fact holds between any two steps. A tie is a function of what it reads, so it stands by computation after each step
 -- that leaves that.

@@ -36,7 +36,7 @@ use Rattle.esc_rooms.specs.Rooms.{StepKeeps, drive_seen, cross_seen}
 use Rattle.esc_laws.proofs.Comparator.{steady_of, bit_steady}
 use Rattle.esc_rooms.proofs.shared.RoomSteps.{quiet_gates, ground_noted, inside}
 use Rattle.esc_rooms.proofs.shared.DriveFacts.{timer_kept}
-use Rattle.esc_rooms.proofs.cmp.Facts.{raised, looked_off, looked_done, looked_early, looked_blanked, looked_watch, looked_reject, accepted}
+use Rattle.esc_rooms.proofs.cmp.StepFacts.{raised, looked_off, looked_done, looked_early, looked_blanked, looked_watch, looked_reject, accepted}
 use Rattle.esc_rooms.proofs.cmp.Preserves.{IsCmp, free_of, stands_at, cmp_step_preserves, cmp_wait_preserves}
 use Rattle.esc_laws.specs.NoteLaw as owed
 

@@ -46,7 +46,7 @@ use Rattle.esc_laws.proofs.Stalls.{past_later as stall_later, past_more, past_en
 use Rattle.esc_laws.proofs.Growth.{sees_before}
 use Rattle.esc_laws.proofs.StepGrowth.{fits_grow}
 use Rattle.esc_rooms.proofs.log.Laws.{law}
-use Rattle.esc_rooms.proofs.log.Stages.{later_ground, event_ground, event_tie}
+use Rattle.esc_rooms.proofs.log.Outside.{later_ground, event_ground, event_tie}
 use Rattle.esc_rooms.proofs.log.Entries.{unheld_idle}
 use Rattle.esc_rooms.proofs.log.OwnTurns.{steady, own_are, own_few}
 use Rattle.esc_rooms.proofs.log.Stepping.{sees_due, entry_turn, own_turn, left_is, stepped_by}

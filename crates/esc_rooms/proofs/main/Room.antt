@@ -1,4 +1,4 @@
--- MAIN's room.
+-- MAIN's row of the laws, and its steps.
 use Rattle.std.proofs.Common.{◌≡◌, ◌<◌, ◌+◌, ℕ, Bool, true, false, if◌then◌else◌, List, ◌∷◌, refl, sym, ◌∙◌, ap, arith}
 use Rattle.esc_base.specs.declared.kind.Kind.{Kind}
 use Rattle.esc_base.specs.declared.kind.Kind.TheVariants as kind
@@ -40,12 +40,12 @@ saves w saved outer g asked none on = record {
   stack_is = on;
 }
 
-steps : (at : MainAt) (w : World) (answers : List Answer) (outer : List Kind) → Ground w → MainTied at w.core.orders.save_asked (so_far w).saves
+main_steps_preserve : (at : MainAt) (w : World) (answers : List Answer) (outer : List Kind) → Ground w → MainTied at w.core.orders.save_asked (so_far w).saves
     → (so_far w).stack ≡ kind.Main ∷ outer → 0 < main_left at
     → StepKeeps kind.Main outer w (main_step answers at w.core w.bank)
-steps main.Shut w answers outer g t on left = absurd (omega arith)
-steps main.Work w answers outer g t on left = if_true w.core.orders.save_asked kind.Main outer w _ _ t.0 (saves w (took_first answers) outer g t.0 t.1 on)
-steps main.Back w answers outer g t on left = record {
+main_steps_preserve main.Shut w answers outer g t on left = absurd (omega arith)
+main_steps_preserve main.Work w answers outer g t on left = if_true w.core.orders.save_asked kind.Main outer w _ _ t.0 (saves w (took_first answers) outer g t.0 t.1 on)
+main_steps_preserve main.Back w answers outer g t on left = record {
   gates = quiet_gates kind.Main w _ (λ e. cc) refl refl refl;
   fits = λ told. (
     record { at = refl; owned = refl; keeps = record { laws = elim [ owed.Windows ↦ λ e. cc | owed.Replies ↦ λ e. cc | owed.Drives ↦ λ e. cc | owed.Searches ↦ λ e. cc | owed.Nests ↦ (inside (so_far w).stack kind.Main outer on, t) | l ↦ tt ]; waits = tt } },
@@ -74,7 +74,7 @@ main_law = record {
   asked = λ w i. (tt, tt);
   entered = λ w i. (asked_if w.core i.rest.ground.line i.due, refl);
   beside = λ w i. elim [ kind.Main ↦ λ ne. absurd (ne refl) | j ↦ λ ne. i.rest.ties j ];
-  steps = λ w answers outer given i. steps w.core.main_at w answers outer i.rest.ground (i.rest.ties kind.Main) i.on i.left;
+  steps = λ w answers outer given i. main_steps_preserve w.core.main_at w answers outer i.rest.ground (i.rest.ties kind.Main) i.on i.left;
   later = λ w u from small i. (i.ties kind.Main);
   outside = λ w e i. (i.rest.ties kind.Main);
 }

@@ -1,4 +1,4 @@
--- What all rooms use: the shared ground after a note, and notes that fit.
+-- What the rooms use of a step: what all handlers share after a note, and notes that fit.
 use Rattle.std.proofs.Common.{◌≡◌, ◌≢◌, ◌∙◌, Bool, true, false, if◌then◌else◌, List, ◌∷◌, None, Some, refl, sym, ap}
 use Rattle.esc_base.specs.declared.kind.Kind.{Kind}
 use Rattle.esc_base.specs.declared.kind.Kind.TheVariants as kind

@@ -23,6 +23,7 @@ use Rattle.esc_core.specs.declared.state.TickAt.TheVariants as tick
 use Rattle.esc_core.specs.Drive.{is_stuck}
 use Rattle.esc_core.specs.Tick.{number_in, marks_in, number_step, drive_after, outcome_note, ticked}
 use Rattle.esc_laws.specs.Calls.{pwm_entered_at}
+use Rattle.esc_rooms.proofs.shared.Facts.{above_zero}
 use Rattle.esc_rooms.specs.Tied.{TickTied}
 use Rattle.esc_rooms.specs.DriveTied.{DriveTied, FlagTied, DutyTied, RestAt, Rests}
 use Rattle.esc_rooms.specs.World.{World, so_far}
@@ -69,10 +70,7 @@ asked_in w outer i = record {
 -- TICK's own tie after it
 asked_duty : (zero start : Bool) (duty d : ℕ) → (d == 0) ≡ zero → DutyTied (if zero then tick.Off off.High else tick.DutyOn start) duty d
 asked_duty true start duty d e = eqb-true d 0 e
-asked_duty false start duty d e = is_some d e
-  where
-    is_some : (n : ℕ) → (n == 0) ≡ false → 0 < n
-    is_some n e = grind (arith, nat_tests)
+asked_duty false start duty d e = above_zero d e
 
 asked_ticks : (zero start : Bool) (read time ticks : ℕ) → ticks ≡ 1 → TickTied (if zero then tick.Off off.High else tick.DutyOn start) read time ticks
 asked_ticks true start read time ticks e = e

@@ -1,4 +1,3 @@
--- Machinery, and no law: how a run is proved to be legal. Nothing that `Legal` means rests on this.
 -- All notes of a step stand at its tick, and an entry notes its I alone.
 use Rattle.std.specs.Prelude.{◌≡◌, true, List, [], ◌∷◌, All}
 use Rattle.esc_base.specs.declared.note.Note.TheVariants as note

@@ -1,9 +1,8 @@
--- Machinery, and no law: how a run is proved to be legal. Nothing that `Legal` means rests on this.
 -- The machine steps up to a tick, and ticks at which one should have stood.
 use Rattle.std.specs.Prelude.{◌≡◌, ◌≤◌, ◌<◌, ℕ, false, if◌then◌else◌, nat_le, List, [], ◌∷◌}
 use Rattle.esc_base.specs.declared.event.Event.{Event}
 use Rattle.esc_laws.specs.Steps.{Turned, free, after}
-use Rattle.esc_chopping.specs.ChopView.{View, view, pwm_called, comm_called}
+use Rattle.esc_chopping.specs.View.{View, view, pwm_called, comm_called}
 
 -- the steps at ticks up to t
 abbrev pub steps_by : ℕ → List Turned → List Turned

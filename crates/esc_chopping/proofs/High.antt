@@ -4,19 +4,19 @@ use Rattle.std.proofs.lemmas.Nat.{mul-le}
 use Rattle.std.proofs.lemmas.Bool.{cases_lt}
 use Rattle.esc_base.specs.declared.event.Event.{Event}
 use Rattle.esc_laws.specs.Steps.{free, Turned, after, EachStep}
-use Rattle.esc_chopping.specs.ChopView.{By, View, view, moved_by, by_of, pwm_called, wait_next, is_comm}
-use Rattle.esc_chopping.specs.ChopView.By.{CommEnters, CommSteps, PwmEnters, PwmSteps, Lower}
-use Rattle.esc_chopping.specs.ChopLog.{steps_by, at_tick, NonePassed}
-use Rattle.esc_chopping.specs.ChopLaws.{StepMade, DriveFits, may_chop}
-use Rattle.esc_chopping.specs.ChopPeriods.{NoComm}
-use Rattle.esc_chopping.specs.ChopCalm.{Calm}
-use Rattle.esc_chopping.specs.ChopPlaced.{Placed}
-use Rattle.esc_chopping.specs.ChopFresh.{IsEdge, Stale, Early, Fresh}
-use Rattle.esc_chopping.proofs.ChopCalm.{free_same, free_low}
-use Rattle.esc_chopping.proofs.ChopPushes.{view-push, AllBy, FirstAbove, made-split, by-push}
+use Rattle.esc_chopping.specs.View.{By, View, view, moved_by, by_of, pwm_called, wait_next, is_comm}
+use Rattle.esc_chopping.specs.View.By.{CommEnters, CommSteps, PwmEnters, PwmSteps, Lower}
+use Rattle.esc_chopping.specs.Log.{steps_by, at_tick, NonePassed}
+use Rattle.esc_chopping.specs.Laws.{StepMade, DriveFits, may_chop}
+use Rattle.esc_chopping.specs.Periods.{NoComm}
+use Rattle.esc_chopping.specs.Calm.{Calm}
+use Rattle.esc_chopping.specs.Placed.{Placed}
+use Rattle.esc_chopping.specs.Fresh.{IsEdge, Stale, Early, Fresh}
+use Rattle.esc_chopping.proofs.Calm.{free_same, free_low}
+use Rattle.esc_chopping.proofs.Pushes.{view-push, AllBy, FirstAbove, made-split, by-push}
 use Rattle.esc_laws.proofs.Pushes.{after-push}
-use Rattle.esc_chopping.proofs.ChopPlaced.{Same, next_same, next_placed}
-use Rattle.esc_chopping.proofs.ChopFresh.{Within, left_some, not_resting, fresh_on, stale_on, early_stale}
+use Rattle.esc_chopping.proofs.Placed.{Same, next_same, next_placed}
+use Rattle.esc_chopping.proofs.Fresh.{Within, left_some, not_resting, fresh_on, stale_on, early_stale}
 use Rattle.esc_laws.proofs.Stalls.{free_later}
 
 -- all steps stand below the next one

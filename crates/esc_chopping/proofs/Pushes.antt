@@ -1,9 +1,9 @@
 -- One more step.
-use Rattle.std.proofs.Common.{◌≡◌, ◌≤◌, ◌<◌, ℕ, List, [], ◌∷◌, ◌++◌, refl, ap, arith}
+use Rattle.std.proofs.Common.{◌≡◌, ◌≤◌, ◌<◌, ℕ, List, [], ◌∷◌, ◌++◌, refl, ap}
 use Rattle.std.proofs.lemmas.List.Sums.{fold_push}
 use Rattle.esc_laws.specs.Steps.{Turned}
-use Rattle.esc_chopping.specs.ChopView.{unmoved, view, view_next}
-use Rattle.esc_chopping.specs.ChopLog.{steps_by}
+use Rattle.esc_chopping.specs.View.{unmoved, view, view_next}
+use Rattle.esc_chopping.specs.Log.{steps_by}
 use Rattle.std.proofs.lemmas.Bool.{le-leb, lt-leb}
 
 pub view-push : (log : List Turned) (e : Turned) → view (log ++ e ∷ []) ≡ view_next (view log) e
@@ -32,7 +32,3 @@ made-split t (e ∷ before) rest b f = rw (le-leb e.tick t b.0) (ap (λ (l : Lis
 pub by-push : (t : ℕ) (log : List Turned) (e : Turned) → AllBy t log → e.tick ≤ t → AllBy t (log ++ e ∷ [])
 by-push t [] e b l = (l, tt)
 by-push t (x ∷ log) e b l = (b.0, by-push t log e b.1 l)
-
-pub by-later : (t u : ℕ) (log : List Turned) → t ≤ u → AllBy t log → AllBy u log
-by-later t u [] le b = tt
-by-later t u (x ∷ log) le b = (let l = b.0 in omega arith, by-later t u log le b.1)

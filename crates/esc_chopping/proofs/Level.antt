@@ -2,21 +2,21 @@
 use Rattle.std.proofs.Common.{◌≡◌, ◌≤◌, ◌<◌, ◌+◌, ◌-◌, ◌*◌, inl, inr, ℕ, true, false, List, [], refl, sym, subst, arith}
 use Rattle.esc_base.specs.declared.event.Event.{Event}
 use Rattle.esc_laws.specs.Steps.{free, Turned, after}
-use Rattle.esc_chopping.specs.ChopView.{View, view}
-use Rattle.esc_chopping.specs.ChopLog.{at_tick}
+use Rattle.esc_chopping.specs.View.{View, view}
+use Rattle.esc_chopping.specs.Log.{at_tick}
 use Rattle.esc_base.specs.Legs.{is_on}
 use Rattle.commutation.specs.Sectors.{high_of, low_of}
-use Rattle.esc_chopping.specs.ChopPeriods.{UndisturbedLog, LogFits, ChoppedLog}
-use Rattle.esc_chopping.specs.ChopCalm.{Calm}
-use Rattle.esc_chopping.specs.ChopPlaced.{Placed}
-use Rattle.esc_chopping.specs.ChopFresh.{IsEdge, Fresh, Early}
-use Rattle.esc_chopping.proofs.ChopCalm.{free_low}
-use Rattle.esc_chopping.proofs.ChopPushes.{view-none}
+use Rattle.esc_chopping.specs.Periods.{UndisturbedLog, LogFits, ChoppedLog}
+use Rattle.esc_chopping.specs.Calm.{Calm}
+use Rattle.esc_chopping.specs.Placed.{Placed}
+use Rattle.esc_chopping.specs.Fresh.{IsEdge, Fresh, Early}
+use Rattle.esc_chopping.proofs.Calm.{free_low}
+use Rattle.esc_chopping.proofs.Pushes.{view-none}
 use Rattle.esc_laws.proofs.Pushes.{after-none}
-use Rattle.esc_chopping.proofs.ChopPlaced.{start_placed}
-use Rattle.esc_chopping.proofs.ChopHigh.{run}
-use Rattle.esc_chopping.proofs.ChopLow.{low_run}
-use Rattle.esc_chopping.proofs.ChopSettled.{Held, Static, carried, start_static, may_turn, low_off}
+use Rattle.esc_chopping.proofs.Placed.{start_placed}
+use Rattle.esc_chopping.proofs.High.{run}
+use Rattle.esc_chopping.proofs.Low.{low_run}
+use Rattle.esc_chopping.proofs.Settled.{Held, Static, carried, start_static, may_turn, low_off}
 
 module _ (cost : ℕ) (trace : List Event) (log : List Turned) (m d s until : ℕ) (one : 1 ≤ cost) (few : cost ≤ 16) (legal : LogFits cost trace until log)
     (y : UndisturbedLog cost trace log m d s) where

@@ -1,14 +1,15 @@
 -- Each step keeps where PWM's sample and write stand.
 use Rattle.std.proofs.Common.{◌≡◌, ◌≢◌, ◌≤◌, ◌+◌, ◌⊎◌, inl, inr, ℕ, Bool, true, false, not, ◌==◌, if◌then◌else◌, List, [], ◌∷◌, refl, sym, ◌∙◌, arith}
 use Rattle.std.specs.List.{fold}
+use Rattle.std.proofs.lemmas.Bool.{not-false}
 use Rattle.std.proofs.lemmas.Bool.Decides.{nat_tests}
 use Rattle.esc_base.specs.declared.note.Note.{Note}
 use Rattle.esc_base.specs.declared.note.Note.TheVariants as note
 use Rattle.esc_laws.specs.Steps.{Turned}
-use Rattle.esc_chopping.specs.ChopView.{By, View, unmoved, view_next, moved_by, told_by, by_of}
-use Rattle.esc_chopping.specs.ChopView.By.{CommEnters, CommSteps, PwmEnters, PwmSteps, Lower}
-use Rattle.esc_chopping.specs.ChopLaws.{IsTurn}
-use Rattle.esc_chopping.specs.ChopPlaced.{Placed}
+use Rattle.esc_chopping.specs.View.{By, View, unmoved, view_next, moved_by, told_by, by_of}
+use Rattle.esc_chopping.specs.View.By.{CommEnters, CommSteps, PwmEnters, PwmSteps, Lower}
+use Rattle.esc_chopping.specs.Laws.{IsTurn}
+use Rattle.esc_chopping.specs.Placed.{Placed}
 
 -- what notes leave
 pub record Same (v w : View) : Type 0 where
@@ -102,12 +103,8 @@ own_stands cost x x' t l v w le nx st o all new (inl h) =
       after_entry = λ p q. omega arith;
       after_sample = λ p q. omega arith;
       written = λ p q. absurd (omega arith);
-      shut = λ p. absurd (let g : l ≡ true = returned l (sym new.pwm ∙ p) in let h5 = all g in omega arith);
+      shut = λ p. absurd (let g : l ≡ true = not-false l (sym new.pwm ∙ p) in let h5 = all g in omega arith);
     }
-  where
-    returned : (l : Bool) → not l ≡ false → l ≡ true
-    returned true e = refl
-    returned false e = cc
 own_stands cost x x' t l v w le nx st o all new (inr (inl h)) =
     let a = h.is in let b = h.sampled in let c = h.wrote in let n = new.own in let e = new.entered in
     let se = st.entered in let ss = st.sampled in let sw = st.wrote in let sa : v.entered ≤ v.sampled =
@@ -132,13 +129,9 @@ own_stands cost x x' t l v w le nx st o all new (inr (inr h)) =
       after_sample = λ p q. let sb : v.sampled + cost ≤ x = st.after_sample o (omega arith) in omega arith;
       written = λ p q. let sc : v.wrote ≡ v.sampled = st.written o (omega arith) in omega arith;
       shut = λ p.
-          let g : l ≡ true = returned l (sym new.pwm ∙ p) in let h5 = all g in
+          let g : l ≡ true = not-false l (sym new.pwm ∙ p) in let h5 = all g in
           let sa : v.entered ≤ v.sampled = st.after_entry o (omega arith) in let sc : v.wrote ≡ v.sampled = st.written o (omega arith) in omega arith;
     }
-  where
-    returned : (l : Bool) → not l ≡ false → l ≡ true
-    returned true e = refl
-    returned false e = cc
 
 -- where PWM makes no step
 still_stands : (cost x x' : ℕ) (v w : View) → x ≤ x' → Stands cost x v → Same v w → Stands cost x' w

@@ -6,7 +6,7 @@ use Rattle.esc_base.specs.declared.event.Event.{Event}
 use Rattle.esc_base.specs.declared.event.Event.TheVariants as event
 use Rattle.esc_base.specs.Trace.{tick_of}
 use Rattle.esc_laws.specs.Steps.{stall_end, past_stall, free}
-use Rattle.esc_chopping.specs.ChopStalls.{NoStall}
+use Rattle.esc_chopping.specs.Stalls.{NoStall}
 
 past_same : (t : ℕ) (e : Event) (a b : ℕ) → (stall_end e ≤ a) ⊎ (b < tick_of e) → a ≤ t → t ≤ b → past_stall t e ≡ t
 past_same t (event.Stall at n) a b h l m = grind (arith, nat_tests, h)

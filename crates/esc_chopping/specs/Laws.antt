@@ -1,4 +1,3 @@
--- Machinery, and no law: how a run is proved to be legal. Nothing that `Legal` means rests on this.
 -- What a run gives for each machine step, by the steps before it: all that `Chopped` is derived from.
 use Rattle.std.specs.Prelude.{◌≡◌, ◌≤◌, ◌<◌, ◌+◌, ◌%◌, ℕ, Bool, true, false, not, ◌&&◌, ◌==◌, nat_le, List, [], ◌∷◌, ◌++◌}
 use Rattle.esc_base.specs.declared.gate.Leg.{Leg}
@@ -6,10 +5,10 @@ use Rattle.esc_base.specs.Legs.{is_on}
 use Rattle.commutation.specs.Sectors.{high_of}
 use Rattle.esc_base.specs.declared.event.Event.{Event}
 use Rattle.esc_laws.specs.Steps.{Turned, after}
-use Rattle.esc_chopping.specs.ChopView.{By, View, view, by_of}
+use Rattle.esc_chopping.specs.View.{By, View, view, by_of}
 use Rattle.gate_driver.specs.Gated.{at_leg}
-use Rattle.esc_chopping.specs.ChopView.By.{CommEnters, CommSteps, PwmEnters, PwmSteps, Lower}
-use Rattle.esc_chopping.specs.ChopLog.{NonePassed}
+use Rattle.esc_chopping.specs.View.By.{CommEnters, CommSteps, PwmEnters, PwmSteps, Lower}
+use Rattle.esc_chopping.specs.Log.{NonePassed}
 
 -- ---- whose turn a step is
 

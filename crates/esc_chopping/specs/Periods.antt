@@ -1,17 +1,16 @@
--- Machinery, and no law: how a run is proved to be legal. Nothing that `LogFits` means rests on this.
 -- `Chopped`, as it is said of the machine steps of a run: its premises, what a run gives for them, and what follows.
 use Rattle.std.specs.Prelude.{◌≡◌, ◌≤◌, ◌<◌, ◌+◌, ◌-◌, ◌*◌, ℕ, true, false, List, []}
 use Rattle.esc_base.specs.Legs.{is_on}
 use Rattle.commutation.specs.Sectors.{high_of, low_of}
 use Rattle.esc_base.specs.declared.event.Event.{Event}
-use Rattle.esc_chopping.specs.ChopStalls.{NoStall}
+use Rattle.esc_chopping.specs.Stalls.{NoStall}
 use Rattle.esc_laws.specs.Steps.{Turned, EachStep}
-use Rattle.esc_chopping.specs.ChopView.{by_of}
+use Rattle.esc_chopping.specs.View.{by_of}
 use Rattle.gate_driver.specs.Gated.{at_leg}
-use Rattle.esc_chopping.specs.ChopView.By.{CommEnters}
-use Rattle.esc_chopping.specs.ChopLog.{at_tick, NonePassed}
-use Rattle.esc_chopping.specs.ChopLaws.{StepMade, DriveFits}
-use Rattle.esc_chopping.specs.ChopPairs.{PairFits, TimesFit, NoStep}
+use Rattle.esc_chopping.specs.View.By.{CommEnters}
+use Rattle.esc_chopping.specs.Log.{at_tick, NonePassed}
+use Rattle.esc_chopping.specs.Laws.{StepMade, DriveFits}
+use Rattle.esc_chopping.specs.Pairs.{PairFits, TimesFit, NoStep}
 
 -- COMM isn't entered from p to p + 1999
 abbrev pub NoComm : ℕ → List Turned → Turned → Type 0

@@ -18,13 +18,13 @@ use Rattle.esc_base.specs.Legs.{is_on}
 use Rattle.commutation.specs.Sectors.{low_of}
 use Rattle.gate_driver.specs.DeadSafe.{low_at, high_free_at}
 use Rattle.commutation.specs.Commutated.{sector_at}
-use Rattle.esc_chopping.specs.ChopView.{View, view, moved_by, told_by, by_kind, has_leave, pwm_called, comm_called}
+use Rattle.esc_chopping.specs.View.{View, view, moved_by, told_by, by_kind, has_leave, pwm_called, comm_called}
 use Rattle.esc_base.specs.Periods.{edges}
 use Rattle.gate_driver.specs.Gated.{at_leg}
 use Rattle.esc_laws.specs.Calls.{pwm_entered_at, pwm_asked_at, calls_pwm, calls_low}
-use Rattle.esc_chopping.specs.ChopBridge.{CallsSeen, SeesDrive}
-use Rattle.esc_chopping.proofs.ChopPushes.{view-push, view-none}
-use Rattle.esc_chopping.proofs.ChopBack.{Says, says_all}
+use Rattle.esc_chopping.specs.FromSteps.{CallsSeen, SeesDrive}
+use Rattle.esc_chopping.proofs.Pushes.{view-push, view-none}
+use Rattle.esc_chopping.proofs.OfJournal.{Says, says_all}
 
 pub record Asks (v : View) (back : List Note) : Type 0 where
   pub entered : v.entered ≡ pwm_entered_at back

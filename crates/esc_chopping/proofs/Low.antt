@@ -6,20 +6,20 @@ use Rattle.esc_base.specs.Legs.{is_on}
 use Rattle.commutation.specs.Sectors.{low_of}
 use Rattle.esc_base.specs.declared.event.Event.{Event}
 use Rattle.esc_laws.specs.Steps.{free, Turned, after, EachStep}
-use Rattle.esc_chopping.specs.ChopView.{By, View, view, moved_by, by_of, comm_called, wait_next}
+use Rattle.esc_chopping.specs.View.{By, View, view, moved_by, by_of, comm_called, wait_next}
 use Rattle.gate_driver.specs.Gated.{at_leg}
-use Rattle.esc_chopping.specs.ChopView.By.{CommEnters, CommSteps, PwmEnters, PwmSteps, Lower}
-use Rattle.esc_chopping.specs.ChopLog.{at_tick, NonePassed}
-use Rattle.esc_chopping.specs.ChopLaws.{IsTurn, StepMade, DriveFits, is_comm_step}
-use Rattle.esc_chopping.specs.ChopPeriods.{NoComm}
-use Rattle.esc_chopping.specs.ChopCalm.{Calm}
-use Rattle.esc_chopping.specs.ChopPlaced.{Placed}
-use Rattle.esc_chopping.proofs.ChopCalm.{free_same, free_low}
-use Rattle.esc_chopping.proofs.ChopPushes.{view-push, AllBy, FirstAbove, by-push}
+use Rattle.esc_chopping.specs.View.By.{CommEnters, CommSteps, PwmEnters, PwmSteps, Lower}
+use Rattle.esc_chopping.specs.Log.{at_tick, NonePassed}
+use Rattle.esc_chopping.specs.Laws.{IsTurn, StepMade, DriveFits, is_comm_step}
+use Rattle.esc_chopping.specs.Periods.{NoComm}
+use Rattle.esc_chopping.specs.Calm.{Calm}
+use Rattle.esc_chopping.specs.Placed.{Placed}
+use Rattle.esc_chopping.proofs.Calm.{free_same, free_low}
+use Rattle.esc_chopping.proofs.Pushes.{view-push, AllBy, FirstAbove, by-push}
 use Rattle.esc_laws.proofs.Pushes.{after-push}
-use Rattle.esc_chopping.proofs.ChopHigh.{Past, past_on, at_split, first_above, split_on, same_after, placed_on}
+use Rattle.esc_chopping.proofs.High.{Past, past_on, at_split, first_above, split_on, same_after, placed_on}
 use Rattle.std.proofs.lemmas.Bool.{le-leb, lt-ltb}
-use Rattle.esc_chopping.proofs.ChopFresh.{less}
+use Rattle.esc_chopping.proofs.Fresh.{less}
 use Rattle.esc_laws.proofs.Stalls.{free_later}
 
 -- an off low switch calls COMM

@@ -1,4 +1,3 @@
--- Machinery, and no law: how a run is proved to be legal. Nothing that `Legal` means rests on this.
 -- What a run's machine steps give besides `StepFits`, so that `StepMade` follows for each of them.
 use Rattle.std.specs.Prelude.{◌≡◌, ◌<◌, ◌≤◌, ℕ, Bool, true, false, if◌then◌else◌, List, [], ◌∷◌, ◌++◌, reverse, All}
 use Rattle.esc_base.specs.declared.kind.Kind.TheVariants as kind
@@ -10,7 +9,7 @@ use Rattle.settings_block.specs.declared.stored.Loaded.{Loaded}
 use Rattle.esc_laws.specs.Seen.{sees}
 use Rattle.esc_laws.specs.Steps.{Turned, journal, open_in, own_steps}
 use Rattle.esc_laws.specs.Calls.{calls_pwm, calls_low}
-use Rattle.esc_chopping.specs.ChopView.{view, has_leave, pwm_called, comm_called}
+use Rattle.esc_chopping.specs.View.{view, has_leave, pwm_called, comm_called}
 
 -- an O is the last note of its step, and of the step's kind
 pub record OneBack (e : Turned) : Type 0 where

@@ -1,7 +1,6 @@
--- Machinery, and no law: how a run is proved to be legal. Nothing that `Legal` means rests on this.
 -- At which ticks PWM was entered, read the position and wrote what it asks for.
 use Rattle.std.specs.Prelude.{◌≡◌, ◌≤◌, ◌+◌, ℕ, true, false}
-use Rattle.esc_chopping.specs.ChopView.{View}
+use Rattle.esc_chopping.specs.View.{View}
 
 -- as it stands before a step at tick x or later
 pub record Placed (cost x : ℕ) (v : View) : Type 0 where

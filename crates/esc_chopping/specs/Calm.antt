@@ -1,14 +1,13 @@
--- Machinery, and no law: how a run is proved to be legal. Nothing that `Legal` means rests on this.
 -- What an undisturbed period gives at each of its ticks, for the high switch and for the low one.
 use Rattle.std.specs.Prelude.{◌≡◌, ◌≤◌, ◌<◌, ◌+◌, ◌-◌, ◌*◌, ℕ, true, List, []}
 use Rattle.commutation.specs.Sectors.{low_of}
 use Rattle.esc_base.specs.declared.event.Event.{Event}
-use Rattle.esc_chopping.specs.ChopStalls.{NoStall}
+use Rattle.esc_chopping.specs.Stalls.{NoStall}
 use Rattle.esc_laws.specs.Steps.{Turned, EachStep}
 use Rattle.gate_driver.specs.Gated.{at_leg}
-use Rattle.esc_chopping.specs.ChopLog.{at_tick}
-use Rattle.esc_chopping.specs.ChopLaws.{may_chop}
-use Rattle.esc_chopping.specs.ChopPeriods.{NoComm}
+use Rattle.esc_chopping.specs.Log.{at_tick}
+use Rattle.esc_chopping.specs.Laws.{may_chop}
+use Rattle.esc_chopping.specs.Periods.{NoComm}
 
 -- the period at 2000 m has demand d and sector s, and nothing disturbs it
 pub record Calm (cost : ℕ) (trace : List Event) (log : List Turned) (m d s : ℕ) : Type 0 where

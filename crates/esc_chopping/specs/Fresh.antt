@@ -1,10 +1,9 @@
--- Machinery, and no law: how a run is proved to be legal. Nothing that `Legal` means rests on this.
 -- How many machine steps may pass until PWM has written a position that it read at or after an edge of the period.
 use Rattle.std.specs.Prelude.{◌≡◌, ◌≤◌, ◌<◌, ◌+◌, ◌*◌, ◌⊎◌, ℕ, true, false}
 use Rattle.esc_base.specs.declared.gate.Leg.{Leg}
 use Rattle.esc_base.specs.Legs.{is_on}
 use Rattle.commutation.specs.Sectors.{high_of}
-use Rattle.esc_chopping.specs.ChopView.{View}
+use Rattle.esc_chopping.specs.View.{View}
 
 -- the two edges of the period at 2000 m
 abbrev pub IsEdge : ℕ → ℕ → ℕ → Type 0

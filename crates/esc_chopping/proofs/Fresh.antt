@@ -1,18 +1,18 @@
 -- PWM's write of what it read since an edge stands within 48 steps of it.
 use Rattle.std.proofs.Common.{◌≡◌, ◌≤◌, ◌<◌, ◌+◌, ◌-◌, ◌*◌, ◌%◌, ◌⊎◌, inl, inr, ℕ, Bool, true, false, not, ◌==◌, if◌then◌else◌, refl, sym, ◌∙◌, subst, arith}
 use Rattle.std.proofs.lemmas.Nat.{mul-le}
-use Rattle.std.proofs.lemmas.Bool.{cases_lt}
+use Rattle.std.proofs.lemmas.Bool.{cases_lt, not-false}
 use Rattle.std.proofs.lemmas.Bool.Decides.{nat_tests}
 use Rattle.esc_base.specs.Legs.{is_on}
 use Rattle.commutation.specs.Sectors.{high_of}
-use Rattle.esc_chopping.specs.ChopView.{By, View, moved_by, pwm_called, wait_next, is_comm}
+use Rattle.esc_chopping.specs.View.{By, View, moved_by, pwm_called, wait_next, is_comm}
 use Rattle.esc_base.specs.Periods.{edges}
-use Rattle.esc_chopping.specs.ChopView.By.{CommEnters, CommSteps, PwmEnters, PwmSteps, Lower}
-use Rattle.esc_chopping.specs.ChopLog.{BothIdle}
-use Rattle.esc_chopping.specs.ChopLaws.{IsTurn, Chops, may_chop, is_quiet}
-use Rattle.esc_chopping.specs.ChopPlaced.{Placed}
-use Rattle.esc_chopping.specs.ChopFresh.{IsEdge, Stale, Early, Fresh}
-use Rattle.esc_chopping.proofs.ChopPlaced.{Same, own_cases, OwnFirst, OwnWrites, OwnOther}
+use Rattle.esc_chopping.specs.View.By.{CommEnters, CommSteps, PwmEnters, PwmSteps, Lower}
+use Rattle.esc_chopping.specs.Log.{BothIdle}
+use Rattle.esc_chopping.specs.Laws.{IsTurn, Chops, may_chop, is_quiet}
+use Rattle.esc_chopping.specs.Placed.{Placed}
+use Rattle.esc_chopping.specs.Fresh.{IsEdge, Stale, Early, Fresh}
+use Rattle.esc_chopping.proofs.Placed.{Same, own_cases, OwnFirst, OwnWrites, OwnOther}
 use Rattle.std.proofs.lemmas.Bool.{lt-ltb}
 use Rattle.std.proofs.lemmas.Bool.{or_right}
 
@@ -87,10 +87,6 @@ pub record Within (cost x x' m d s t : ℕ) (v : View) (by : By) (tick : ℕ) (w
   pub patient : w.pwm_waits ≤ 8
   pub quiet : is_quiet v by ≡ true → w.hi ≡ v.hi
   pub chops : (returns : Bool) → by ≡ PwmSteps returns → v.pwm_own ≡ 4 → Chops v tick w
-
-returned : (l : Bool) → not l ≡ false → l ≡ true
-returned true e = refl
-returned false e = cc
 
 -- what the write leaves
 rest_is : (m t : ℕ) → 2000 * m ≤ t → t < 2000 * m + 2000 → t % 2000 ≡ t - 2000 * m
@@ -246,13 +242,13 @@ pwm_on cost x x' m d s t edge tick v w l at p i st some wr early good old back =
       k = st.k - 1;
       left = record {
         comm = λ e. absurd (let y = sym cw ∙ e in cc);
-        shut = λ e. let y = back (returned l (sym pw ∙ e)) in let f = i.turn.few in let o : w.pwm_own ≡ v.pwm_own + 1 = i.same.pwm_own in omega (arith, y.1);
+        shut = λ e. let y = back (not-false l (sym pw ∙ e)) in let f = i.turn.few in let o : w.pwm_own ≡ v.pwm_own + 1 = i.same.pwm_own in omega (arith, y.1);
         early = λ e f. early f;
         good = λ e f f' h. good f f' h;
         old = λ e f h. old f h;
       };
       wrote = wr;
-      entered = λ e. (back (returned l (sym pw ∙ e))).0;
+      entered = λ e. (back (not-false l (sym pw ∙ e))).0;
       by_next = b.by_next;
       by_edge = b.by_edge;
     }

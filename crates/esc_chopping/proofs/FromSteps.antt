@@ -1,6 +1,5 @@
 -- From the rules of steps to the laws that the theorem asks for.
-use Rattle.std.proofs.Common.{reverse, ◌≡◌, ◌≢◌, ◌≤◌, ◌<◌, ◌+◌, ◌⊎◌, inl, inr, ℕ, Bool, true, false, not, ◌&&◌, ◌==◌, if◌then◌else◌, List, [], ◌∷◌, ◌++◌, Some, refl, sym, ◌∙◌, ap, subst, arith, append_assoc, append-nil, All}
-use Rattle.std.proofs.lemmas.List.Elements.{All-head, All-tail, All-nil, All-cons}
+use Rattle.std.proofs.Common.{reverse, ◌≡◌, ◌≢◌, ◌≤◌, ◌+◌, ◌⊎◌, inl, inr, ℕ, Bool, true, false, not, ◌&&◌, ◌==◌, if◌then◌else◌, List, [], ◌∷◌, ◌++◌, Some, refl, sym, ◌∙◌, ap, subst, arith, append_assoc, append-nil, All}
 use Rattle.std.proofs.lemmas.Bool.{and_parts}
 use Rattle.std.proofs.lemmas.Bool.Decides.{nat_tests}
 use Rattle.esc_base.specs.declared.kind.Kind.{Kind}
@@ -11,126 +10,28 @@ use Rattle.esc_base.specs.declared.note.Note.TheVariants as note
 use Rattle.esc_base.specs.Numbers.{kind_number}
 use Rattle.settings_block.specs.declared.stored.Loaded.{Loaded}
 use Rattle.interrupt_machine.specs.declared.nest.Nest.TheVariants.{Full}
-use Rattle.interrupt_machine.specs.Open.{innermost, outer_ones, is_open, kind_of, IsStack}
+use Rattle.interrupt_machine.specs.Open.{innermost, outer_ones, is_open, IsStack}
 use Rattle.interrupt_machine.specs.Response.{counts}
-use Rattle.esc_laws.specs.Place.{Place, place, next}
+use Rattle.esc_laws.specs.Place.{Place, place}
 use Rattle.esc_laws.specs.Seen.{sees}
 use Rattle.esc_laws.specs.Steps.{Turned, is_entry, journal, open_in, own_steps, called, is_called, free, EachStep, Awaits, StepFits}
 use Rattle.esc_laws.proofs.Pushes.{place-push, journal-push, own-push, called-push}
-use Rattle.esc_chopping.specs.ChopView.{View, view, by_of, by_kind, has_leave, pwm_called, comm_called, is_comm, wait_next as waits_next}
-use Rattle.esc_chopping.specs.ChopLog.{BothIdle, NonePassed}
-use Rattle.esc_chopping.specs.ChopLaws.{IsTurn, StepMade, DriveFits}
-use Rattle.esc_chopping.specs.ChopBridge.{OneBack, BridgeFits, CallsSeen, SeesDrive}
-use Rattle.esc_chopping.proofs.ChopCalls.{Asks, asks_next, asks_start, seen_of}
+use Rattle.esc_chopping.specs.View.{View, view, by_of, by_kind, has_leave, pwm_called, comm_called, is_comm, wait_next as waits_next}
+use Rattle.esc_chopping.specs.Log.{BothIdle, NonePassed}
+use Rattle.esc_chopping.specs.Laws.{IsTurn, StepMade, DriveFits}
+use Rattle.esc_chopping.specs.FromSteps.{OneBack, BridgeFits, CallsSeen, SeesDrive}
+use Rattle.esc_chopping.proofs.Calls.{Asks, asks_next, asks_start, seen_of}
 use Rattle.esc_base.specs.Range.{InRange}
-use Rattle.esc_chopping.specs.ChopPairs.{PairFits}
-use Rattle.esc_chopping.specs.ChopNotes.{NotesFit}
+use Rattle.esc_chopping.specs.Pairs.{PairFits}
+use Rattle.esc_chopping.specs.Notes.{NotesFit}
 use Rattle.esc_laws.specs.Chopped.{Chopped}
-use Rattle.esc_chopping.proofs.ChopPushes.{view-push, view-none}
-use Rattle.esc_chopping.proofs.ChopBack.{times_fit, is_chopped}
-use Rattle.esc_chopping.proofs.ChopHigh.{same_after, waits_after as pwm_waits_after}
+use Rattle.esc_chopping.proofs.Pushes.{view-push, view-none}
+use Rattle.esc_chopping.proofs.OfJournal.{times_fit, is_chopped}
+use Rattle.esc_chopping.proofs.High.{same_after, waits_after as pwm_waits_after}
 use Rattle.std.proofs.lemmas.Bool.{and_from}
 use Rattle.interrupt_machine.proofs.OpenKinds.{kind_of-number, innermost_first}
 use Rattle.gate_driver.proofs.Bits.{off_is}
-
--- ---- stacks
-
--- no kind above the innermost one is open
-none_above : (stack : List Kind) (k j : Kind) → IsStack (k ∷ stack) → kind_number k < kind_number j → is_open (k ∷ stack) j ≡ false
-none_above [] k j s l = rw (ne (kind_number k) (kind_number j) l) refl
-  where
-    ne : (x y : ℕ) → x < y → (x == y) ≡ false
-    ne x y m = grind (arith, nat_tests)
-none_above (h ∷ outer) k j s l = rw (ne (kind_number k) (kind_number j) l)
-    (let a : kind_number h < kind_number k = s.0 in none_above outer h j s.1 (omega arith))
-  where
-    ne : (x y : ℕ) → x < y → (x == y) ≡ false
-    ne x y m = grind (arith, nat_tests)
-
--- nor is it open twice
-none_twice : (stack : List Kind) (k : Kind) → IsStack (k ∷ stack) → is_open stack k ≡ false
-none_twice [] k s = refl
-none_twice (h ∷ outer) k s = none_above outer h k s.1 s.0
-
-all_below : (stack : List Kind) (k j : ℕ) → All (λ x. kind_number x < k) stack → (i : Kind) → kind_number i ≡ j → k ≤ j → is_open stack i ≡ false
-all_below [] k j a i e le = refl
-all_below (h ∷ stack) k j a i e le =
-    let x : kind_number h < k = All-head (λ y. kind_number y < k) h stack a in
-    rw (ne (kind_number h) (kind_number i) (omega arith)) (all_below stack k j (All-tail (λ y. kind_number y < k) h stack a) i e le)
-  where
-    ne : (x y : ℕ) → x < y → (x == y) ≡ false
-    ne x y m = grind (arith, nat_tests)
-
-above_stack : (stack : List Kind) (k : Kind) → All (λ x. kind_number x < kind_number k) stack → IsStack stack → IsStack (k ∷ stack)
-above_stack [] k a s = (tt, s)
-above_stack (h ∷ stack) k a s = (All-head (λ x. kind_number x < kind_number k) h stack a, s)
-
--- ---- the open kinds after a step
-
-enter_stack : (p : Place) (t k : ℕ) → (next p (note.Enter (record { 0 = t }) k)).stack ≡ kind_of k ∷ p.stack
-enter_stack p t k = by_tests (k == 3) (k == 2) (k == 0)
-  where
-    by_tests : (a b c : Bool) → (if a then record p {
-      stack = kind_of k ∷ p.stack;
-      cap_entered = t;
-      windows = 0;
-      verdicts = 0;
-      last =
-          t;
-    } else if b then record p { stack = kind_of k ∷ p.stack; ticks = 0; last = t } else if c then record p {
-      stack = kind_of k ∷ p.stack;
-      saves =
-          0;
-      last = t;
-    } else record p { stack = kind_of k ∷ p.stack; last = t }).stack ≡ kind_of k ∷ p.stack
-    by_tests true b c = refl
-    by_tests false true c = refl
-    by_tests false false true = refl
-    by_tests false false false = refl
-
-quiet_next : (p : Place) (n : Note) → is_entry n ≡ false → has_leave (n ∷ []) ≡ false → (next p n).stack ≡ p.stack
-quiet_next p (note.Enter t k) e l = absurd (cc)
-quiet_next p (note.Leave t k) e l = absurd (cc)
-quiet_next p n e l = refl
-
-leaves_parts : (n : Note) (notes : List Note) → has_leave (n ∷ notes) ≡ false → (has_leave (n ∷ []) ≡ false) × (has_leave notes ≡ false)
-leaves_parts (note.Leave t k) notes e = absurd (cc)
-leaves_parts n notes e = (refl, e)
-
-quiet_stack : (before notes : List Note) → All (λ n. is_entry n ≡ false) notes → has_leave notes ≡ false
-    → (place (before ++ notes)).stack ≡ (place before).stack
-quiet_stack before [] e l = ap (λ (x : List Note). (place x).stack) (append-nil before)
-quiet_stack before (n ∷ notes) e l =
-    let parts = leaves_parts n notes l in
-    ap (λ (x : List Note). (place x).stack) (sym (append_assoc before (n ∷ []) notes))
-    ∙ quiet_stack (before ++ n ∷ []) notes (All-tail (λ x. is_entry x ≡ false) n notes e) parts.1
-    ∙ ap (λ (p : Place). p.stack) (place-push before n)
-    ∙ quiet_next (place before) n (All-head (λ x. is_entry x ≡ false) n notes e) parts.0
-
-front_entries : (xs ys : List Note) → All (λ n. is_entry n ≡ false) (xs ++ ys) → All (λ n. is_entry n ≡ false) xs
-front_entries [] ys a = All-nil (λ n. is_entry n ≡ false)
-front_entries (x ∷ xs) ys a = All-cons (λ n. is_entry n ≡ false) x xs (All-head (λ n. is_entry n ≡ false) x (xs ++ ys) a)
-    (front_entries xs ys (All-tail (λ n. is_entry n ≡ false) x (xs ++ ys) a))
-
-leaves_back : (front : List Note) (b : Bool) (t k : ℕ) → has_leave front ≡ false
-    → has_leave (front ++ (if b then note.Leave (record { 0 = t }) k ∷ [] else [])) ≡ b
-leaves_back [] true t k e = refl
-leaves_back [] false t k e = refl
-leaves_back (n ∷ front) b t k e = let parts = leaves_parts n front e in cons n (front ++ (if b then note.Leave (record { 0 = t }) k ∷ [] else [])) b parts.0
-    (leaves_back front b t k parts.1)
-  where
-    cons : (x : Note) (rest : List Note) (c : Bool) → has_leave (x ∷ []) ≡ false → has_leave rest ≡ c → has_leave (x ∷ rest) ≡ c
-    cons (note.Leave u j) rest c f g = absurd (cc)
-    cons x rest c f g = g
-
-own_stack : (before front : List Note) (b : Bool) (t k : ℕ) → All (λ n. is_entry n ≡ false) front → has_leave front ≡ false
-    → (place (before ++ (front ++ (if b then note.Leave (record { 0 = t }) k ∷ [] else [])))).stack ≡
-    (if b then outer_ones (place before).stack else (place before).stack)
-own_stack before front false t k e l = ap (λ (x : List Note). (place (before ++ x)).stack) (append-nil front) ∙ quiet_stack before front e l
-own_stack before front true t k e l =
-    ap (λ (x : List Note). (place x).stack) (sym (append_assoc before front (note.Leave (record { 0 = t }) k ∷ [])))
-    ∙ ap (λ (p : Place). p.stack) (place-push (before ++ front) (note.Leave (record { 0 = t }) k))
-    ∙ ap outer_ones (quiet_stack before front e l)
+use Rattle.esc_chopping.proofs.OpenKinds.{none_above, none_twice, all_below, above_stack, enter_stack, front_entries, leaves_back, own_stack}
 
 -- ---- what the view and the log agree on
 

@@ -23,7 +23,8 @@ use Rattle.esc_rooms.specs.CrossTied.{LateTied, begins_search}
 use Rattle.esc_rooms.specs.PeriodTied.{sums_gaps}
 use Rattle.esc_rooms.specs.World.{World}
 use Rattle.esc_rooms.specs.Rooms.{Ground, Tie, HoldsAlone, GatesKeep, StepKeeps, drive_seen, cross_seen}
-use Rattle.esc_rooms.proofs.cmp.CrossFacts.{cmp_unmasked, unmasked_commutes, moved_cross}
+use Rattle.esc_rooms.proofs.cmp.CrossFacts.{cmp_unmasked, unmasked_commutes}
+use Rattle.esc_rooms.proofs.cmp.BesideComm.{moved_cross}
 use Rattle.esc_rooms.proofs.cap.Period.{period_kept}
 use Rattle.esc_rooms.proofs.comm.Facts.{Words, moved_view, comm_moves, IsComm, before_step}
 
@@ -74,13 +75,13 @@ pub record Goes (w : World) (next : CommAt) (d : Drive) (timer : Option ℕ) (st
 
 -- what is seen by computation stands before it: the registers that are written, that COMM isn't shut, its steps since the Q, and
 -- that nothing begins or ends of the sums of gaps and of the search
-pub goes : (w : World) (outer : List Kind) (place next : CommAt) (at : ChangeAt) (g : Gated) (turn : Change) (late : Bool) (timer : Option ℕ)
+pub comm_step_preserves : (w : World) (outer : List Kind) (place next : CommAt) (at : ChangeAt) (g : Gated) (turn : Change) (late : Bool) (timer : Option ℕ)
     (stuck : Bool) (hi lo : ℕ) (access : Access)
     → IsComm w outer place at → accessed w.bank access ≡ by_access w access timer stuck hi lo → next ≢ comm.Shut
     → comm_since next turn.at ≤ comm_since place at + 1 → sums_gaps next turn.at ≡ sums_gaps place at → begins_search next turn.at ≡ begins_search place at
     → Goes w next (drive_by w g turn late) timer stuck hi lo access
     → StepKeeps kind.Comm outer w (goes_on (record w.core { comm_at = next; drive = drive_by w g turn late }) access)
-goes w outer place next at g turn late timer stuck hi lo access i writes on since sums search s =
+comm_step_preserves w outer place next at g turn late timer stuck hi lo access i writes on since sums search s =
     let d : Drive = drive_by w g turn late in
     let c : Brain = record w.core { comm_at = next; drive = d } in
     let m : Made = made_next kind.Comm false w.bank.time w.made in

@@ -11,16 +11,16 @@ use Rattle.esc_base.specs.declared.note.Note.TheVariants as note
 use Rattle.esc_base.specs.declared.gate.Leg.TheVariants as leg
 use Rattle.esc_base.specs.declared.event.Event.{Event}
 use Rattle.esc_laws.specs.Steps.{Turned, after, EachStep}
-use Rattle.esc_chopping.specs.ChopView.{By, View, unmoved, view, moved_by, told_by, by_of}
+use Rattle.esc_chopping.specs.View.{By, View, unmoved, view, moved_by, told_by, by_of}
 use Rattle.gate_driver.specs.Gated.{at_leg}
-use Rattle.esc_chopping.specs.ChopView.By.{CommEnters, CommSteps, PwmEnters, PwmSteps, Lower}
-use Rattle.esc_chopping.specs.ChopLog.{at_tick}
-use Rattle.esc_chopping.specs.ChopLaws.{may_chop, StepMade}
-use Rattle.esc_chopping.specs.ChopPairs.{InPair, NoteFits, EachNote, PairFits, AllAt, TimesFit, NoSteps, NoStep}
+use Rattle.esc_chopping.specs.View.By.{CommEnters, CommSteps, PwmEnters, PwmSteps, Lower}
+use Rattle.esc_chopping.specs.Log.{at_tick}
+use Rattle.esc_chopping.specs.Laws.{may_chop, StepMade}
+use Rattle.esc_chopping.specs.Pairs.{InPair, NoteFits, EachNote, PairFits, AllAt, TimesFit, NoSteps, NoStep}
 use Rattle.esc_laws.proofs.Stalls.{free_later}
-use Rattle.esc_chopping.proofs.ChopPushes.{view-push, AllBy, FirstAbove, by-push}
+use Rattle.esc_chopping.proofs.Pushes.{view-push, AllBy, FirstAbove, by-push}
 use Rattle.esc_laws.proofs.Pushes.{after-push}
-use Rattle.esc_chopping.proofs.ChopHigh.{Past, past_on, at_split, split_on}
+use Rattle.esc_chopping.proofs.High.{Past, past_on, at_split, split_on}
 use Rattle.std.proofs.lemmas.Bool.{le-leb}
 use Rattle.gate_driver.proofs.OffTimes.{off_stays}
 use Rattle.gate_driver.proofs.Bits.{off_is}

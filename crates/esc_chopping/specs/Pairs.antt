@@ -1,4 +1,3 @@
--- Machinery, and no law: how a run is proved to be legal. Nothing that `Legal` means rests on this.
 -- Only switches of the newest sector's pair are on (as `Driven` says), and at a change of sector the new pair's low leg is nearly free.
 use Rattle.std.specs.Prelude.{◌≡◌, ◌≤◌, ◌<◌, ◌+◌, ℕ, true, List, [], ◌∷◌}
 use Rattle.esc_base.specs.declared.gate.Leg.{Leg}
@@ -7,7 +6,7 @@ use Rattle.esc_base.specs.Legs.{is_on}
 use Rattle.commutation.specs.Sectors.{high_of, low_of}
 use Rattle.esc_base.specs.declared.note.Note.TheVariants as note
 use Rattle.esc_laws.specs.Steps.{Turned}
-use Rattle.esc_chopping.specs.ChopView.{View, view, told_by, moved_by, by_of}
+use Rattle.esc_chopping.specs.View.{View, view, told_by, moved_by, by_of}
 use Rattle.gate_driver.specs.Gated.{at_leg}
 
 -- the switches that are on are in the pair of the newest Q; before any Q none is on

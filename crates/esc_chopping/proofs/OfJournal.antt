@@ -22,19 +22,19 @@ use Rattle.commutation.specs.Sectors.{high_of}
 use Rattle.gate_driver.specs.DeadSafe.{high_at, low_at, high_free_at, low_free_at}
 use Rattle.commutation.specs.Commutated.{sector_at}
 use Rattle.esc_laws.specs.Chopped.{upto, by_tick, NoStallIn, disturbs, Undisturbed, IsChopped, Chopped}
-use Rattle.esc_chopping.specs.ChopStalls.{NoStall}
-use Rattle.esc_chopping.specs.ChopView.{By, View, view, moved_by, told_by, by_of, by_kind, has_leave}
+use Rattle.esc_chopping.specs.Stalls.{NoStall}
+use Rattle.esc_chopping.specs.View.{By, View, view, moved_by, told_by, by_of, by_kind, has_leave}
 use Rattle.gate_driver.specs.Gated.{at_leg, no_legs}
-use Rattle.esc_chopping.specs.ChopView.By.{CommEnters, CommSteps, PwmEnters, PwmSteps, Lower}
-use Rattle.esc_chopping.specs.ChopLog.{steps_by, at_tick}
-use Rattle.esc_chopping.specs.ChopLaws.{StepMade}
-use Rattle.esc_chopping.specs.ChopPairs.{NoSteps, NoStep, AllAt, TimesFit}
-use Rattle.esc_chopping.specs.ChopPeriods.{NoComm, UndisturbedLog, LogFits}
-use Rattle.esc_chopping.specs.ChopNotes.{NotesFit}
+use Rattle.esc_chopping.specs.View.By.{CommEnters, CommSteps, PwmEnters, PwmSteps, Lower}
+use Rattle.esc_chopping.specs.Log.{steps_by, at_tick}
+use Rattle.esc_chopping.specs.Laws.{StepMade}
+use Rattle.esc_chopping.specs.Pairs.{NoSteps, NoStep, AllAt, TimesFit}
+use Rattle.esc_chopping.specs.Periods.{NoComm, UndisturbedLog, LogFits}
+use Rattle.esc_chopping.specs.Notes.{NotesFit}
 use Rattle.esc_laws.proofs.Stalls.{free_later}
-use Rattle.esc_chopping.proofs.ChopPushes.{view-push, view-none}
+use Rattle.esc_chopping.proofs.Pushes.{view-push, view-none}
 use Rattle.esc_laws.proofs.Pushes.{after-push}
-use Rattle.esc_chopping.proofs.ChopTheorem.{chopped}
+use Rattle.esc_chopping.proofs.Level.{chopped}
 use Rattle.std.proofs.lemmas.Bool.{le-leb, lt-leb}
 use Rattle.arming.proofs.InOrder.{reverse-push}
 use Rattle.esc_laws.proofs.Pushes.{journal-push}
