@@ -5,22 +5,14 @@ mod background;
 mod cap;
 mod cmp;
 mod comm;
-#[cfg(test)]
-mod cross_tests;
 mod drive;
-#[cfg(test)]
-mod drive_tests;
 mod firmware;
 mod orders;
 mod own;
 mod pwm;
 mod reply;
-#[cfg(test)]
-mod reply_tests;
 mod serial;
 mod state;
-#[cfg(test)]
-mod tests;
 mod tick;
 mod uart;
 

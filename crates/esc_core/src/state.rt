@@ -138,14 +138,17 @@ pub struct Core {
     /// For how many steps the mask can still stand.
     pub(crate) hold: u8,
     /// The mode of the newest window.
-    pub(crate) window: Mode,
+    pub window: Mode,
     /// The edges of the closed window, as far as they have been read.
     pub(crate) burst: Burst,
     /// The window timer was set, and no window was opened since.
     pub(crate) paused: bool,
-    pub(crate) control: Control,
-    pub(crate) orders: Orders,
-    pub(crate) drive: Drive,
+    /// What control ticks and frames have come to.
+    pub control: Control,
+    /// What commands have asked for.
+    pub orders: Orders,
+    /// What is kept of the drive.
+    pub drive: Drive,
     pub(crate) serial: Serial,
 }
 

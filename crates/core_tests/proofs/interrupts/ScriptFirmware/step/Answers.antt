@@ -1,6 +1,6 @@
 use Rattle.timer_regs.specs.declared.regs.Reg.TheVariants.{Mask, TickState}
 use Rattle.interrupt_machine.specs.Did.{Reads, Writes}
-use Rattle.interrupt_machine.proofs.tests.ScriptFirmware.step.Goals as goal
+use Rattle.core_tests.proofs.interrupts.ScriptFirmware.step.Goals as goal
 
 pub returns-then-self-at-eq0-clause-access : goal.returns-then-self-at-eq0-clause-access
 returns-then-self-at-eq0-clause-access g c = record { access = Writes Mask 0; after_is = c.write.ensures }

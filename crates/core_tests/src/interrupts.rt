@@ -1,9 +1,10 @@
+//! Which kind enters when, and what a step notes.
 ghost use Rattle.std.specs.Prelude.{◌≡◌, ◌≤◌, ℕ, true, slice_index};
 ghost use Rattle.esc_base.specs.Numbers.{kind_number};
 ghost use Rattle.interrupt_machine.specs.Turn.{IsHeld};
 
-use crate::{Did, Firmware, Machine, Nest, Notes, Own};
 use esc_base::{FlashDev, Kind, MemFlash, Note, Tick};
+use interrupt_machine::{Did, Firmware, Machine, Nest, Notes, Own};
 use std::process::Abort;
 use std::test::Fail;
 use timer_regs::{Reg, Regs};

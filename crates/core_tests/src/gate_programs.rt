@@ -1,7 +1,8 @@
+//! The programs that turn switches on and off.
 ghost use Rattle.std.specs.Prelude.{◌≡◌, ◌+◌, ◌≤◌};
 
-use crate::{AllOff, ChangeAt, Chop, Gates, Progress, ToSector};
 use esc_base::{GateWord, Leg, Sector, Tick};
+use gate_driver::{AllOff, ChangeAt, Chop, Gates, Progress, ToSector};
 use timer_regs::{Reg, Regs};
 
 const A: u8 = 1;

@@ -1,14 +1,14 @@
+//! Drives: their start, their switches, and their end.
 ghost use Rattle.std.specs.Prelude.{◌≡◌, ◌≤◌, true};
 ghost use Rattle.interrupt_machine.specs.Turn.{IsHeld};
 
-use crate::Core;
-use crate::tests::follow;
+use crate::steps::{follow, new_core};
 use arming::{Control, Marks};
 use bitflags::Flags;
 use esc_base::{GateWord, MemFlash, Note, Sector, Tick};
+use esc_core::Core;
 use gate_driver::{AllOff, ToSector};
 use interrupt_machine::{Machine, Nest, Notes};
-use settings_block::{Settings, default_block, read_block};
 use std::process::Abort;
 use std::test::Fail;
 use timer_regs::{Reg, Regs};
@@ -23,12 +23,6 @@ const C: u8 = 4;
 const PAIRS: [(u8, u8); 6] = [(A, B), (C, B), (C, A), (B, A), (B, C), (A, C)];
 
 /// Armed by control tick 5000, with throttle 1046 since.
-fn armed(settings: Settings) -> Core {
-    let mut core = Core::new(settings);
-    arm(&mut core.control);
-    core
-}
-
 fn arm(control: &mut Control) {
     for _ in 0..30 {
         let _ = control.frame(0);
@@ -45,7 +39,9 @@ fn arm(control: &mut Control) {
 fn a_drive_starts(rt: HostRuntime) -> Result<(), Fail> {
     let mut flash = MemFlash::new(rt.alloc())?;
     let mut regs = Regs::new();
-    let mut machine = Machine::new(armed(read_block(&default_block())?), Nest::Full);
+    let mut core = new_core(rt.alloc())?;
+    arm(&mut core.control);
+    let mut machine = Machine::new(core, Nest::Full);
     let t = Tick(5001 * 2400);
     regs.advance(t);
     let number = Note::Control {
@@ -89,13 +85,12 @@ fn a_drive_starts(rt: HostRuntime) -> Result<(), Fail> {
 }
 
 /// Driven in a sector from tick 4 on, with the pair on and a chop asked for: the first 500 ticks of a period are on.
-fn driven(settings: Settings, s: u8) -> (Core, Regs)
+fn driven(mut core: Core, s: u8) -> (Core, Regs)
     requires first { 1 ≤ s }
     requires last { s ≤ 6 }
     ensures count { result.1.accesses ≤ 10 }
     ensures now { result.1.time ≡ 4 }
 {
-    let mut core = Core::new(settings);
     core.drive.turn = ToSector::new(Sector(s));
     core.drive.turned = true;
     let (high, low) = PAIRS[s as usize - 1];
@@ -226,10 +221,9 @@ fn settle(
 #[test]
 fn comm_is_due_at_each_step_of_a_chop(rt: HostRuntime) -> Result<(), Fail> {
     let mut flash = MemFlash::new(rt.alloc())?;
-    let settings = read_block(&default_block())?;
     for s in 1u8..7 {
         for wait in 0u32..9 {
-            let (mut core, mut regs) = driven(settings, s);
+            let (mut core, mut regs) = driven(new_core(rt.alloc())?, s);
             core.drive.change = 4 + 2 * wait;
             regs.write(Reg::CommAt, 4 + 2 * wait);
             let mut seen = Seen::new(s, regs.gates());
@@ -250,7 +244,7 @@ fn comm_is_due_at_each_step_of_a_chop(rt: HostRuntime) -> Result<(), Fail> {
 #[test]
 fn a_low_switch_is_postponed(rt: HostRuntime) -> Result<(), Fail> {
     let mut flash = MemFlash::new(rt.alloc())?;
-    let mut core = Core::new(read_block(&default_block())?);
+    let mut core = new_core(rt.alloc())?;
     let mut regs = Regs::new();
     regs.write(Reg::GhSet, A as u32);
     regs.advance(Tick(100));
@@ -297,7 +291,7 @@ fn a_low_switch_is_postponed(rt: HostRuntime) -> Result<(), Fail> {
 #[test]
 fn comm_finds_nothing_to_do(rt: HostRuntime) -> Result<(), Fail> {
     let mut flash = MemFlash::new(rt.alloc())?;
-    let mut core = Core::new(read_block(&default_block())?);
+    let mut core = new_core(rt.alloc())?;
     core.drive.change = 1000;
     let mut regs = Regs::new();
     let t = Tick(10);
@@ -325,7 +319,7 @@ fn comm_finds_nothing_to_do(rt: HostRuntime) -> Result<(), Fail> {
 fn sixty_forced_changes_are_stuck(rt: HostRuntime) -> Result<(), Fail> {
     let mut flash = MemFlash::new(rt.alloc())?;
     for (forced, is_stuck) in [(58u8, false), (59, true)] {
-        let (mut core, mut regs) = driven(read_block(&default_block())?, 1);
+        let (mut core, mut regs) = driven(new_core(rt.alloc())?, 1);
         core.drive.forced = forced;
         regs.write(Reg::CommAt, 4);
         let mut machine = Machine::new(core, Nest::Full);
@@ -344,7 +338,7 @@ fn sixty_forced_changes_are_stuck(rt: HostRuntime) -> Result<(), Fail> {
 fn all_is_off_before_the_mask_falls(rt: HostRuntime) -> Result<(), Fail> {
     let mut flash = MemFlash::new(rt.alloc())?;
     let mut regs = Regs::new();
-    let mut machine = Machine::new(Core::new(read_block(&default_block())?), Nest::Full);
+    let mut machine = Machine::new(new_core(rt.alloc())?, Nest::Full);
     let t = Tick(2400);
     regs.write(Reg::GhSet, A as u32);
     regs.write(Reg::GlSet, B as u32);

@@ -1,8 +1,9 @@
+//! The registers: what is read, what becomes due, and when.
 ghost use Rattle.std.specs.Prelude.{◌≤◌, ◌<◌, ◌^◌};
 
-use crate::{KindSet, Reg, Regs};
 use esc_base::{Arrived, GateWord, Kind, Tick};
 use std::process::Abort;
+use timer_regs::{KindSet, Reg, Regs};
 
 #[test]
 fn control_tick_comes_due(rt: HostRuntime) {

@@ -1,23 +1,22 @@
+//! The search for a sector's zero crossing.
 ghost use Rattle.std.specs.Prelude.{◌≡◌, ◌≤◌, true, false};
 ghost use Rattle.interrupt_machine.specs.Turn.{IsHeld};
 
-use crate::Core;
-use crate::tests::follow;
+use crate::steps::{follow, new_core};
 use esc_base::{Kind, MemFlash, Note, Sector, Tick};
-use interrupt_machine::{Machine, Nest};
-use settings_block::{Settings, default_block, read_block};
+use esc_core::Core;
+use interrupt_machine::{Machine, Nest, Notes};
 use std::process::Abort;
 use std::test::Fail;
 use timer_regs::{Reg, Regs};
 
 /// In sector 1 of a forward drive from tick 4 on, whose blanking ends at tick 304 and whose
 /// forced change is due at tick `change`. The level after its crossing is 1.
-fn searching(settings: Settings, change: u32) -> (Machine<Core>, Regs)
+fn searching(mut core: Core, change: u32) -> (Machine<Core>, Regs)
     ensures count { result.1.accesses ≤ 10 }
     ensures now { result.1.time ≡ 4 }
     ensures mask { result.1.masked ≡ false }
 {
-    let mut core = Core::new(settings);
     core.drive.turned = true;
     core.drive.change = change;
     let _ = core.drive.crossing.begin(Sector(1), true, Tick(4), 1200);
@@ -62,11 +61,11 @@ fn waits(rt: &impl Abort, machine: &Machine<Core>, regs: &mut Regs, due: u64)
 #[test]
 fn a_crossing_is_accepted(rt: HostRuntime) -> Result<(), Fail> {
     let mut flash = MemFlash::new(rt.alloc())?;
-    let (mut machine, mut regs) = searching(read_block(&default_block())?, 240004);
+    let (mut machine, mut regs) = searching(new_core(rt.alloc())?, 240004);
     regs.advance(Tick(200));
     regs.comp(true);
     waits(&rt, &machine, &mut regs, 304);
-    looks(&rt, &mut machine, &mut regs, &mut flash, &[None; 5]);
+    looks(&rt, &mut machine, &mut regs, &mut flash, &[None; 6]);
     waits(&rt, &machine, &mut regs, 328);
     let t = Tick(328);
     let rows = [
@@ -90,16 +89,16 @@ fn a_crossing_is_accepted(rt: HostRuntime) -> Result<(), Fail> {
 #[test]
 fn a_chatter_is_no_crossing(rt: HostRuntime) -> Result<(), Fail> {
     let mut flash = MemFlash::new(rt.alloc())?;
-    let (mut machine, mut regs) = searching(read_block(&default_block())?, 240004);
+    let (mut machine, mut regs) = searching(new_core(rt.alloc())?, 240004);
     regs.comp(true);
     waits(&rt, &machine, &mut regs, 304);
-    looks(&rt, &mut machine, &mut regs, &mut flash, &[None; 5]);
+    looks(&rt, &mut machine, &mut regs, &mut flash, &[None; 6]);
     regs.comp(false);
     regs.comp(true);
     waits(&rt, &machine, &mut regs, 328);
     looks(&rt, &mut machine, &mut regs, &mut flash, &[None; 4]);
     waits(&rt, &machine, &mut regs, 728);
-    looks(&rt, &mut machine, &mut regs, &mut flash, &[None; 5]);
+    looks(&rt, &mut machine, &mut regs, &mut flash, &[None; 6]);
     waits(&rt, &machine, &mut regs, 752);
     Ok(())
 }
@@ -108,7 +107,7 @@ fn a_chatter_is_no_crossing(rt: HostRuntime) -> Result<(), Fail> {
 #[test]
 fn a_change_is_waited_for(rt: HostRuntime) -> Result<(), Fail> {
     let mut flash = MemFlash::new(rt.alloc())?;
-    let (mut machine, mut regs) = searching(read_block(&default_block())?, 240004);
+    let (mut machine, mut regs) = searching(new_core(rt.alloc())?, 240004);
     waits(&rt, &machine, &mut regs, 304);
     looks(&rt, &mut machine, &mut regs, &mut flash, &[None; 4]);
     assert_eq!(rt; regs.now(), Tick(304));
@@ -126,7 +125,7 @@ fn a_change_is_waited_for(rt: HostRuntime) -> Result<(), Fail> {
 #[test]
 fn the_sector_changes_under_cmp(rt: HostRuntime) -> Result<(), Fail> {
     let mut flash = MemFlash::new(rt.alloc())?;
-    let (mut machine, mut regs) = searching(read_block(&default_block())?, 304);
+    let (mut machine, mut regs) = searching(new_core(rt.alloc())?, 304);
     waits(&rt, &machine, &mut regs, 304);
     let t = Tick(304);
     follow(
@@ -162,5 +161,55 @@ fn the_sector_changes_under_cmp(rt: HostRuntime) -> Result<(), Fail> {
     assert!(rt; !regs.due().has(Kind::Cmp));
     regs.advance(Tick(6304));
     assert!(rt; regs.due().has(Kind::Cmp));
+    Ok(())
+}
+
+/// How many crossings are noted up to tick 1000, where steps are so many ticks apart and the comparator changes at a tick,
+/// before a step at that tick. The newest of them stands 24 ticks after the change or later.
+fn crossings_after(
+    rt: &impl Abort,
+    machine: &mut Machine<Core>,
+    regs: &mut Regs,
+    flash: &mut MemFlash,
+    cost: u64,
+    change: u64,
+) -> u32
+    requires mask { regs.old.masked ≡ false }
+    requires cost { cost ≤ 16 }
+{
+    let mut notes = Notes::new();
+    let mut count = 0u32;
+    let mut next = 0u64;
+    for t in 304u64..1000 {
+        assert!(rt; regs.accesses() < 1000 && regs.now().0 <= t);
+        regs.advance(Tick(t));
+        if t == change {
+            regs.comp(true);
+        }
+        if next <= t && !machine.idle(regs) {
+            machine.step_into(regs, flash, &mut notes);
+            next = t + cost;
+            if notes.as_slice().contains(&Note::Cross { t: Tick(t) }) {
+                assert!(rt; change + 24 <= t);
+                count = count.saturating_add(1);
+            }
+        }
+    }
+    count
+}
+
+/// CMP is entered at the end of blanking, at tick 304. The comparator changes at the entry or up to 12 ticks after it, between
+/// any two of CMP's steps, and its crossing is accepted all the same.
+#[test]
+fn no_change_at_the_end_of_blanking_is_lost(rt: HostRuntime) -> Result<(), Fail> {
+    let mut flash = MemFlash::new(rt.alloc())?;
+    for cost in [1u64, 2, 16] {
+        for delay in 0u64..13 {
+            let (mut machine, mut regs) = searching(new_core(rt.alloc())?, 240004);
+            let change = 304 + delay;
+            let count = crossings_after(&rt, &mut machine, &mut regs, &mut flash, cost, change);
+            assert_eq!(rt; count, 1, "cost {cost}, {delay} ticks after the entry");
+        }
+    }
     Ok(())
 }

@@ -1,17 +1,19 @@
+//! A run: the lines of its steps, and where it ends.
 ghost use Rattle.std.specs.Prelude.{◌≡◌};
 ghost use Rattle.esc_base.specs.Trace.{tick_of};
 ghost use Rattle.trace_text.specs.Ahead.{StallFits};
 
-use crate::{RunConfig, Runner, WriteFault};
 use esc_base::{Event, MemFlash, MemSink, Tick};
 use interrupt_machine::Nest;
 use settings_block::{BlockFault, Loaded, default_block, load, read_block};
 use std::alloc::Global;
 use std::test::Fail;
+use trace_runner::{Room, RunConfig, Runner, WriteFault};
 
 /// A run to tick 5000 with an event at tick 2400.
 fn run(
     loaded: Loaded,
+    room: Room,
     event: Event,
     out: &mut MemSink,
     flash: &mut MemFlash,
@@ -25,6 +27,7 @@ fn run(
             nest: Nest::One,
         },
         loaded,
+        room,
     );
     runner.begin(out)?;
     runner.feed(event, out, flash)?;
@@ -39,7 +42,7 @@ fn ran(alloc: Global, event: Event, fails: &[u64]) -> Result<(Result<(), WriteFa
     let mut out = MemSink::new(alloc, 1024, fails)?;
     let mut flash = MemFlash::new(alloc)?;
     let loaded = load(&mut flash)?;
-    let answer = run(loaded, event, &mut out, &mut flash);
+    let answer = run(loaded, Room::new(alloc)?, event, &mut out, &mut flash);
     Ok((answer, String::from_utf8_lossy(alloc, out.given())?))
 }
 
@@ -101,6 +104,7 @@ fn the_first_line_tells_what_was_loaded(rt: HostRuntime) -> Result<(), Fail> {
                 nest: Nest::One,
             },
             Loaded { settings, fault },
+            Room::new(rt.alloc())?,
         );
         runner.begin(&mut out)?;
         assert_eq!(rt; out.given(), lines.as_bytes());

@@ -1,13 +1,22 @@
+//! The handlers' steps: a control tick, a first frame, a save.
 ghost use Rattle.std.specs.Prelude.{◌≡◌, true};
 ghost use Rattle.interrupt_machine.specs.Turn.{IsHeld};
 
-use crate::Core;
 use esc_base::{FlashOp, MemFlash, Note, Tick};
+use esc_core::Core;
+use fourway_packet::Packets;
 use interrupt_machine::{Machine, Nest, Notes};
-use settings_block::{Settings, default_block, read_block, write_block};
+use settings_block::{default_block, read_block, write_block};
+use std::alloc::Global;
 use std::process::Abort;
 use std::test::Fail;
 use timer_regs::{Reg, Regs};
+
+/// The core of a blank flash.
+pub(crate) fn new_core(alloc: Global) -> Result<Core, Fail> {
+    let settings = read_block(&default_block())?;
+    Ok(Core::new(settings, Packets::new(alloc)?))
+}
 
 /// Makes a step for each row, and checks its first note.
 pub(crate) fn follow(
@@ -33,7 +42,7 @@ pub(crate) fn follow(
 fn a_control_tick(rt: HostRuntime) -> Result<(), Fail> {
     let mut flash = MemFlash::new(rt.alloc())?;
     let mut regs = Regs::new();
-    let mut machine = Machine::new(Core::new(read_block(&default_block())?), Nest::One);
+    let mut machine = Machine::new(new_core(rt.alloc())?, Nest::One);
     let t = Tick(2400);
     regs.advance(t);
     follow(
@@ -82,7 +91,7 @@ pub(crate) fn pulse(rt: &impl Abort, regs: &mut Regs, level: bool, at: u64, widt
 fn a_first_frame(rt: HostRuntime) -> Result<(), Fail> {
     let mut flash = MemFlash::new(rt.alloc())?;
     let mut regs = Regs::new();
-    let mut machine = Machine::new(Core::new(read_block(&default_block())?), Nest::One);
+    let mut machine = Machine::new(new_core(rt.alloc())?, Nest::One);
     regs.write(Reg::CapArm, 0);
     let widths = [
         60, 30, 30, 30, 30, 30, 60, 30, 60, 60, 30, 30, 30, 60, 60, 30,
@@ -114,9 +123,8 @@ fn a_first_frame(rt: HostRuntime) -> Result<(), Fail> {
 }
 
 /// A save is asked for: MAIN is entered, saves in its first step with result `r`, and returns in the second.
-fn saves(rt: &impl Abort, settings: Settings, flash: &mut MemFlash, r: u8) {
+fn saves(rt: &impl Abort, mut core: Core, flash: &mut MemFlash, r: u8) {
     let mut regs = Regs::new();
-    let mut core = Core::new(settings);
     core.orders.save_asked = true;
     let mut machine = Machine::new(core, Nest::One);
     assert!(rt; !regs.masked());
@@ -137,9 +145,11 @@ fn main_saves_the_settings(rt: HostRuntime) -> Result<(), Fail> {
     settings.direction = 1;
     for op in [FlashOp::Erase, FlashOp::Program] {
         flash.fail(op, 1)?;
-        saves(&rt, settings, &mut flash, 1);
+        let core = Core::new(settings, Packets::new(rt.alloc())?);
+        saves(&rt, core, &mut flash, 1);
     }
-    saves(&rt, settings, &mut flash, 0);
+    let core = Core::new(settings, Packets::new(rt.alloc())?);
+    saves(&rt, core, &mut flash, 0);
     let block = write_block(&settings);
     assert_eq!(rt; flash.bytes().get(0x7C00..0x7C30), Some(block.0.as_slice()));
     Ok(())

@@ -1,21 +1,20 @@
+//! Replies to inverted frames.
 ghost use Rattle.std.specs.Prelude.{◌≡◌, ◌≤◌, true, false};
 ghost use Rattle.interrupt_machine.specs.Turn.{IsHeld};
 
-use crate::Core;
-use crate::tests::{follow, pulse};
+use crate::steps::{follow, new_core, pulse};
 use esc_base::{Kind, MemFlash, Mode, Note, Tick};
+use esc_core::Core;
 use interrupt_machine::{Machine, Nest};
-use settings_block::{Settings, default_block, read_block};
 use std::process::Abort;
 use std::test::Fail;
 use timer_regs::{Reg, Regs};
 
 /// A window is open in a mode, and the newest six gaps have this sum.
-fn listening(settings: Settings, mode: Mode, gaps: u32) -> (Core, Regs)
+fn listening(mut core: Core, mode: Mode, gaps: u32) -> (Core, Regs)
     ensures count { result.1.accesses ≤ 2 }
     ensures mask { result.1.masked ≡ false }
 {
-    let mut core = Core::new(settings);
     core.window = mode;
     let mut regs = Regs::new();
     regs.edge(true);
@@ -109,8 +108,7 @@ fn listens_after(
 #[test]
 fn a_reply_tells_the_period(rt: HostRuntime) -> Result<(), Fail> {
     let mut flash = MemFlash::new(rt.alloc())?;
-    let settings = read_block(&default_block())?;
-    let (mut core, mut regs) = listening(settings, Mode::D600Inv, 48000);
+    let (mut core, mut regs) = listening(new_core(rt.alloc())?, Mode::D600Inv, 48000);
     core.control.found(Mode::D600Inv);
     let mut machine = Machine::new(core, Nest::One);
     send(&rt, &mut regs, 80, 0x82C9);
@@ -133,8 +131,7 @@ fn a_reply_tells_the_period(rt: HostRuntime) -> Result<(), Fail> {
 #[test]
 fn a_reply_tells_that_no_period_is_there(rt: HostRuntime) -> Result<(), Fail> {
     let mut flash = MemFlash::new(rt.alloc())?;
-    let settings = read_block(&default_block())?;
-    let (mut core, mut regs) = listening(settings, Mode::D300Inv, 0);
+    let (mut core, mut regs) = listening(new_core(rt.alloc())?, Mode::D300Inv, 0);
     core.control.found(Mode::D300Inv);
     let mut machine = Machine::new(core, Nest::One);
     send(&rt, &mut regs, 160, 0x82C9);
@@ -158,8 +155,7 @@ fn a_reply_tells_that_no_period_is_there(rt: HostRuntime) -> Result<(), Fail> {
 #[test]
 fn a_late_reply_starts_at_once(rt: HostRuntime) -> Result<(), Fail> {
     let mut flash = MemFlash::new(rt.alloc())?;
-    let settings = read_block(&default_block())?;
-    let (core, mut regs) = listening(settings, Mode::D600Inv, 0);
+    let (core, mut regs) = listening(new_core(rt.alloc())?, Mode::D600Inv, 0);
     let mut machine = Machine::new(core, Nest::One);
     send(&rt, &mut regs, 80, 0x82C9);
     assert!(rt; !regs.masked() && regs.now().0 < 20000);
@@ -181,8 +177,7 @@ fn a_late_reply_starts_at_once(rt: HostRuntime) -> Result<(), Fail> {
 #[test]
 fn a_damaged_frame_gets_no_reply(rt: HostRuntime) -> Result<(), Fail> {
     let mut flash = MemFlash::new(rt.alloc())?;
-    let settings = read_block(&default_block())?;
-    let (core, mut regs) = listening(settings, Mode::D600Inv, 48000);
+    let (core, mut regs) = listening(new_core(rt.alloc())?, Mode::D600Inv, 48000);
     let mut machine = Machine::new(core, Nest::One);
     send(&rt, &mut regs, 80, 0x82C8);
     assert!(rt; !regs.masked());
