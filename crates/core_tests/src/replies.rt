@@ -15,7 +15,7 @@ fn listening(mut core: Core, mode: Mode, gaps: u32) -> (Core, Regs)
     ensures count { result.1.accesses ≤ 2 }
     ensures mask { result.1.masked ≡ false }
 {
-    core.window = mode;
+    core.listening.window = mode;
     let mut regs = Regs::new();
     regs.edge(true);
     regs.write(Reg::CapArm, mode.number() as u32);

@@ -1,5 +1,5 @@
 -- Taking a byte is what the model says.
-use Rattle.std.proofs.Common.{◌≡◌, ◌≤◌, ◌<◌, ℕ, Bool, List, [], ◌∷◌, length, Option, Some, None, Result, Err, refl, sym, ◌∙◌, ap, subst, arith}
+use Rattle.std.proofs.Common.{◌≡◌, ◌≤◌, ℕ, Bool, List, [], ◌∷◌, length, Option, Some, None, Result, Err, refl, sym, ◌∙◌, ap, subst, arith}
 use Rattle.esc_base.specs.declared.note.Note.{Note}
 use Rattle.esc_base.specs.declared.note.Note.TheVariants as note
 use Rattle.esc_base.specs.Flash.{Told}
@@ -21,7 +21,7 @@ use Rattle.esc_core.specs.Brain.{Brain}
 use Rattle.esc_core.specs.Stepped.{Stepped, IsStepped}
 use Rattle.esc_core.specs.Calls.{Answer, Said, said_first, DeviceDid, IsMade}
 use Rattle.esc_core.specs.Background.{access_of, answers_asked, taking_by, taking_step, Tells}
-use Rattle.esc_core.specs.Line.{Line, reply_of, taken_by, packet_note, IsSaid, SaidBy, TakesByte}
+use Rattle.esc_core.specs.Line.{Line, reply_of, SaidBy, TakesByte}
 
 line_is : (s : Line) (q : Queue) (a : Bool) (l : List ℕ) → s.packets ≡ q → s.active ≡ a → s.left ≡ l → s ≡ record { packets = q; active = a; left = l }
 line_is s q a l p b c = rw (← p, ← b, ← c) refl
