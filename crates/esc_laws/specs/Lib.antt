@@ -20,9 +20,7 @@ pub mod NoteLaw
 pub mod Said
 pub mod Legal
 pub mod Saves
-pub mod Refused
-pub mod RefusedCrossings
-pub mod RefusedReplies
-pub mod RefusedChops
-pub mod Allowed
+pub mod refused
+pub mod allowed
 pub mod DutyKept
+pub mod LogFixed

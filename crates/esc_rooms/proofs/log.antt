@@ -10,3 +10,4 @@ pub mod Events
 pub mod Start
 pub mod Carried
 pub mod FlashSteps
+pub mod Outside

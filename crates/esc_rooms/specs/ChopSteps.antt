@@ -1,4 +1,3 @@
--- Machinery, and no law: how a run is proved to be legal. Nothing that `Legal` means rests on this.
 -- What each machine step of a run does to the gates, by the journal before and after it.
 use Rattle.std.specs.Prelude.{◌≡◌, ◌≢◌, ◌<◌, ◌≤◌, ◌%◌, ℕ, true, false, List, [], ◌∷◌, ◌++◌, reverse, All}
 use Rattle.esc_base.specs.declared.kind.Kind.TheVariants as kind
@@ -11,7 +10,7 @@ use Rattle.commutation.specs.Sectors.{high_of}
 use Rattle.commutation.specs.Commutated.{sector_at}
 use Rattle.gate_driver.specs.DeadSafe.{high_at, low_at, low_free_at}
 use Rattle.esc_laws.specs.Steps.{Turned, journal, open_in}
-use Rattle.esc_chopping.specs.ChopView.{has_leave}
+use Rattle.esc_chopping.specs.View.{has_leave}
 use Rattle.esc_laws.specs.Looks.{made}
 
 -- the notes of these steps, the newest first

@@ -1,4 +1,3 @@
--- Machinery, and no law: how a run is proved to be legal. Nothing that `Legal` means rests on this.
 -- What ties the drive to what the notes say, by where COMM, PWM and TICK stand. Each fact holds between any two steps, whatever
 -- is open.
 use Rattle.std.specs.Prelude.{◌≡◌, ◌≢◌, ◌<◌, ◌≤◌, ◌+◌, ◌%◌, ◌⊎◌, ℕ, min, Bool, true, false, ◌||◌, nat_lt, nat_le, Option, Some, None}

@@ -1,4 +1,3 @@
--- Machinery, and no law: how a run is proved to be legal. Nothing that `Legal` means rests on this.
 -- What ties the core and the registers to what the notes and the trace say, by where CAP, TICK and MAIN stand. Each fact holds
 -- between any two steps, whatever higher kinds do meanwhile.
 use Rattle.std.specs.Prelude.{◌≡◌, ◌<◌, ◌≤◌, ◌+◌, ◌-◌, ◌/◌, ◌⊎◌, ℕ, Bool, true, false, List, length, take, Option, Some, None, All}

@@ -1,6 +1,6 @@
 -- COMM's first steps: it decides, and changes the sector.
 use Rattle.std.proofs.Common.{◌≡◌, ◌≤◌, ◌<◌, ◌+◌, ◌-◌, inl, inr, ℕ, zero, suc, min, Bool, true, false, ◌&&◌, ◌||◌, ◌==◌, nat_le, bit_and, if◌then◌else◌, List, ◌∷◌, take, refl, sym, ◌∙◌, ap, subst, arith}
-use Rattle.std.proofs.lemmas.Bool.{cases_lt, leb-true, le-leb}
+use Rattle.std.proofs.lemmas.Bool.{cases_lt, leb-true, leb-false, le-leb}
 use Rattle.std.proofs.lemmas.Bool.Decides.{nat_tests}
 use Rattle.esc_base.specs.declared.kind.Kind.{Kind}
 use Rattle.esc_base.specs.declared.kind.Kind.TheVariants as kind
@@ -50,10 +50,11 @@ use Rattle.zero_cross.specs.Kept.{Kept, after_begin}
 use Rattle.commutation.specs.Pace.{Pace, wait_of}
 use Rattle.commutation.specs.Drive.{interval_at}
 use Rattle.esc_rooms.specs.CrossTied.{ends_drive}
-use Rattle.esc_rooms.proofs.cmp.CrossFacts.{cmp_unmasked, tick_unmasked, prompt_late, turned_cross}
+use Rattle.esc_rooms.proofs.cmp.CrossFacts.{cmp_unmasked, tick_unmasked}
+use Rattle.esc_rooms.proofs.cmp.BesideComm.{prompt_late, turned_cross}
 use Rattle.esc_rooms.proofs.comm.Facts.{same_words, high_words, low_words, IsComm, place_tie, before_step, same_to, same_marked, comm_gates}
 use Rattle.esc_laws.specs.NoteLaw as owed
-use Rattle.esc_rooms.proofs.comm.Goes.{beside_tick, no_commute, goes}
+use Rattle.esc_rooms.proofs.comm.Preserves.{beside_tick, no_commute, comm_step_preserves}
 
 -- ---- the period register
 
@@ -83,7 +84,7 @@ begins_turn w outer due i =
     let to : ℕ = next_sector w.bank.sector (is_forward w.core.orders) in
     let d : Drive = record w.core.drive { turn = change_to to; postponed = false } in
     let tied : Decides (drive_seen w) = place_tie w outer comm.Decide w.core.drive.turn.at i in
-    goes w outer comm.Decide comm.Turn w.core.drive.turn.at d.gates d.turn d.postponed w.bank.comm w.bank.stuck w.bank.hi w.bank.lo _ i refl (λ f. cc) (omega arith) refl refl (record {
+    comm_step_preserves w outer comm.Decide comm.Turn w.core.drive.turn.at d.gates d.turn d.postponed w.bank.comm w.bank.stuck w.bank.hi w.bank.lo _ i refl (λ f. cc) (omega arith) refl refl (record {
       gates = quiet_gates kind.Comm w _ (λ e. cc) refl refl refl;
       words = same_words (drive_seen w) d refl t;
       to_is = λ e. cc;
@@ -110,7 +111,7 @@ resumes false w outer e early i =
 resumes true w outer e early i =
     let t = i.ties kind.Comm in
     let tied : Decides (drive_seen w) = place_tie w outer comm.Decide w.core.drive.turn.at i in
-    goes w outer comm.Decide comm.Low w.core.drive.turn.at w.core.drive.gates w.core.drive.turn w.core.drive.postponed w.bank.comm w.bank.stuck w.bank.hi w.bank.lo _ i refl (λ f. cc) (omega arith) refl refl (record {
+    comm_step_preserves w outer comm.Decide comm.Low w.core.drive.turn.at w.core.drive.gates w.core.drive.turn w.core.drive.postponed w.bank.comm w.bank.stuck w.bank.hi w.bank.lo _ i refl (λ f. cc) (omega arith) refl refl (record {
       gates = quiet_gates kind.Comm w _ (λ e. cc) refl refl refl;
       words = same_words (drive_seen w) w.core.drive refl t;
       to_is = λ f. same_to w outer comm.Decide w.core.drive.turn.at i refl;
@@ -132,22 +133,19 @@ resumes true w outer e early i =
     some zero z = absurd (let first = (i.ties kind.Comm).next.first z i.drives in omega arith)
     some (suc n) z = omega arith
 
-pub decides : (v : Bool) (w : World) (outer : List Kind) → nat_le w.core.drive.change w.bank.time ≡ v → IsComm w outer comm.Decide w.core.drive.turn.at
+pub comm_decide_preserves : (v : Bool) (w : World) (outer : List Kind) → nat_le w.core.drive.change w.bank.time ≡ v → IsComm w outer comm.Decide w.core.drive.turn.at
     → StepKeeps kind.Comm outer w (decided v w.core w.bank)
-decides true w outer e i = begins_turn w outer (leb-true w.core.drive.change w.bank.time e) i
-decides false w outer e i = resumes w.core.drive.postponed w outer refl (early w.core.drive.change w.bank.time e) i
-  where
-    early : (m n : ℕ) → nat_le m n ≡ false → n < m
-    early m n e = grind (arith, nat_tests)
+comm_decide_preserves true w outer e i = begins_turn w outer (leb-true w.core.drive.change w.bank.time e) i
+comm_decide_preserves false w outer e i = resumes w.core.drive.postponed w outer refl (leb-false w.core.drive.change w.bank.time e) i
 
 -- ---- the change of sector
 
 pub turn_tie : (w : World) (outer : List Kind) (at : ChangeAt) → IsComm w outer comm.Turn at → TurnTied at (drive_seen w)
 turn_tie w outer at i = subst (λ (a : ChangeAt). TurnTied a (drive_seen w)) i.change_is (place_tie w outer comm.Turn at i)
 
-pub clears_high : (w : World) (outer : List Kind) → IsComm w outer comm.Turn change.ClearHigh
+pub clear_high_preserves : (w : World) (outer : List Kind) → IsComm w outer comm.Turn change.ClearHigh
     → StepKeeps kind.Comm outer w (turn_step change.ClearHigh w.core w.bank)
-clears_high w outer i =
+clear_high_preserves w outer i =
     let t = i.ties kind.Comm in
     let g : Gated = w.core.drive.gates in
     let to : ℕ = w.core.drive.turn.to in
@@ -157,7 +155,7 @@ clears_high w outer i =
     let d : Drive = record w.core.drive { gates = gates_after g w.bank after; turn = record { to = to; at = change.ClearLow } } in
     let tied : Turns (drive_seen w) = turn_tie w outer change.ClearHigh i in
     let pair : InPair w.bank.sector hi w.bank.lo = record { high = λ x on. t.switches.pair.high x (on_and w.bank.hi mask x on); low = t.switches.pair.low } in
-    goes w outer comm.Turn comm.Turn change.ClearHigh d.gates d.turn d.postponed w.bank.comm w.bank.stuck hi w.bank.lo _ i refl (λ f. cc) (omega arith) refl refl (record {
+    comm_step_preserves w outer comm.Turn comm.Turn change.ClearHigh d.gates d.turn d.postponed w.bank.comm w.bank.stuck hi w.bank.lo _ i refl (λ f. cc) (omega arith) refl refl (record {
       gates = comm_gates w outer comm.Turn change.ClearHigh _ i refl
           (high_off_keeps (gates_after g w.bank after) w.bank after mask refl refl (pair_apart w.bank.sector w.bank.hi w.bank.lo t.switches.sectors t.switches.pair)) pair;
       words = high_words (drive_seen w) d hi refl pair t;
@@ -169,9 +167,9 @@ clears_high w outer i =
       late = (i.ties kind.Cmp).late;
     })
 
-pub clears_low : (w : World) (outer : List Kind) → IsComm w outer comm.Turn change.ClearLow
+pub clear_low_preserves : (w : World) (outer : List Kind) → IsComm w outer comm.Turn change.ClearLow
     → StepKeeps kind.Comm outer w (turn_step change.ClearLow w.core w.bank)
-clears_low w outer i =
+clear_low_preserves w outer i =
     let t = i.ties kind.Comm in
     let g : Gated = w.core.drive.gates in
     let to : ℕ = w.core.drive.turn.to in
@@ -181,7 +179,7 @@ clears_low w outer i =
     let d : Drive = record w.core.drive { gates = gates_after g w.bank after; turn = record { to = to; at = change.SetSector } } in
     let tied = turn_tie w outer change.ClearLow i in
     let pair : InPair w.bank.sector w.bank.hi lo = record { high = t.switches.pair.high; low = λ x on. t.switches.pair.low x (on_and w.bank.lo mask x on) } in
-    goes w outer comm.Turn comm.Turn change.ClearLow d.gates d.turn d.postponed w.bank.comm w.bank.stuck w.bank.hi lo _ i refl (λ f. cc) (omega arith) refl refl (record {
+    comm_step_preserves w outer comm.Turn comm.Turn change.ClearLow d.gates d.turn d.postponed w.bank.comm w.bank.stuck w.bank.hi lo _ i refl (λ f. cc) (omega arith) refl refl (record {
       gates = comm_gates w outer comm.Turn change.ClearLow _ i refl
           (low_off_keeps (gates_after g w.bank after) w.bank after mask refl refl (pair_apart w.bank.sector w.bank.hi w.bank.lo t.switches.sectors t.switches.pair)) pair;
       words = low_words (drive_seen w) d lo refl pair (λ x on. inl (on_and w.bank.lo mask x on)) t;
@@ -291,9 +289,9 @@ begins_cross w outer i u =
     (ap (λ (p : Pace). phase.Blank (as_tick (w.bank.time + blanking_of p.interval))) u.pace_is)
     (ap (λ (f : Bool). level_of f w.core.drive.turn.to) (direction_is w i.ground)) (λ since. refl) u
 
-pub sets_sector : (w : World) (outer : List Kind) → IsComm w outer comm.Turn change.SetSector
+pub set_sector_preserves : (w : World) (outer : List Kind) → IsComm w outer comm.Turn change.SetSector
     → StepKeeps kind.Comm outer w (turn_step change.SetSector w.core w.bank)
-sets_sector w outer i =
+set_sector_preserves w outer i =
     let t = i.ties kind.Comm in
     let to : ℕ = w.core.drive.turn.to in
     let tied = turn_tie w outer change.SetSector i in

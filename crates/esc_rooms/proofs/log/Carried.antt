@@ -28,17 +28,17 @@ use Rattle.esc_core.specs.Calls.{Call, Answer, DeviceDid}
 use Rattle.esc_core.specs.Firmware.{entered_core, core_step, core_asked, counted_down, is_stray, waits_of}
 use Rattle.esc_core.specs.Stepped.{IsStepped}
 use Rattle.esc_core.proofs.Bounds.{core_step-goes, core_asked-goes, counted_asked}
-use Rattle.esc_rooms.proofs.shared.Law.{Given}
+use Rattle.esc_rooms.proofs.shared.Law.{AtRest, Given}
 use Rattle.esc_laws.specs.Seen.{sees}
 use Rattle.esc_laws.specs.Steps.{Turned, stall_end, opening, journal, notes_in, open_in, past_stall, free, after, steps_since, entered_at, EachStep, StepFits, Awaits, Below, OpenFew}
-use Rattle.esc_rooms.proofs.log.Turns.{made_below}
+use Rattle.esc_rooms.proofs.log.Turns.{at_rest, made_below}
 use Rattle.esc_laws.proofs.CrossGrowth.{notes_below}
 use Rattle.esc_rooms.specs.Tied.{Keeps, WordTold}
 use Rattle.esc_laws.specs.Legal.{Legal, LegalFront}
 use Rattle.esc_rooms.specs.Logged.{Logged, CoreTurn, turned}
 use Rattle.esc_laws.specs.Looks.{Made, made}
 use Rattle.esc_rooms.specs.World.{world, after_event, enters}
-use Rattle.esc_rooms.specs.Rooms.{Past, Ground, Tie}
+use Rattle.esc_rooms.specs.Rooms.{Past}
 use Rattle.esc_laws.specs.Chopped.{Chopped}
 use Rattle.esc_rooms.specs.ChopSteps.{ChopFits}
 use Rattle.esc_laws.proofs.Pushes.{All-later, journal-push, notes-push}
@@ -46,9 +46,9 @@ use Rattle.esc_laws.proofs.Stalls.{past_later as stall_later, past_more, past_en
 use Rattle.esc_laws.proofs.Growth.{sees_before}
 use Rattle.esc_laws.proofs.StepGrowth.{fits_grow}
 use Rattle.esc_rooms.proofs.log.Laws.{law}
-use Rattle.esc_rooms.proofs.log.Stages.{later_ground, event_ground, event_tie}
+use Rattle.esc_rooms.proofs.log.Outside.{later_ground, event_ground, event_tie}
 use Rattle.esc_rooms.proofs.log.Entries.{unheld_idle}
-use Rattle.esc_rooms.proofs.log.OwnTurns.{steady, own_are}
+use Rattle.esc_rooms.proofs.log.OwnTurns.{steady, own_are, own_few}
 use Rattle.esc_rooms.proofs.log.Stepping.{sees_due, entry_turn, own_turn, left_is, stepped_by}
 use Rattle.esc_laws.specs.Said.{NoteFits}
 use Rattle.esc_laws.proofs.Notes.{all_front, lawful_of}
@@ -95,7 +95,7 @@ own_told loaded nest cost trace c c' b b' stack stack' log notes k outer did ans
     let told = notes_are ∙ own_are k b b' (stepped_by k answers c b) did c' i in
     let left = open_is ∙ left_is k outer did (stepped_by k answers c b).over i.over_is in
     rw (i.core_is, i.bank_is, left, told) (own_turn loaded nest cost trace c b outer log k answers some
-    (given_by k c b answers (steady k c b (k ∷ outer) l'.keeps refl) asked) l' none')
+    (given_by k c b answers (steady k c b (k ∷ outer) l'.keeps refl) asked) l' none' (rw (← own_are k b b' (stepped_by k answers c b) did c' i) (own_few b.hi b.lo b' k did)))
 
 pub turn_logged : (loaded : Loaded) (nest : Nest) (cost : ℕ) (trace : List Event) (c c' : Brain) (b b' : Bank) (flash flash' : Told)
     (stack stack' : List Kind) (log : List Turned) (notes : List Note)
@@ -120,7 +120,7 @@ time_logged loaded nest cost trace next c b stack log t later le small l = recor
   marks = marks_later loaded nest trace b stack log t later l.marks;
   gates = record { hi_is = l.gates.hi_is; lo_is = l.gates.lo_is; hi_free = l.gates.hi_free; lo_free = l.gates.lo_free };
   ground = later_ground (world loaded nest trace c b log) t later small l.ground;
-  ties = λ k. (law k).later (world loaded nest trace c b log) t later small l.ground l.ties;
+  ties = λ k. (law k).later (world loaded nest trace c b log) t later small (at_rest loaded nest cost trace next c b stack log l);
   patient = patient_later loaded nest trace c b stack log t later l.patient;
   owes = l.owes;
   reached = l.reached;
@@ -164,11 +164,11 @@ none_before (Some d) b k t u is le from below = is.none_before k u from (let m =
 
 -- while nothing is due nothing is seen due
 none_seen : (loaded : Loaded) (nest : Nest) (trace : List Event) (c : Brain) (b : Bank) (log : List Turned) (t u : ℕ) (k : Kind)
-    → Keeps c b [] → Ground (world loaded nest trace c b log) → ((j : Kind) → Tie j (world loaded nest trace c b log))
+    → Keeps c b [] → AtRest (world loaded nest trace c b log)
     → WordTold c b (reverse (journal loaded log))
     → highest (due_now (waits_of c) b) ≡ None → ((j : Kind) (v : ℕ) → b.time < v → v < t → becomes_due b j v ≡ false) → b.time ≤ u → u < t
     → t < 2147483648 → sees loaded trace (journal loaded log) u k ≡ false
-none_seen loaded nest trace c b log t u k keeps g ties told none quiet from below small = by_seen (sees loaded trace (journal loaded log) u k) refl
+none_seen loaded nest trace c b log t u k keeps rest told none quiet from below small = by_seen (sees loaded trace (journal loaded log) u k) refl
   where
     shut_now : due_now (waits_of c) (advanced b u) k ≡ false
     shut_now = elim (cases_lt b.time u) [
@@ -182,8 +182,10 @@ none_seen loaded nest trace c b log t u k keeps g ties told none quiet from belo
     by_seen true e =
         let d =
         sees_due loaded nest trace c (advanced b u) [] log (keeps_later c b [] u keeps)
-        (later_ground (world loaded nest trace c b log) u from (omega arith) g)
-        (λ j. (law j).later (world loaded nest trace c b log) u from (omega arith) g ties) (record {
+        (record {
+          ground = later_ground (world loaded nest trace c b log) u from (omega arith) rest.ground;
+          ties = λ j. (law j).later (world loaded nest trace c b log) u from (omega arith) rest;
+        }) (record {
           hi_is = told.hi_is;
           lo_is = told.lo_is;
           hi_free =
@@ -208,7 +210,7 @@ quiet_logged loaded nest cost trace c b stack log t idle quiet later small l =
       marks = marks_later loaded nest trace b stack log t later l.marks;
       gates = record { hi_is = l.gates.hi_is; lo_is = l.gates.lo_is; hi_free = l.gates.hi_free; lo_free = l.gates.lo_free };
       ground = later_ground (world loaded nest trace c b log) t later small l.ground;
-      ties = λ k. (law k).later (world loaded nest trace c b log) t later small l.ground l.ties;
+      ties = λ k. (law k).later (world loaded nest trace c b log) t later small (at_rest loaded nest cost trace b.time c b stack log l);
       patient = patient_later loaded nest trace c b stack log t later l.patient;
       owes = l.owes;
       reached = l.reached;
@@ -221,7 +223,7 @@ quiet_logged loaded nest cost trace c b stack log t idle quiet later small l =
         open_step = λ o. absurd (o open_none);
         idle = λ o u from below f k. elim (cases_lt u b.time) [
           | inl early ↦ l.awaits.idle o u from early f k
-          | inr on ↦ none_seen loaded nest trace c b log t u k keeps l.ground l.ties l.gates rest.1 quiet on below small
+          | inr on ↦ none_seen loaded nest trace c b log t u k keeps (at_rest loaded nest cost trace b.time c b stack log l) l.gates rest.1 quiet on below small
         ];
       };
       time = omega arith;
@@ -276,7 +278,7 @@ module _ (loaded : Loaded) (nest : Nest) (cost : ℕ) (trace : List Event) (e : 
         marks = marks_grow loaded nest trace e b stack log at (notes_below loaded nest cost trace (tick_of e) [] log l.fits before) l.marks;
         gates = told_grows e c b (reverse (journal loaded log)) l.gates;
         ground = event_ground (world loaded nest trace c b log) e at l.ground;
-        ties = λ k. event_tie k (world loaded nest trace c b log) e at (made_below log b.time below) l.ground l.ties;
+        ties = λ k. event_tie k (world loaded nest trace c b log) e (record { rest = at_rest loaded nest cost trace next c b stack log l; past = made_below log b.time below; now = at });
         patient = patient_grows loaded nest trace e c b stack log at before l.patient;
         owes = l.owes;
         reached = λ k o. reached_grows cost trace e log (steps_since k log) (entered_at k log) (l.reached k o) (l.reached_by k o (tick_of e) before);

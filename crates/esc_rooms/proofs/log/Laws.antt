@@ -30,11 +30,11 @@ law kind.Pwm = pwm_law
 law kind.Comm = comm_law
 law kind.Cmp = cmp_law
 law kind.Uart = record {
-  called = λ w g t told unheld none s. cc;
-  asked = λ w g t unheld due. absurd (quiet w (t kind.Uart) due);
-  entered = λ w g t unheld none due past high. absurd (quiet w (t kind.Uart) due);
-  beside = λ w g t unheld none due. absurd (quiet w (t kind.Uart) due);
-  steps = λ w answers outer given g t above alone past on left. absurd (let shut = (t kind.Uart).0 in omega arith);
-  later = λ w u from small g t. t kind.Uart;
-  outside = λ w e at past g t. t kind.Uart;
+  called = λ w i s. cc;
+  asked = λ w i. absurd (quiet w (i.rest.ties kind.Uart) i.due);
+  entered = λ w i. absurd (quiet w (i.rest.ties kind.Uart) i.due);
+  beside = λ w i. absurd (quiet w (i.rest.ties kind.Uart) i.due);
+  steps = λ w answers outer given i. absurd (let shut = (i.rest.ties kind.Uart).0 in omega arith);
+  later = λ w u from small i. i.ties kind.Uart;
+  outside = λ w e i. i.rest.ties kind.Uart;
 }

@@ -14,7 +14,7 @@ use Rattle.interrupt_machine.specs.Response.{Patient}
 use Rattle.arming.specs.Kept.{start}
 use Rattle.arming.specs.Stands.{Stands}
 use Rattle.arming.proofs.FrameTies.{start_stands, other_stands}
-use Rattle.fourway_packet.specs.Queue.{no_bytes, Queue}
+use Rattle.fourway_packet.specs.Queue.{Queue}
 use Rattle.esc_core.specs.Firmware.{left_of, need_of, new_core}
 use Rattle.esc_laws.specs.Place.{Place}
 use Rattle.esc_laws.specs.Seen.{sees}
@@ -77,13 +77,15 @@ start_ground : (loaded : Loaded) (packets : Queue) (nest : Nest) → packets.wai
 start_ground loaded packets nest none = record {
   control = opening_stands loaded;
   orders = record { settings_are = refl; spin_is = refl; save_is = refl };
-  level = ap (λ (l : Line). l.level) (sym line-none);
-  edges = rw line-none (All-nil (λ e. e.t.0 ≤ 0), tt);
-  rested = rw line-none (record { over = All-nil (λ e. e.t.0 + 200 ≤ 0); first = λ t a. omega arith });
-  small = lit< tt;
-  events = All-nil (λ e. tick_of e ≤ 0);
-  in_time = tt;
-  comparator = ap (λ (h : Held). h.level) (sym (held-none 0));
+  outside = record {
+    level = ap (λ (l : Line). l.level) (sym line-none);
+    edges = rw line-none (All-nil (λ e. e.t.0 ≤ 0), tt);
+    rested = rw line-none (record { over = All-nil (λ e. e.t.0 + 200 ≤ 0); first = λ t a. omega arith });
+    events = All-nil (λ e. tick_of e ≤ 0);
+    in_time = tt;
+    comparator = ap (λ (h : Held). h.level) (sym (held-none 0));
+    small = lit< tt;
+  };
   line = record { none_waits = none; none_left = refl; session_is = refl };
 }
 

@@ -19,6 +19,14 @@ use Rattle.esc_core.specs.declared.state.CapAt.TheVariants as cap
 use Rattle.esc_core.specs.Cap.{edge_of}
 use Rattle.esc_core.specs.Firmware.{cap_left}
 
+-- ---- numbers that are not 0
+
+pub not_zero : (n : ℕ) → 0 < n → (n == 0) ≡ false
+not_zero n l = grind (arith, nat_tests)
+
+pub above_zero : (n : ℕ) → (n == 0) ≡ false → 0 < n
+above_zero n e = grind (arith, nat_tests)
+
 -- ---- an access takes no time
 
 read_time : (b : Bank) (r : Reg) → (after_read b r).time ≡ b.time
