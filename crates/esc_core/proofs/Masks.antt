@@ -65,8 +65,8 @@ lowers_mask k need c b s hold down nine le = record {
 }
 
 -- the step that raises it
-pub raises_mask : (k : Kind) (c : Brain) (b : Bank) (s : Stepped) → s.core.hold ≡ 8 → (accessed b s.access).masked ≡ true → s.over ≡ false → need_of s.core k ≤ 8
-    → c.hold ≤ 8 → (b.masked && nat_lt c.hold 9) ≡ false → Masks k 9 c.hold b s
+pub raises_mask : (k : Kind) (c : Brain) (b : Bank) (s : Stepped) → s.core.hold ≡ 8 → (accessed b s.access).masked ≡ true → s.over ≡ false
+    → need_of s.core k ≤ 8 → c.hold ≤ 8 → (b.masked && nat_lt c.hold 9) ≡ false → Masks k 9 c.hold b s
 raises_mask k c b s hold up goes stand le e =
     let down = no_mask b.masked c.hold 9 refl le e in
     record {

@@ -39,7 +39,12 @@ good_more m = lit< tt
 
 judge_moves : (j : Judgement) (c : Brain) (b : Bank) → PlainMoves kind.Cap 5 c b (judge_step j c b)
 judge_moves (Good frame) c b = record {
-  moves = record { less = good_less c.window; more = λ e. good_more c.window; shut = λ e. cc; others = elim [ kind.Cap ↦ λ ne. absurd (ne refl) | j ↦ λ ne. (refl, refl) ] };
+  moves = record {
+    less = good_less c.window;
+    more = λ e. good_more c.window;
+    shut = λ e. cc;
+    others = elim [ kind.Cap ↦ λ ne. absurd (ne refl) | j ↦ λ ne. (refl, refl) ];
+  };
   masked = refl;
   hold = refl;
 }
