@@ -13,6 +13,7 @@ mod kind;
 mod memory;
 mod note;
 mod outside;
+mod periods;
 mod signal;
 mod stdio;
 #[cfg(test)]
@@ -27,6 +28,7 @@ pub use kind::Kind;
 pub use memory::{MemSink, MemSource};
 pub use note::{Cause, Note};
 pub use outside::{Failed, NoMemory, Sink, Source, raised};
+pub use periods::edges_are_counted;
 pub use signal::{Edge, Frame, Mode, Verdict, Why};
 pub use stdio::{InSource, OutSink};
 pub use tick::Tick;

@@ -18,7 +18,7 @@ const FORCED_LIMIT: u32 = 240_000;
 pub(crate) const STUCK_ROW: u8 = 60;
 
 /// The gates, the newest change of sector, and when the next one is due.
-#[derive(Debug, Drop)]
+#[derive(Drop)]
 pub struct Drive {
     pub(crate) gates: Gates,
     pub(crate) timing: Timing,

@@ -7,7 +7,8 @@ use Rattle.std.proofs.lemmas.Nat.Bits.{shr_and_one}
 use Rattle.std.proofs.lemmas.List.Sums.{fold_push}
 use Rattle.std.proofs.lemmas.Grind.{fold-append}
 use Rattle.std.proofs.lemmas.Bool.Decides.{nat_tests}
-use Rattle.fourway_packet.specs.Crc.{digit, xor, shifted, shifted_by_byte, low_bits, crc_of, number, product, bits_of, IsRemainder}
+use Rattle.esc_base.specs.Bits.{digit, xor, low_bits}
+use Rattle.fourway_packet.specs.Crc.{shifted, shifted_by_byte, crc_of, number, product, bits_of, IsRemainder}
 
 -- one bit of a byte more
 pub next_bit : (crc next byte i end : ℕ) → i < 8 → next ≡ shifted crc (bit_and (byte / 2 ^ (7 - i)) 1 == 1)

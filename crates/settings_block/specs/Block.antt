@@ -1,5 +1,5 @@
 -- The block's bytes.
-use Rattle.std.specs.Prelude.{ℕ, Bool, not, ◌==◌, if◌then◌else◌, List, [], ◌∷◌, slice_set, find, Option, Some, None, Result, Ok, Err}
+use Rattle.std.specs.Prelude.{ℕ, not, ◌==◌, if◌then◌else◌, List, [], ◌∷◌, slice_set, find, Option, Some, None, Result, Ok, Err}
 use Rattle.std.specs.Option.{option_map}
 use Rattle.esc_base.specs.Numbers.{bit_of}
 use Rattle.settings_block.specs.declared.field.Field.{Field}

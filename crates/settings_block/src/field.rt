@@ -3,7 +3,7 @@ ghost use Rattle.std.specs.Prelude.{◌≡◌, ◌<◌};
 ghost use Rattle.settings_block.specs.Field.{allows, marker_row, version_row, direction_row, three_d_row, complementary_row, advance_row, poles_row, low_row, high_row, neutral_row, dead_band_row, input_row};
 
 /// A field of one byte: `least` to `most`, in steps from 0 on.
-#[derive(Clone, Copy, Debug, PartialEq, Eq, Drop)]
+#[derive(Clone, Copy, Drop)]
 pub(crate) struct Field {
     pub offset: u8,
     pub least: u8,

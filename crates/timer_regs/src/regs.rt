@@ -95,7 +95,7 @@ pub enum Reg {
 }
 
 /// The registers, at a present tick.
-#[derive(Debug, Drop)]
+#[derive(Drop)]
 pub struct Regs {
     time: Tick,
     accesses: u64,

@@ -1,13 +1,9 @@
-use Rattle.std.proofs.Common.{OnErr, Result, Ok, Err}
 use Rattle.esc_base.specs.Flash.{erased, programmed}
+use Rattle.esc_base.proofs.OutsideLaws.{on_err}
 use Rattle.settings_block.specs.Block.{block_of}
 use Rattle.settings_block.specs.Stored.{settings_address, settings_page}
 use Rattle.settings_block.proofs.Saved.{below_erased, map_map}
 use Rattle.settings_block.proofs.stored.save.Goals as goal
-
-on_err : {T E P : Type 0} (r : Result T E) → P → OnErr r P
-on_err (Ok x) p = tt
-on_err (Err e) p = p
 
 pub returns-in_err-program-clause-below : goal.returns-in_err-program-clause-below
 returns-in_err-program-clause-below g c =
