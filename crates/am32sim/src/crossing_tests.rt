@@ -13,9 +13,9 @@ fn turns(alloc: Global, lines: &str) -> Result<String, Fail> {
 }
 
 /// The comparator has each sector's expected level when blanking ends, a quarter of the interval after the sector's start.
-/// CMP is entered there, begins the filter in its third step, is entered again 24 ticks after it, and accepts in its second
-/// step: 34 ticks after the end of blanking. COMM is entered after the wait, three eighths of the interval, and sets the
-/// sector in its fourth step. The intervals are 24000, 24000, 21760, 19730, 17890, 16223, 14712.
+/// CMP is entered there, begins the filter in its fourth step, is entered again 24 ticks after it, and accepts in its second
+/// step: 36 ticks after the end of blanking. COMM is entered after the wait, three eighths of the interval, and sets the
+/// sector in its fourth step. The intervals are 24000, 24000, 21761, 19731, 17892, 16225, 14714.
 #[test]
 fn each_sector_has_one_crossing(rt: HostRuntime) -> Result<(), Fail> {
     let found = turns(
@@ -24,8 +24,8 @@ fn each_sector_has_one_crossing(rt: HostRuntime) -> Result<(), Fail> {
     )?;
     assert_eq!(rt;
         found.as_str(),
-        "Q 12004820 1\nZ 12010854\nQ 12019862 2\nZ 12025896\nQ 12034064 3\nZ 12039538\n\
-         Q 12046945 4\nZ 12051911\nQ 12058628 5\nZ 12063134\nQ 12069226 6\nZ 12073315\nQ 12078840 1\n"
+        "Q 12004820 1\nZ 12010856\nQ 12019864 2\nZ 12025900\nQ 12034068 3\nZ 12039544\n\
+         Q 12046951 4\nZ 12051919\nQ 12058637 5\nZ 12063146\nQ 12069238 6\nZ 12073330\nQ 12078856 1\n"
     );
     Ok(())
 }
@@ -36,11 +36,11 @@ fn each_sector_has_one_crossing(rt: HostRuntime) -> Result<(), Fail> {
 fn the_interval_follows_the_crossings(rt: HostRuntime) -> Result<(), Fail> {
     let found = turns(
         rt.alloc(),
-        "12005000 C 1\n12030820 C 0\n12040000 C 1\n12045300 END\n",
+        "12005000 C 1\n12030822 C 0\n12040000 C 1\n12045300 END\n",
     )?;
     assert_eq!(rt;
         found.as_str(),
-        "Q 12004820 1\nZ 12010854\nQ 12019862 2\nZ 12030854\nQ 12039487 3\nZ 12045271\n"
+        "Q 12004820 1\nZ 12010856\nQ 12019864 2\nZ 12030856\nQ 12039489 3\nZ 12045275\n"
     );
     Ok(())
 }
@@ -61,19 +61,19 @@ fn a_chattering_comparator_has_no_crossing(rt: HostRuntime) -> Result<(), Fail> 
     Ok(())
 }
 
-/// The level is there when blanking ends at 12010820. The filter begins at 12010826, and would be accepted at z = 12010854.
+/// The level is there when blanking ends at 12010820. The filter begins at 12010828, and would be accepted at z = 12010856.
 /// Both changes of a glitch stand before a step at its tick: the filter forgets one at its beginning, and is rejected by each
-/// later one up to z. Then 400 ticks of blanking follow, and the next filter is accepted 34 ticks after them.
+/// later one up to z. Then 400 ticks of blanking follow, and the next filter is accepted 36 ticks after them.
 #[test]
 fn a_glitch_within_the_filter_rejects_it(rt: HostRuntime) -> Result<(), Fail> {
     for (glitch, z) in [
-        (12010826, 12010854),
-        (12010827, 12011288),
-        (12010830, 12011288),
-        (12010831, 12011288),
-        (12010853, 12011288),
-        (12010854, 12011288),
-        (12010855, 12010854),
+        (12010828, 12010856),
+        (12010829, 12011292),
+        (12010832, 12011292),
+        (12010833, 12011292),
+        (12010855, 12011292),
+        (12010856, 12011292),
+        (12010857, 12010856),
     ] {
         let lines = format!(in rt.alloc();
             "12005000 C 1\n{glitch} C 0\n{glitch} C 1\n12011300 END\n"
@@ -92,8 +92,8 @@ fn a_glitch_within_the_filter_rejects_it(rt: HostRuntime) -> Result<(), Fail> {
 fn a_change_of_the_comparator_calls_cmp(rt: HostRuntime) -> Result<(), Fail> {
     for (glitch, z) in [
         (12015006, 12015034),
-        (12015007, 12015468),
-        (12015010, 12015468),
+        (12015007, 12015470),
+        (12015010, 12015470),
     ] {
         let lines = format!(in rt.alloc();
             "12015000 C 1\n{glitch} C 0\n{glitch} C 1\n12015500 END\n"

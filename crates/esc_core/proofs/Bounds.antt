@@ -32,7 +32,7 @@ use Rattle.esc_core.specs.Stepped.{Stepped, IsStepped, is_return, goes_on, goes_
 use Rattle.esc_core.specs.Cap.{cap_step}
 use Rattle.esc_core.specs.Tick.{ticked, asked, number_in, marks_in, off_step, tick_step}
 use Rattle.esc_core.specs.Pwm.{chopped, pwm_step}
-use Rattle.esc_core.specs.Cmp.{ready_step, judged_step, blank_step, filter_step, look_step, may_filter, ack_step, cmp_step}
+use Rattle.esc_core.specs.Cmp.{ready_step, judged_step, blank_step, filter_step, look_step, is_blanked, read_step, may_filter, ack_step, cmp_step}
 use Rattle.esc_core.specs.Comm.{comm_step}
 use Rattle.esc_core.specs.Calls.{Call, Answer, CallDid, DeviceDid}
 use Rattle.esc_core.specs.declared.state.MainAt.{MainAt}
@@ -316,34 +316,39 @@ pwm_masks (pwm.Run chop.Lower) c b l le e = lowers_mask kind.Pwm 1 c b _ refl re
 pwm_masks (pwm.Run chop.Over) c b l le e = without_mask kind.Pwm c b _ refl refl refl le e
 pwm_masks pwm.Back c b l le e = without_mask kind.Pwm c b _ refl refl refl le e
 
--- a step of CMP's first look: under the mask it goes on to a place that needs it for fewer steps
+-- a step of CMP's look: under the mask it goes on to a place that needs it for fewer steps
 ready_masks : (v : Bool) (c : Brain) (b : Bank) → c.hold ≤ 8 → (b.masked && nat_lt c.hold 4) ≡ false
     → Masks kind.Cmp 4 c.hold b (ready_step v (counted_down c b) b)
 ready_masks true c b le e = under_mask kind.Cmp 4 c b _ refl refl refl (lit< tt) (lit≤ tt) le e
 ready_masks false c b le e = under_mask kind.Cmp 4 c b _ refl refl refl (lit< tt) (lit≤ tt) le e
 
-judged_masks : (v : Bool) (c : Brain) (b : Bank) → c.hold ≤ 8 → (b.masked && nat_lt c.hold 4) ≡ false
-    → Masks kind.Cmp 4 c.hold b (judged_step v (counted_down c b) b)
-judged_masks true c b le e = under_mask kind.Cmp 4 c b _ refl refl refl (lit< tt) (lit≤ tt) le e
-judged_masks false c b le e = under_mask kind.Cmp 4 c b _ refl refl refl (lit< tt) (lit≤ tt) le e
+read_masks : (v : Bool) (c : Brain) (b : Bank) → c.hold ≤ 8 → (b.masked && nat_lt c.hold 4) ≡ false
+    → Masks kind.Cmp 4 c.hold b (read_step v (counted_down c b) b)
+read_masks true c b le e = ready_masks (is_expected c.drive.crossing b.comp) c b le e
+read_masks false c b le e = under_mask kind.Cmp 4 c b _ refl refl refl (lit< tt) (lit≤ tt) le e
 
-blank_masks : (v : Bool) (c : Brain) (b : Bank) → c.hold ≤ 8 → (b.masked && nat_lt c.hold 4) ≡ false
-    → Masks kind.Cmp 4 c.hold b (blank_step v (counted_down c b) b)
-blank_masks true c b le e = ready_masks (is_expected c.drive.crossing b.comp) c b le e
-blank_masks false c b le e = under_mask kind.Cmp 4 c b _ refl refl refl (lit< tt) (lit≤ tt) le e
+judged_masks : (v : Bool) (c : Brain) (b : Bank) → c.hold ≤ 8 → (b.masked && nat_lt c.hold 5) ≡ false
+    → Masks kind.Cmp 5 c.hold b (judged_step v (counted_down c b) b)
+judged_masks true c b le e = under_mask kind.Cmp 5 c b _ refl refl refl (lit< tt) (lit≤ tt) le e
+judged_masks false c b le e = under_mask kind.Cmp 5 c b _ refl refl refl (lit< tt) (lit≤ tt) le e
 
-filter_masks : (v : Bool) (c : Brain) (b : Bank) → c.hold ≤ 8 → (b.masked && nat_lt c.hold 4) ≡ false
-    → Masks kind.Cmp 4 c.hold b (filter_step v (counted_down c b) b)
+blank_masks : (v : Bool) (c : Brain) (b : Bank) → c.hold ≤ 8 → (b.masked && nat_lt c.hold 5) ≡ false
+    → Masks kind.Cmp 5 c.hold b (blank_step v (counted_down c b) b)
+blank_masks true c b le e = under_mask kind.Cmp 5 c b _ refl refl refl (lit< tt) (lit≤ tt) le e
+blank_masks false c b le e = under_mask kind.Cmp 5 c b _ refl refl refl (lit< tt) (lit≤ tt) le e
+
+filter_masks : (v : Bool) (c : Brain) (b : Bank) → c.hold ≤ 8 → (b.masked && nat_lt c.hold 5) ≡ false
+    → Masks kind.Cmp 5 c.hold b (filter_step v (counted_down c b) b)
 filter_masks true c b le e = judged_masks (is_clean c.drive.crossing b.comp b.comp_changed) c b le e
-filter_masks false c b le e = under_mask kind.Cmp 4 c b _ refl refl refl (lit< tt) (lit≤ tt) le e
+filter_masks false c b le e = under_mask kind.Cmp 5 c b _ refl refl refl (lit< tt) (lit≤ tt) le e
 
-look_masks : (p : Phase) (c : Brain) (b : Bank) → c.hold ≤ 8 → (b.masked && nat_lt c.hold 4) ≡ false
-    → Masks kind.Cmp 4 c.hold b (look_step p (counted_down c b) b)
+look_masks : (p : Phase) (c : Brain) (b : Bank) → c.hold ≤ 8 → (b.masked && nat_lt c.hold 5) ≡ false
+    → Masks kind.Cmp 5 c.hold b (look_step p (counted_down c b) b)
 look_masks (phase.Blank end) c b le e = blank_masks (nat_le end.0 b.time) c b le e
 look_masks (phase.Filter end) c b le e = filter_masks (nat_le end.0 b.time) c b le e
-look_masks phase.Watch c b le e = under_mask kind.Cmp 4 c b _ refl refl refl (lit< tt) (lit≤ tt) le e
-look_masks phase.Off c b le e = under_mask kind.Cmp 4 c b _ refl refl refl (lit< tt) (lit≤ tt) le e
-look_masks phase.Done c b le e = under_mask kind.Cmp 4 c b _ refl refl refl (lit< tt) (lit≤ tt) le e
+look_masks phase.Watch c b le e = under_mask kind.Cmp 5 c b _ refl refl refl (lit< tt) (lit≤ tt) le e
+look_masks phase.Off c b le e = under_mask kind.Cmp 5 c b _ refl refl refl (lit< tt) (lit≤ tt) le e
+look_masks phase.Done c b le e = under_mask kind.Cmp 5 c b _ refl refl refl (lit< tt) (lit≤ tt) le e
 
 ack_masks : (v : Bool) (c : Brain) (b : Bank) → c.hold ≤ 8 → (b.masked && nat_lt c.hold 3) ≡ false
     → Masks kind.Cmp 3 c.hold b (ack_step v (counted_down c b) b)
@@ -355,9 +360,9 @@ cmp_masks : (at : CmpAt) (c : Brain) (b : Bank) → 0 < cmp_left at → c.hold �
 cmp_masks cmp.Shut c b l le e = absurd (omega arith)
 cmp_masks cmp.Raise c b l le e = raises_mask kind.Cmp c b _ refl refl refl (lit≤ tt) le e
 cmp_masks cmp.Look c b l le e = look_masks c.drive.crossing.phase c b le e
+cmp_masks cmp.Read c b l le e = read_masks (is_blanked c.drive.crossing.phase b.time) c b le e
 cmp_masks cmp.Ack c b l le e = ack_masks (may_filter c.drive.crossing.phase b.time) c b le e
 cmp_masks cmp.Arm c b l le e = under_mask kind.Cmp 2 c b _ refl (arms_mask (until c.drive.crossing.phase) b) refl (lit< tt) (lit≤ tt) le e
-cmp_masks cmp.Enable c b l le e = under_mask kind.Cmp 2 c b _ refl refl refl (lit< tt) (lit≤ tt) le e
 cmp_masks cmp.Commute c b l le e = under_mask kind.Cmp 2 c b _ refl refl refl (lit< tt) (lit≤ tt) le e
 cmp_masks cmp.Lower c b l le e = lowers_mask kind.Cmp 1 c b _ refl refl refl le
 cmp_masks cmp.Back c b l le e = without_mask kind.Cmp c b _ refl refl refl le e

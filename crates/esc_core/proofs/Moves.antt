@@ -53,7 +53,7 @@ use Rattle.esc_core.specs.Stepped.{Stepped, goes_on}
 use Rattle.esc_core.specs.Cap.{after_edges, after_copy, after_good, opens, takes, next_edge, judge_step, cap_step}
 use Rattle.esc_core.specs.Tick.{ticked, asked, drive_after, number_in, marks_in, off_step, tick_step}
 use Rattle.esc_core.specs.Pwm.{chopped, pwm_step}
-use Rattle.esc_core.specs.Cmp.{ready_step, judged_step, blank_step, filter_step, look_step, may_filter, ack_step, cmp_step}
+use Rattle.esc_core.specs.Cmp.{ready_step, judged_step, blank_step, filter_step, look_step, is_blanked, read_step, may_filter, ack_step, cmp_step}
 use Rattle.esc_core.specs.Drive.{arms}
 use Rattle.esc_core.specs.Comm.{waits_for, decided, turned, turn_step, resumed_step, comm_step}
 use Rattle.esc_core.specs.Calls.{Answer, took_first, said_first}
@@ -337,24 +337,28 @@ ready_moves : (v : Bool) (c : Brain) (b : Bank) → Moves kind.Cmp 5 c (ready_st
 ready_moves true c b = cmp_goes 5 _ _ _ _ _ c refl (lit< tt) (lit< tt)
 ready_moves false c b = cmp_goes 5 _ _ _ _ _ c refl (lit< tt) (lit< tt)
 
-judged_moves : (v : Bool) (c : Brain) (b : Bank) → Moves kind.Cmp 5 c (judged_step v c b)
-judged_moves true c b = cmp_goes 5 _ _ _ _ _ c refl (lit< tt) (lit< tt)
-judged_moves false c b = cmp_goes 5 _ _ _ _ _ c refl (lit< tt) (lit< tt)
+judged_moves : (v : Bool) (c : Brain) (b : Bank) → Moves kind.Cmp 6 c (judged_step v c b)
+judged_moves true c b = cmp_goes 6 _ _ _ _ _ c refl (lit< tt) (lit< tt)
+judged_moves false c b = cmp_goes 6 _ _ _ _ _ c refl (lit< tt) (lit< tt)
 
-blank_moves : (v : Bool) (c : Brain) (b : Bank) → Moves kind.Cmp 5 c (blank_step v c b)
-blank_moves true c b = ready_moves (is_expected c.drive.crossing b.comp) c b
-blank_moves false c b = cmp_goes 5 _ _ _ _ _ c refl (lit< tt) (lit< tt)
+read_moves : (v : Bool) (c : Brain) (b : Bank) → Moves kind.Cmp 5 c (read_step v c b)
+read_moves true c b = ready_moves (is_expected c.drive.crossing b.comp) c b
+read_moves false c b = cmp_goes 5 _ _ _ _ _ c refl (lit< tt) (lit< tt)
 
-filter_moves : (v : Bool) (c : Brain) (b : Bank) → Moves kind.Cmp 5 c (filter_step v c b)
+blank_moves : (v : Bool) (c : Brain) (b : Bank) → Moves kind.Cmp 6 c (blank_step v c b)
+blank_moves true c b = cmp_goes 6 _ _ _ _ _ c refl (lit< tt) (lit< tt)
+blank_moves false c b = cmp_goes 6 _ _ _ _ _ c refl (lit< tt) (lit< tt)
+
+filter_moves : (v : Bool) (c : Brain) (b : Bank) → Moves kind.Cmp 6 c (filter_step v c b)
 filter_moves true c b = judged_moves (is_clean c.drive.crossing b.comp b.comp_changed) c b
-filter_moves false c b = cmp_goes 5 _ _ _ _ _ c refl (lit< tt) (lit< tt)
+filter_moves false c b = cmp_goes 6 _ _ _ _ _ c refl (lit< tt) (lit< tt)
 
-look_moves : (p : Phase) (c : Brain) (b : Bank) → Moves kind.Cmp 5 c (look_step p c b)
+look_moves : (p : Phase) (c : Brain) (b : Bank) → Moves kind.Cmp 6 c (look_step p c b)
 look_moves (phase.Blank end) c b = blank_moves (nat_le end.0 b.time) c b
 look_moves (phase.Filter end) c b = filter_moves (nat_le end.0 b.time) c b
-look_moves phase.Watch c b = cmp_goes 5 _ _ _ _ _ c refl (lit< tt) (lit< tt)
-look_moves phase.Off c b = cmp_goes 5 _ _ _ _ _ c refl (lit< tt) (lit< tt)
-look_moves phase.Done c b = cmp_goes 5 _ _ _ _ _ c refl (lit< tt) (lit< tt)
+look_moves phase.Watch c b = cmp_goes 6 _ _ _ _ _ c refl (lit< tt) (lit< tt)
+look_moves phase.Off c b = cmp_goes 6 _ _ _ _ _ c refl (lit< tt) (lit< tt)
+look_moves phase.Done c b = cmp_goes 6 _ _ _ _ _ c refl (lit< tt) (lit< tt)
 
 ack_moves : (v : Bool) (c : Brain) (b : Bank) → Moves kind.Cmp 4 c (ack_step v c b)
 ack_moves true c b = cmp_goes 4 _ _ _ _ _ c refl (lit< tt) (lit< tt)
@@ -362,11 +366,11 @@ ack_moves false c b = cmp_goes 4 _ _ _ _ _ c refl (lit< tt) (lit< tt)
 
 pub cmp_moves : (at : CmpAt) (c : Brain) (b : Bank) → 0 < cmp_left at → Moves kind.Cmp (cmp_left at) c (cmp_step at c b)
 cmp_moves cmp.Shut c b l = absurd (omega arith)
-cmp_moves cmp.Raise c b l = cmp_goes 6 _ _ _ _ _ c refl (lit< tt) (lit< tt)
+cmp_moves cmp.Raise c b l = cmp_goes 7 _ _ _ _ _ c refl (lit< tt) (lit< tt)
 cmp_moves cmp.Look c b l = look_moves c.drive.crossing.phase c b
+cmp_moves cmp.Read c b l = read_moves (is_blanked c.drive.crossing.phase b.time) c b
 cmp_moves cmp.Ack c b l = ack_moves (may_filter c.drive.crossing.phase b.time) c b
 cmp_moves cmp.Arm c b l = cmp_goes 3 _ _ _ _ _ c refl (lit< tt) (lit< tt)
-cmp_moves cmp.Enable c b l = cmp_goes 3 _ _ _ _ _ c refl (lit< tt) (lit< tt)
 cmp_moves cmp.Commute c b l = cmp_goes 3 _ _ _ _ _ c refl (lit< tt) (lit< tt)
 cmp_moves cmp.Lower c b l = cmp_goes 2 _ _ _ _ _ c refl (lit< tt) (lit< tt)
 cmp_moves cmp.Back c b l = record {

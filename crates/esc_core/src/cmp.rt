@@ -5,9 +5,9 @@ ghost use Rattle.timer_regs.specs.Effects.{after_read};
 ghost use Rattle.timer_regs.specs.declared.regs.Reg.TheVariants.{CmpState};
 ghost use Rattle.interrupt_machine.specs.Did.{notes_of};
 ghost use Rattle.zero_cross.specs.declared.phase.Phase.TheVariants as phases;
-ghost use Rattle.zero_cross.specs.Kept.{is_expected, is_clean, is_over, IsBlanked};
+ghost use Rattle.zero_cross.specs.Kept.{is_expected, is_clean, is_over};
 ghost use Rattle.esc_core.specs.Stepped.{IsStepped};
-ghost use Rattle.esc_core.specs.Cmp.{cmp_step, look_step, ready_step, judged_step, ack_step, may_filter as may_filter_at};
+ghost use Rattle.esc_core.specs.Cmp.{cmp_step, look_step, read_step, judged_step, ack_step, is_blanked as is_blanked_at, may_filter as may_filter_at};
 
 use crate::own::{no_note, one_note};
 use crate::{CmpAt, Core};
@@ -30,14 +30,10 @@ impl Core {
                 Did::More(no_note())
             }
             CmpAt::Look => self.look(regs),
+            CmpAt::Read => self.end_blanking(regs),
             CmpAt::Ack => self.begin_filter(regs),
             CmpAt::Arm => {
                 self.drive.arm_crossing(regs);
-                self.cmp_at = CmpAt::Lower;
-                Did::More(no_note())
-            }
-            CmpAt::Enable => {
-                regs.write(Reg::CmpEn, 1);
                 self.cmp_at = CmpAt::Lower;
                 Did::More(no_note())
             }
@@ -66,7 +62,11 @@ impl Core {
     {
         let now = regs.now();
         match self.drive.crossing.phase() {
-            Phase::Blank(end) if end.0 <= now.0 => self.end_blanking(regs),
+            Phase::Blank(end) if end.0 <= now.0 => {
+                regs.write(Reg::CmpEn, 1);
+                self.cmp_at = CmpAt::Read;
+                Did::More(no_note())
+            }
             Phase::Filter(end) if end.0 <= now.0 => self.judge_filter(regs),
             Phase::Watch => {
                 self.cmp_at = CmpAt::Ack;
@@ -79,16 +79,21 @@ impl Core {
         }
     }
 
+    /// A change of the comparator since the step before asks for CMP again, so none is lost between that step and this one.
     fn end_blanking(&mut self, regs: &mut Regs) -> Did
         requires count { regs.old.accesses < 2 ^ 63 }
-        requires blanked { IsBlanked self.old.drive.crossing.phase regs.old.time }
-        ensures step { IsStepped regs.old (ready_step (is_expected self.old.drive.crossing regs.old.comp) self.old regs.old) result self.new regs.new }
+        ensures step { IsStepped regs.old (read_step (is_blanked_at self.old.drive.crossing.phase regs.old.time) self.old regs.old) result self.new regs.new }
         ensures in_range { All InRange (notes_of result) }
     {
+        let now = regs.now();
+        if !is_blanked(self.drive.crossing.phase(), now) {
+            self.cmp_at = CmpAt::Lower;
+            return Did::More(no_note());
+        }
         let (level, _) = comparator(regs);
-        self.cmp_at = match self.drive.crossing.ready(regs.now(), level) {
+        self.cmp_at = match self.drive.crossing.ready(now, level) {
             Next::Filter => CmpAt::Ack,
-            Next::Watch => CmpAt::Enable,
+            Next::Watch => CmpAt::Lower,
         };
         Did::More(no_note())
     }
@@ -137,6 +142,15 @@ fn comparator(regs: &mut Regs) -> (bool, bool)
 {
     let state = regs.read(Reg::CmpState);
     (state % 2 == 1, state >= 2)
+}
+
+fn is_blanked(phase: Phase, now: Tick) -> bool
+    ensures { result ≡ is_blanked_at phase now.0 }
+{
+    match phase {
+        Phase::Blank(end) => end.0 <= now.0,
+        _ => false,
+    }
 }
 
 fn may_filter(phase: Phase, now: Tick) -> bool

@@ -150,9 +150,10 @@ fn cmp_need(at: CmpAt) -> u8
     ensures { result ≡ cmp_need at }
 {
     match at {
-        CmpAt::Look => 4,
+        CmpAt::Look => 5,
+        CmpAt::Read => 4,
         CmpAt::Ack => 3,
-        CmpAt::Arm | CmpAt::Enable | CmpAt::Commute => 2,
+        CmpAt::Arm | CmpAt::Commute => 2,
         CmpAt::Lower => 1,
         CmpAt::Shut | CmpAt::Raise | CmpAt::Back => 9,
     }

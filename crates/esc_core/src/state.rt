@@ -87,14 +87,15 @@ pub enum CmpAt {
     Shut,
     /// Raises the mask.
     Raise,
-    /// Decides by the phase of the search, and reads the comparator where the phase's time is over.
+    /// Decides by the phase of the search. Where blanking is over the comparator's next change asks for CMP; where a filter is
+    /// over the comparator is read.
     Look,
+    /// Reads the comparator as blanking is over.
+    Read,
     /// Clears the comparator's changed bit: a filter begins.
     Ack,
     /// Arms the crossing timer for the end of the filter, or of blanking.
     Arm,
-    /// Has the comparator's next change ask for CMP.
-    Enable,
     /// Arms the commutation timer, as a crossing was accepted.
     Commute,
     /// Lowers the mask.

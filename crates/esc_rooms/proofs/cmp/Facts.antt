@@ -14,7 +14,7 @@ use Rattle.esc_core.specs.declared.state.CmpAt.{CmpAt}
 use Rattle.esc_core.specs.declared.state.CmpAt.TheVariants as cmp
 use Rattle.esc_core.specs.declared.state.CommAt.TheVariants as comm
 use Rattle.esc_laws.specs.Searched.{Sight, Away, Begun, Awaits, First, Settles, Second, sight_left, sight_crossed}
-use Rattle.esc_rooms.specs.CrossTied.{CrossView, CrossTied, PhaseTied, RegsTied, Armed, Filters, FirstTied, SecondTied, SightTied, Passes, LateTied, HasQ, HasZ, future, to_come, is_some, is_shut, is_begun, begins_search, ends_drive}
+use Rattle.esc_rooms.specs.CrossTied.{CrossView, CrossTied, PhaseTied, RegsTied, Armed, Filters, FirstTied, SecondTied, SightTied, Passes, IsBlanked, LateTied, HasQ, HasZ, future, to_come, is_some, is_shut, is_begun, begins_search, ends_drive}
 use Rattle.esc_laws.proofs.Comparator.{bit_acked}
 use Rattle.std.proofs.lemmas.Bool.{leb-true}
 use Rattle.esc_rooms.proofs.cmp.CrossFacts.{is_false}
@@ -163,16 +163,23 @@ raised v p free s = record {
 
 -- ---- it looks
 
-few_ready : (q : ℕ) (armed well : Bool) → well ≡ true → q + (if armed then 3 else if well then 1 else 0) ≤ 3 → q + (if well then 1 else 2) ≤ 3
-few_ready q true true e l = omega arith
-few_ready q false true e l = l
-few_ready q armed false e l = cc
+few_blanked : (q : ℕ) (armed changed well : Bool) → q + (if armed then 3 else if well then 1 else 0) ≤ 3
+    → q + (if well then 1 else if armed || (changed && false) then 3 else 0) ≤ 3
+few_blanked q true changed true l = omega arith
+few_blanked q true changed false l = l
+few_blanked q false changed true l = l
+few_blanked q false true false l = l
+few_blanked q false false false l = l
 
-few_unready : (q : ℕ) (armed well : Bool) → well ≡ false → q + (if armed then 3 else if well then 1 else 0) ≤ 3
-    → q + (if armed then (if well then 2 else 3) else 0) ≤ 3
-few_unready q armed true e l = cc
-few_unready q true false e l = l
-few_unready q false false e l = l
+few_ready : (q : ℕ) (armed changed well : Bool) → well ≡ true → q + (if well then 1 else if armed || changed then 3 else 0) ≤ 3
+    → q + (if well then 1 else 2) ≤ 3
+few_ready q armed changed true e l = l
+few_ready q armed changed false e l = cc
+
+few_unready : (q : ℕ) (armed changed well : Bool) → well ≡ false → q + (if well then 1 else if armed || changed then 3 else 0) ≤ 3
+    → q + (if armed || changed then (if well then 2 else 3) else 0) ≤ 3
+few_unready q armed changed true e l = cc
+few_unready q armed changed false e l = l
 
 few_early : (q : ℕ) (well : Bool) → q + 3 ≤ 3 → q + (if well then 2 else 1) ≤ 3
 few_early q true l = omega arith
@@ -234,34 +241,62 @@ looked_early v end early free s = record {
     armed (inl c) f = rw c at f
     armed (inr c) f = absurd (let a = gt_by end v.time early in let b = c.1 in omega arith)
 
-pub looked_ready : (v : CrossView) (end : ℕ) → nat_le end v.time ≡ true → is_expected v.search v.level ≡ true → Free v
-    → Stands v cmp.Look (phase.Blank (as_tick end)) → Goes v cmp.Ack (phase.Blank (as_tick end)) v.changed v.enabled v.timer
-looked_ready v end over well free s = record {
+-- blanking is over: a change of the comparator asks for CMP
+pub looked_blanked : (v : CrossView) (end : ℕ) → nat_le end v.time ≡ true → Free v → Stands v cmp.Look (phase.Blank (as_tick end))
+    → Goes v cmp.Read (phase.Blank (as_tick end)) (v.changed && false) (v.enabled || true) v.timer
+looked_blanked v end over free s = record {
   open_still = refl;
   phase_is = s.phase_is;
-  regs = leb-true end v.time over;
-  few = few_ready (v.quiet v.held.since) (is_some v.timer) (is_expected v.search v.level) well s.few;
-  seen = seen_moves v.sight cmp.Look cmp.Ack (phase.Blank (as_tick end)) (phase.Blank (as_tick end)) v.held v.expects v.blanked v.time v.past (v.time + 1)
+  regs = (leb-true end v.time over, or_right v.enabled true refl);
+  few = few_blanked (v.quiet v.held.since) (is_some v.timer) v.changed (is_expected v.search v.level) s.few;
+  seen = seen_moves v.sight cmp.Look cmp.Read (phase.Blank (as_tick end)) (phase.Blank (as_tick end)) v.held v.expects v.blanked v.time v.past (v.time + 1)
       (let l = free.past in omega arith) refl (λ i l f. tt) (λ i z l f e. absurd (f e)) s.seen;
   late = tt;
 }
+
+-- ---- it reads the comparator
+
+pub read_ready : (v : CrossView) (p : Phase) → IsBlanked p v.time → is_expected v.search v.level ≡ true → Free v → Stands v cmp.Read p
+    → Goes v cmp.Ack p v.changed v.enabled v.timer
+read_ready v p over well free s = record {
+  open_still = refl;
+  phase_is = phase_more p v.turn v.changed v.held.since v.blanked v.time v.past (v.time + 1) (let l = free.past in omega arith) s.phase_is;
+  regs = may_begin p over;
+  few = few_ready (v.quiet v.held.since) (is_some v.timer) v.changed (is_expected v.search v.level) well s.few;
+  seen = seen_moves v.sight cmp.Read cmp.Ack p p v.held v.expects v.blanked v.time v.past (v.time + 1)
+      (let l = free.past in omega arith) refl (λ i l f. tt) (λ i z l f. f) s.seen;
+  late = tt;
+}
+  where
+    may_begin : (p : Phase) → IsBlanked p v.time → MayFilter p v.time
+    may_begin phase.Off b = absurd b
+    may_begin (phase.Blank end) b = b
+    may_begin phase.Watch b = absurd b
+    may_begin (phase.Filter end) b = absurd b
+    may_begin phase.Done b = absurd b
 
 -- a steady level is read as the expected one
 unsteady : (h : Held) (level told expects : Bool) (i : ℕ) → level ≡ h.level → told ≡ expects → not (differ level told) ≡ false → is_steady h expects i ≡ false
 unsteady h level told expects i e f ill = rw (← e, ← f, ill) refl
 
-pub looked_unready : (v : CrossView) (end : ℕ) → nat_le end v.time ≡ true → is_expected v.search v.level ≡ false → Free v → CrossTied v
-    → Stands v cmp.Look (phase.Blank (as_tick end)) → Goes v cmp.Enable phase.Watch v.changed v.enabled v.timer
-looked_unready v end over ill free t s = record {
+pub read_unready : (v : CrossView) (p : Phase) → IsBlanked p v.time → is_expected v.search v.level ≡ false → Free v → CrossTied v → Stands v cmp.Read p
+    → Goes v cmp.Lower phase.Watch v.changed v.enabled v.timer
+read_unready v p over ill free t s = record {
   open_still = refl;
-  phase_is = (s.phase_is.0, (let a = s.phase_is.1 in let b = leb-true end v.time over in omega arith));
-  regs = refl;
-  few = few_unready (v.quiet v.held.since) (is_some v.timer) (is_expected v.search v.level) ill s.few;
-  seen = seen_moves v.sight cmp.Look cmp.Enable (phase.Blank (as_tick end)) phase.Watch v.held v.expects v.blanked v.time v.past (v.time + 1)
-      (let l = free.past in omega arith) refl
-      (λ i l f. unsteady v.held v.level v.search.expects v.expects i t.level_is t.expects_is ill) (λ i z l f e. absurd (f e)) s.seen;
+  phase_is = watches p over s.phase_is;
+  regs = s.regs.1;
+  few = few_unready (v.quiet v.held.since) (is_some v.timer) v.changed (is_expected v.search v.level) ill s.few;
+  seen = seen_moves v.sight cmp.Read cmp.Lower p phase.Watch v.held v.expects v.blanked v.time v.past (v.time + 1) (let l = free.past in omega arith) refl
+      (λ i l f e. absurd (is_false _ (unsteady v.held v.level v.search.expects v.expects i t.level_is t.expects_is ill) e)) (λ i z l f. f) s.seen;
   late = tt;
 }
+  where
+    watches : (p : Phase) → IsBlanked p v.time → PhaseTied p v.turn v.changed v.held.since v.blanked v.time v.past → HasQ v.turn × (v.blanked ≤ v.time)
+    watches phase.Off b x = absurd b
+    watches (phase.Blank end) b x = (x.0, (let l = x.1 in let m : end.0 ≤ v.time = b in omega arith))
+    watches phase.Watch b x = absurd b
+    watches (phase.Filter end) b x = absurd b
+    watches phase.Done b x = absurd b
 
 pub looked_watch : (v : CrossView) → Free v → Stands v cmp.Look phase.Watch → Goes v cmp.Ack phase.Watch v.changed v.enabled v.timer
 looked_watch v free s = record {
@@ -361,23 +396,6 @@ armed v p end which free s = record {
     few phase.Watch (inr e) l = cc
     few phase.Done (inl e) l = cc
     few phase.Done (inr e) l = cc
-
-few_watch : (q : ℕ) (armed changed well : Bool) → q + (if armed then (if well then 2 else 3) else 0) ≤ 3
-    → q + (if armed || (changed && false) then (if well then 2 else 3) else 0) ≤ 3
-few_watch q true changed well l = l
-few_watch q false true well l = l
-few_watch q false false well l = l
-
-pub enabled : (v : CrossView) → Free v → Stands v cmp.Enable phase.Watch → Goes v cmp.Lower phase.Watch (v.changed && false) (v.enabled || true) v.timer
-enabled v free s = record {
-  open_still = refl;
-  phase_is = s.phase_is;
-  regs = or_right v.enabled true refl;
-  few = few_watch (v.quiet v.held.since) (is_some v.timer) v.changed (is_expected v.search v.level) s.few;
-  seen = seen_moves v.sight cmp.Enable cmp.Lower phase.Watch phase.Watch v.held v.expects v.blanked v.time v.past (v.time + 1)
-      (let l = free.past in omega arith) refl (λ i l f e. absurd (is_false _ f e)) (λ i z l f. f) s.seen;
-  late = tt;
-}
 
 pub commuted : (v : CrossView) → Free v → Stands v cmp.Commute phase.Done → Goes v cmp.Lower phase.Done v.changed v.enabled v.timer
 commuted v free s = record {

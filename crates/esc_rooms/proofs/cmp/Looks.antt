@@ -24,7 +24,7 @@ use Rattle.esc_core.specs.declared.state.CommAt.{CommAt}
 use Rattle.esc_core.specs.declared.state.CommAt.TheVariants as comm
 use Rattle.esc_core.specs.declared.drive.Drive.{Drive}
 use Rattle.esc_core.specs.Drive.{is_stuck, crossed}
-use Rattle.esc_core.specs.Cmp.{ready_step, judged_step, passes, blank_step, filter_step, look_step, cmp_step}
+use Rattle.esc_core.specs.Cmp.{judged_step, passes, blank_step, filter_step, look_step, cmp_step}
 use Rattle.esc_core.specs.Stepped.{goes_on}
 use Rattle.esc_core.specs.Firmware.{tick_need}
 use Rattle.esc_laws.specs.Crossed.{blanked_at, IsCrossing, MayCross}
@@ -37,7 +37,7 @@ use Rattle.esc_laws.proofs.Comparator.{steady_of, since_past, bit_steady}
 use Rattle.esc_rooms.proofs.shared.RoomSteps.{quiet_gates, ground_noted, inside}
 use Rattle.esc_rooms.proofs.shared.DriveFacts.{timer_kept, low_kept}
 use Rattle.esc_rooms.proofs.cmp.CrossFacts.{tick_unmasked}
-use Rattle.esc_rooms.proofs.cmp.Facts.{Stands, Free, stands, goes, cmp_moves, raised, looked_off, looked_done, looked_early, looked_ready, looked_unready, looked_watch, looked_reject, accepted}
+use Rattle.esc_rooms.proofs.cmp.Facts.{Stands, Free, stands, goes, cmp_moves, raised, looked_off, looked_done, looked_early, looked_blanked, looked_watch, looked_reject, accepted}
 use Rattle.esc_laws.specs.NoteLaw as owed
 
 -- ---- what holds before each own step of CMP
@@ -175,40 +175,21 @@ begins_early end w outer e early i = record {
   stack_is = i.on;
 }
 
-is_ready : (end : Tick) (w : World) (outer : List Kind) → w.core.drive.crossing.phase ≡ phase.Blank end → nat_le end.0 w.bank.time ≡ true
-    → is_expected w.core.drive.crossing w.bank.comp ≡ true → IsCmp w outer cmp.Look → StepKeeps kind.Cmp outer w (ready_step true w.core w.bank)
-is_ready end w outer e over well i = record {
+is_blanked : (end : Tick) (w : World) (outer : List Kind) → w.core.drive.crossing.phase ≡ phase.Blank end → nat_le end.0 w.bank.time ≡ true
+    → IsCmp w outer cmp.Look → StepKeeps kind.Cmp outer w (blank_step true w.core w.bank)
+is_blanked end w outer e over i = record {
   gates = quiet_gates kind.Cmp w _ (λ e. cc) refl refl refl;
   fits = λ told. tt;
   ground = i.ground;
-  tie = λ told. cmp_moves (cross_seen w) cmp.Ack (w.core.drive.crossing) (w.bank.comp_changed) (w.bank.comp_enabled) (w.bank.crossing)
+  tie = λ told. cmp_moves (cross_seen w) cmp.Read (w.core.drive.crossing) (w.bank.comp_changed && false) (w.bank.comp_enabled || true) (w.bank.crossing)
       (not_shut w outer cmp.Look refl i)
       (free_of w outer cmp.Look i) (i.ties kind.Cmp)
-      (goes (cross_seen w) cmp.Ack (phase.Blank end) (w.core.drive.crossing) (w.bank.comp_changed) (w.bank.comp_enabled) (w.bank.crossing) e refl
-      (looked_ready (cross_seen w) end.0 over well (free_of w outer cmp.Look i) (stands_at w outer cmp.Look (phase.Blank end) i e)));
+      (goes (cross_seen w) cmp.Read (phase.Blank end) (w.core.drive.crossing) (w.bank.comp_changed && false) (w.bank.comp_enabled || true) (w.bank.crossing) e
+      refl
+      (looked_blanked (cross_seen w) end.0 over (free_of w outer cmp.Look i) (stands_at w outer cmp.Look (phase.Blank end) i e)));
   others = elim [
     | kind.Cmp ↦ λ ne u. absurd (ne refl)
-    | kind.Comm ↦ λ ne u. quiet_drive w outer cmp.Look cmp.Ack (w.core.drive.crossing) refl refl i
-    | j ↦ λ ne u. u
-  ];
-  stack_is = i.on;
-}
-
-isnt_ready : (end : Tick) (w : World) (outer : List Kind) → w.core.drive.crossing.phase ≡ phase.Blank end → nat_le end.0 w.bank.time ≡ true
-    → is_expected w.core.drive.crossing w.bank.comp ≡ false → IsCmp w outer cmp.Look → StepKeeps kind.Cmp outer w (ready_step false w.core w.bank)
-isnt_ready end w outer e over ill i = record {
-  gates = quiet_gates kind.Cmp w _ (λ e. cc) refl refl refl;
-  fits = λ told. tt;
-  ground = i.ground;
-  tie = λ told. cmp_moves (cross_seen w) cmp.Enable (record w.core.drive.crossing { phase = phase.Watch }) (w.bank.comp_changed) (w.bank.comp_enabled)
-      (w.bank.crossing) (not_shut w outer cmp.Look refl i)
-      (free_of w outer cmp.Look i) (i.ties kind.Cmp)
-      (goes (cross_seen w) cmp.Enable (phase.Watch) (record w.core.drive.crossing { phase = phase.Watch }) (w.bank.comp_changed) (w.bank.comp_enabled)
-      (w.bank.crossing) refl refl
-      (looked_unready (cross_seen w) end.0 over ill (free_of w outer cmp.Look i) (i.ties kind.Cmp) (stands_at w outer cmp.Look (phase.Blank end) i e)));
-  others = elim [
-    | kind.Cmp ↦ λ ne u. absurd (ne refl)
-    | kind.Comm ↦ λ ne u. quiet_drive w outer cmp.Look cmp.Enable (record w.core.drive.crossing { phase = phase.Watch }) refl refl i
+    | kind.Comm ↦ λ ne u. quiet_drive w outer cmp.Look cmp.Read (w.core.drive.crossing) refl refl i
     | j ↦ λ ne u. u
   ];
   stack_is = i.on;
@@ -387,14 +368,9 @@ accepts end w outer e over well i =
       stack_is = i.on;
     }
 
-by_expected : (v : Bool) (end : Tick) (w : World) (outer : List Kind) → w.core.drive.crossing.phase ≡ phase.Blank end → nat_le end.0 w.bank.time ≡ true
-    → is_expected w.core.drive.crossing w.bank.comp ≡ v → IsCmp w outer cmp.Look → StepKeeps kind.Cmp outer w (ready_step v w.core w.bank)
-by_expected true end w outer e over well i = is_ready end w outer e over well i
-by_expected false end w outer e over ill i = isnt_ready end w outer e over ill i
-
 by_blank : (v : Bool) (end : Tick) (w : World) (outer : List Kind) → w.core.drive.crossing.phase ≡ phase.Blank end → nat_le end.0 w.bank.time ≡ v
     → IsCmp w outer cmp.Look → StepKeeps kind.Cmp outer w (blank_step v w.core w.bank)
-by_blank true end w outer e over i = by_expected (is_expected w.core.drive.crossing w.bank.comp) end w outer e over refl i
+by_blank true end w outer e over i = is_blanked end w outer e over i
 by_blank false end w outer e early i = begins_early end w outer e early i
 
 by_clean : (v : Bool) (end : Tick) (w : World) (outer : List Kind) → w.core.drive.crossing.phase ≡ phase.Filter end → nat_le end.0 w.bank.time ≡ true

@@ -17,7 +17,7 @@ use Rattle.interrupt_machine.specs.Did.{Writes}
 use Rattle.zero_cross.specs.declared.phase.Phase.{Phase}
 use Rattle.zero_cross.specs.declared.phase.Phase.TheVariants as phase
 use Rattle.zero_cross.specs.Comparator.{Held, held, held_to}
-use Rattle.zero_cross.specs.Kept.{after_changed, until, MayFilter}
+use Rattle.zero_cross.specs.Kept.{after_changed, until, MayFilter, is_expected}
 use Rattle.commutation.specs.Commutated.{Turn, Idle, Started, Turned, Crossed, crossed_by, turn_at}
 use Rattle.zero_cross.specs.Sector.{blanking_of}
 use Rattle.gate_driver.specs.Gated.{at_leg}
@@ -31,7 +31,7 @@ use Rattle.esc_core.specs.declared.state.CommAt.TheVariants as comm
 use Rattle.esc_core.specs.declared.state.TickAt.{TickAt}
 use Rattle.esc_core.specs.declared.state.TickAt.TheVariants as tick
 use Rattle.esc_core.specs.Drive.{low_free, due_at, arms}
-use Rattle.esc_core.specs.Cmp.{may_filter, ack_step, cmp_step}
+use Rattle.esc_core.specs.Cmp.{ready_step, is_blanked, read_step, may_filter, ack_step, cmp_step}
 use Rattle.esc_core.specs.Stepped.{goes_on}
 use Rattle.esc_core.specs.Firmware.{cmp_left, tick_need}
 use Rattle.esc_laws.specs.Calls.{turned_at}
@@ -39,7 +39,7 @@ use Rattle.esc_laws.specs.Crossed.{blanked_at, expects_at}
 use Rattle.esc_laws.specs.Searched.{Sight, Away, Begun, Awaits, First, Settles, Second, calls_cmp, sight_at, quiet_at, HasCrossed}
 use Rattle.esc_laws.specs.Saves.{forward_at}
 use Rattle.esc_rooms.specs.DriveTied.{DriveView, DriveTied, CommTied, LowTied, TimerKept, commutes}
-use Rattle.esc_rooms.specs.CrossTied.{CrossTied, RegsTied, HasQ, HasZ, IsEarly, SightTied, LateTied, begins_search}
+use Rattle.esc_rooms.specs.CrossTied.{CrossTied, RegsTied, HasQ, HasZ, IsEarly, SightTied, LateTied, IsBlanked, begins_search}
 use Rattle.esc_rooms.specs.World.{World, so_far, enters, after_enter, after_outside}
 use Rattle.esc_laws.specs.InTime.{IsInTime}
 use Rattle.esc_rooms.specs.Rooms.{Ties, Tie, Unheld, Past, StepKeeps, drive_seen, cross_seen}
@@ -48,11 +48,75 @@ use Rattle.esc_rooms.proofs.shared.RoomSteps.{quiet_gates, ground_noted, inside,
 use Rattle.esc_rooms.proofs.shared.DriveFacts.{comm_shut, timer_kept}
 use Rattle.esc_laws.proofs.Apart.{apart_legs}
 use Rattle.esc_rooms.proofs.cmp.CrossFacts.{cmp_shut, tick_unmasked}
-use Rattle.esc_rooms.proofs.cmp.Facts.{Stands, stands, goes, cmp_moves, acked, armed, enabled, commuted, lowered, returned}
+use Rattle.esc_rooms.proofs.cmp.Facts.{Stands, stands, goes, cmp_moves, read_ready, read_unready, acked, armed, commuted, lowered, returned}
 use Rattle.esc_rooms.proofs.cmp.Events.{reached_at, cross_later, cross_changes, seen_due, cross_entered}
 use Rattle.esc_rooms.proofs.shared.Law.{HandlerLaw}
 use Rattle.esc_rooms.proofs.cmp.Looks.{free_at, IsCmp, free_of, stands_at, searched_drive, quiet_drive, not_shut, raises, q_drives, looks}
 use Rattle.esc_laws.specs.NoteLaw as owed
+
+-- ---- it reads the comparator as blanking is over
+
+reads_ready : (w : World) (outer : List Kind) → IsBlanked w.core.drive.crossing.phase w.bank.time → is_expected w.core.drive.crossing w.bank.comp ≡ true
+    → IsCmp w outer cmp.Read → StepKeeps kind.Cmp outer w (ready_step true w.core w.bank)
+reads_ready w outer over well i = record {
+  gates = quiet_gates kind.Cmp w _ (λ e. cc) refl refl refl;
+  fits = λ told. tt;
+  ground = i.ground;
+  tie = λ told. cmp_moves (cross_seen w) cmp.Ack w.core.drive.crossing w.bank.comp_changed w.bank.comp_enabled w.bank.crossing
+      (not_shut w outer cmp.Read refl i)
+      (free_of w outer cmp.Read i) (i.ties kind.Cmp)
+      (goes (cross_seen w) cmp.Ack w.core.drive.crossing.phase w.core.drive.crossing w.bank.comp_changed w.bank.comp_enabled w.bank.crossing refl refl
+      (read_ready (cross_seen w) w.core.drive.crossing.phase over well (free_of w outer cmp.Read i)
+      (stands_at w outer cmp.Read w.core.drive.crossing.phase i refl)));
+  others = elim [
+    | kind.Cmp ↦ λ ne u. absurd (ne refl)
+    | kind.Comm ↦ λ ne u. quiet_drive w outer cmp.Read cmp.Ack w.core.drive.crossing refl refl i
+    | j ↦ λ ne u. u
+  ];
+  stack_is = i.on;
+}
+
+reads_unready : (w : World) (outer : List Kind) → IsBlanked w.core.drive.crossing.phase w.bank.time → is_expected w.core.drive.crossing w.bank.comp ≡ false
+    → IsCmp w outer cmp.Read → StepKeeps kind.Cmp outer w (ready_step false w.core w.bank)
+reads_unready w outer over ill i = record {
+  gates = quiet_gates kind.Cmp w _ (λ e. cc) refl refl refl;
+  fits = λ told. tt;
+  ground = i.ground;
+  tie = λ told. cmp_moves (cross_seen w) cmp.Lower (record w.core.drive.crossing { phase = phase.Watch }) w.bank.comp_changed w.bank.comp_enabled
+      w.bank.crossing
+      (not_shut w outer cmp.Read refl i)
+      (free_of w outer cmp.Read i) (i.ties kind.Cmp)
+      (goes (cross_seen w) cmp.Lower phase.Watch (record w.core.drive.crossing { phase = phase.Watch }) w.bank.comp_changed w.bank.comp_enabled w.bank.crossing
+      refl refl
+      (read_unready (cross_seen w) w.core.drive.crossing.phase over ill (free_of w outer cmp.Read i) (i.ties kind.Cmp)
+      (stands_at w outer cmp.Read w.core.drive.crossing.phase i refl)));
+  others = elim [
+    | kind.Cmp ↦ λ ne u. absurd (ne refl)
+    | kind.Comm ↦ λ ne u. quiet_drive w outer cmp.Read cmp.Lower (record w.core.drive.crossing { phase = phase.Watch }) refl refl i
+    | j ↦ λ ne u. u
+  ];
+  stack_is = i.on;
+}
+
+blanked_is : (p : Phase) (t : ℕ) → IsBlanked p t → is_blanked p t ≡ true
+blanked_is (phase.Blank end) t b = le-leb end.0 t b
+blanked_is phase.Off t b = absurd b
+blanked_is phase.Watch t b = absurd b
+blanked_is (phase.Filter end) t b = absurd b
+blanked_is phase.Done t b = absurd b
+
+reads_by : (v : Bool) (w : World) (outer : List Kind) → IsBlanked w.core.drive.crossing.phase w.bank.time
+    → is_expected w.core.drive.crossing w.bank.comp ≡ v → IsCmp w outer cmp.Read → StepKeeps kind.Cmp outer w (ready_step v w.core w.bank)
+reads_by true w outer over well i = reads_ready w outer over well i
+reads_by false w outer over ill i = reads_unready w outer over ill i
+
+reads : (v : Bool) (w : World) (outer : List Kind) → is_blanked w.core.drive.crossing.phase w.bank.time ≡ v → IsCmp w outer cmp.Read
+    → StepKeeps kind.Cmp outer w (read_step v w.core w.bank)
+reads true w outer e i =
+    reads_by (is_expected w.core.drive.crossing w.bank.comp) w outer (stands_at w outer cmp.Read w.core.drive.crossing.phase i refl).regs.0 refl i
+reads false w outer e i = absurd (
+    let b = blanked_is w.core.drive.crossing.phase w.bank.time (stands_at w outer cmp.Read w.core.drive.crossing.phase i refl).regs.0 in
+    let z : false ≡ true = sym e ∙ b in cc)
 
 -- ---- a filter begins
 
@@ -134,25 +198,6 @@ arms_by (phase.Filter end) w outer e i = arms_filter end w outer e i
 arms_by phase.Off w outer e i = absurd (stands_at w outer cmp.Arm phase.Off i e).regs
 arms_by phase.Watch w outer e i = absurd (stands_at w outer cmp.Arm phase.Watch i e).regs
 arms_by phase.Done w outer e i = absurd (stands_at w outer cmp.Arm phase.Done i e).regs
-
-enables_at : (w : World) (outer : List Kind) → w.core.drive.crossing.phase ≡ phase.Watch → IsCmp w outer cmp.Enable
-    → StepKeeps kind.Cmp outer w (cmp_step cmp.Enable w.core w.bank)
-enables_at w outer e i = record {
-  gates = quiet_gates kind.Cmp w _ (λ e. cc) refl refl refl;
-  fits = λ told. tt;
-  ground = i.ground;
-  tie = λ told. cmp_moves (cross_seen w) cmp.Lower (w.core.drive.crossing) (w.bank.comp_changed && false) (w.bank.comp_enabled || true) (w.bank.crossing)
-      (not_shut w outer cmp.Enable refl i)
-      (free_of w outer cmp.Enable i) (i.ties kind.Cmp)
-      (goes (cross_seen w) cmp.Lower (phase.Watch) (w.core.drive.crossing) (w.bank.comp_changed && false) (w.bank.comp_enabled || true) (w.bank.crossing) e refl
-      (enabled (cross_seen w) (free_of w outer cmp.Enable i) (stands_at w outer cmp.Enable phase.Watch i e)));
-  others = elim [
-    | kind.Cmp ↦ λ ne u. absurd (ne refl)
-    | kind.Comm ↦ λ ne u. quiet_drive w outer cmp.Enable cmp.Lower (w.core.drive.crossing) refl refl i
-    | j ↦ λ ne u. u
-  ];
-  stack_is = i.on;
-}
 
 z_drives : (turn : Turn) (demand : ℕ) → HasZ turn → (demand ≡ 0 → turn ≡ Idle) → 0 < demand
 z_drives turn demand q idle = elim (cases_lt 0 demand) [
@@ -280,9 +325,9 @@ steps : (place : CmpAt) (w : World) (outer : List Kind) → IsCmp w outer place 
 steps cmp.Shut w outer i left = absurd (omega arith)
 steps cmp.Raise w outer i left = raises w outer i
 steps cmp.Look w outer i left = looks w.core.drive.crossing.phase w outer refl i
+steps cmp.Read w outer i left = reads (is_blanked w.core.drive.crossing.phase w.bank.time) w outer refl i
 steps cmp.Ack w outer i left = by_may (may_filter w.core.drive.crossing.phase w.bank.time) w outer refl i
 steps cmp.Arm w outer i left = arms_by w.core.drive.crossing.phase w outer refl i
-steps cmp.Enable w outer i left = enables_at w outer (stands_at w outer cmp.Enable w.core.drive.crossing.phase i refl).regs i
 steps cmp.Commute w outer i left = commutes_at w outer (stands_at w outer cmp.Commute w.core.drive.crossing.phase i refl).regs.0 i
 steps cmp.Lower w outer i left = lowers w outer i
 steps cmp.Back w outer i left = returns w outer i

@@ -71,9 +71,14 @@ abbrev Asked : Kind → Brain → Bank → List Answer → Type 0
 Asked k c b answers = (flash : Told) × ((flash' : Told) × DeviceDid (core_asked k c b answers) answers flash flash')
 
 given_by : (k : Kind) (c : Brain) (b : Bank) (answers : List Answer) → is_stray k c b ≡ false → Asked k c b answers → Given k (counted_down c b) answers
-given_by k c b answers goes a =
-    (a.0, (a.1.0, subst (λ (calls : List Call). DeviceDid calls answers a.0 a.1.0)
-    (core_asked-goes k c b answers goes ∙ sym (counted_asked k c b answers)) a.1.1))
+given_by k c b answers goes a = (
+  a.0,
+  (
+    a.1.0,
+    subst (λ (calls : List Call). DeviceDid calls answers a.0 a.1.0)
+        (core_asked-goes k c b answers goes ∙ sym (counted_asked k c b answers)) a.1.1,
+  ),
+)
 
 own_told : (loaded : Loaded) (nest : Nest) (cost : ℕ) (trace : List Event) (c c' : Brain) (b b' : Bank) (stack stack' : List Kind) (log : List Turned)
     (notes : List Note) (k : Kind) (outer : List Kind) (did : Did) (answers : List Answer)

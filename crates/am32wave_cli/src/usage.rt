@@ -1,6 +1,5 @@
 //! The command line.
-use crate::run::Form;
-use crate::status::Status;
+use am32wave::{Form, Status};
 use clap::{Arg, ArgAction, ArgMatches, Command};
 use std::alloc::{AllocError, Global};
 

@@ -1,34 +1,12 @@
-//! `am32wave`: a journal of `am32sim` as a wave, or in words.
+//! The program `am32wave`: a journal of `am32sim` as a wave, or in words.
 #![tactic(auto)]
 
-mod ahead;
-mod dump;
-mod explain;
 mod file_source;
-mod journal;
-mod laws;
-mod levels;
-mod merge;
-mod moment;
-mod next;
-mod picture;
-mod pieces;
-mod reader;
-mod run;
-mod sentence;
-mod status;
-mod tally;
-#[cfg(test)]
-mod tests;
-mod traced;
 mod usage;
-mod wire;
 
+use am32wave::{Status, status_text, traced_main, wave_main};
 use esc_base::{InSource, OutSink, Sink, Source};
 use file_source::FileSource;
-pub use laws::{gates_follow_notes, levels_follow_events};
-use run::{traced_main, wave_main};
-use status::{Status, status_text};
 use std::cell::Cell;
 use std::process::ExitCode;
 use std::{env, fs, io};
