@@ -25,7 +25,8 @@ use Rattle.esc_core.specs.declared.state.CommAt.TheVariants as comm
 use Rattle.esc_core.specs.declared.state.TickAt.{TickAt}
 use Rattle.esc_core.specs.declared.state.TickAt.TheVariants as tick
 use Rattle.esc_core.specs.Drive.{is_stuck}
-use Rattle.esc_core.specs.Tick.{number_in, marks_in, number_step, drive_after, outcome_note, ticked}
+use Rattle.esc_core.specs.Tick.{number_in, marks_in, number_step, outcome_note, ticked}
+use Rattle.esc_core.specs.Drive.{drive_after}
 use Rattle.esc_laws.specs.Calls.{pwm_asked_at, pwm_entered_at}
 use Rattle.esc_rooms.specs.Tied.{TickTied}
 use Rattle.esc_rooms.specs.DriveTied.{DriveTied, LowTied, FlagTied, PwmTied, DutyTied, RestAt, Rests}
