@@ -1,6 +1,6 @@
 -- When a sector may change, and to which one. In a journal's lines Q is a sector change, Z an accepted zero crossing and K a control
 -- tick with its demand.
-use Rattle.std.specs.Prelude.{◌≡◌, ◌≤◌, ℕ, ◌+◌, Bool, true, false, not, ◌&&◌, ◌||◌, ◌==◌, nat_le, if◌then◌else◌, List, [], ◌∷◌, reverse}
+use Rattle.std.specs.Prelude.{◌≡◌, ◌≤◌, ℕ, ◌+◌, ◌-◌, Bool, true, false, not, ◌&&◌, ◌||◌, ◌==◌, nat_le, if◌then◌else◌, List, [], ◌∷◌, reverse}
 use Rattle.esc_base.specs.declared.note.Note.{Note}
 use Rattle.esc_base.specs.declared.note.Note.TheVariants as note
 use Rattle.esc_base.specs.Journal.{Each}
@@ -72,5 +72,5 @@ forced_at (n ∷ back) = forced_at back
 abbrev pub stuck_at : List Note → Bool
 stuck_at [] = false
 stuck_at (note.Control t n s d ∷ back) = not (d == 0) && stuck_at back
-stuck_at (note.Step t s ∷ back) = stuck_at back || (is_forced (turn_at back) && nat_le stuck_changes (forced_at back + 1))
+stuck_at (note.Step t s ∷ back) = stuck_at back || (is_forced (turn_at back) && nat_le (stuck_changes - 1) (forced_at back))
 stuck_at (n ∷ back) = stuck_at back

@@ -6,8 +6,6 @@ mod cells;
 mod event;
 mod file_flash;
 mod flash;
-#[cfg(test)]
-mod flash_tests;
 mod gate;
 mod kind;
 mod memory;
@@ -16,8 +14,6 @@ mod outside;
 mod periods;
 mod signal;
 mod stdio;
-#[cfg(test)]
-mod tests;
 mod tick;
 
 pub use event::{Arrived, Event, Received};

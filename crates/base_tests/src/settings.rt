@@ -1,4 +1,4 @@
-use crate::{
+use settings_block::{
     BlockFault, FlashFault, apply, default_block, load, read_block, save, servo_of, write_block,
 };
 use dshot_commands::Act;

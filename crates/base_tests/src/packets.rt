@@ -1,6 +1,6 @@
 ghost use Rattle.std.specs.Prelude.{◌≤◌, ◌<◌, length};
 
-use crate::{Ack, Packet, Packets, Params, Session, answer, crc16, reply_bytes};
+use fourway_packet::{Ack, Packet, Packets, Params, Session, answer, crc16, reply_bytes};
 use esc_base::{Arrived, FlashDev, FlashOp, MemFlash, Tick};
 use settings_block::default_block;
 use std::process::Abort;

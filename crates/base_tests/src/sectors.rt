@@ -1,4 +1,4 @@
-use crate::{Timing, pair, sector_next};
+use commutation::{Timing, pair, sector_next};
 use esc_base::{Leg, Sector, Tick};
 
 #[test]

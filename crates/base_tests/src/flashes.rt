@@ -1,6 +1,4 @@
-use crate::cells::blank_cells;
-use crate::flash::FLASH;
-use crate::{Failed, FileFlash, FlashDev, FlashOp, MemFlash};
+use esc_base::{Failed, FileFlash, FlashDev, FlashOp, MemFlash};
 use std::fs;
 use std::test::Fail;
 
@@ -54,7 +52,7 @@ fn memory_flash_clears_and_sets_bits(rt: HostRuntime) -> Result<(), Fail> {
 
 #[test]
 fn file_flash_wants_a_whole_image(rt: HostRuntime) -> Result<(), Fail> {
-    fs::write(&rt, "whole.img", blank_cells(rt.alloc(), FLASH)?.as_slice())?;
+    fs::write(&rt, "whole.img", MemFlash::new(rt.alloc())?.bytes())?;
     fs::write(&rt, "short.img", b"short".as_slice())?;
     let mut flash = FileFlash::new(&rt, rt.alloc())?;
     flash.program(0, b"its own")?;

@@ -1,6 +1,6 @@
-use super::*;
 use esc_base::{Event, MemSink, Tick};
 use std::test::Fail;
+use trace_tools::{Unwritten, Words, Writer, duration_in};
 
 #[test]
 fn words_stand_between_blanks(rt: HostRuntime) {

@@ -1,4 +1,4 @@
-use crate::{Act, Repeats};
+use dshot_commands::{Act, Repeats};
 
 /// Feeds equal still frames, and answers which of them acted, counted from 1.
 fn acted(repeats: &mut Repeats, value: u16, frames: u8) -> Option<u8> {

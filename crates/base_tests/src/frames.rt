@@ -1,4 +1,4 @@
-use crate::{encode, jitter_limit, verdict};
+use dshot_frame::{encode, jitter_limit, verdict};
 use edge_capture::{Burst, Edge};
 use esc_base::{Frame, Mode, Tick, Verdict, Why};
 

@@ -1,4 +1,4 @@
-use crate::{Judgement, Seen, detect, is_good_in, judge};
+use input_detect::{Judgement, Seen, detect, is_good_in, judge};
 use dshot_frame::encode;
 use edge_capture::{Burst, Edge};
 use esc_base::{Frame, Mode, Tick};

@@ -1,4 +1,4 @@
-use crate::{Failed, InSource, Kind, MemSink, MemSource, Mode, OutSink, Sink, Source, Why};
+use esc_base::{Failed, InSource, Kind, MemSink, MemSource, Mode, OutSink, Sink, Source, Why};
 use std::io::Write;
 use std::test::Fail;
 

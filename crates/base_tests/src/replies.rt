@@ -1,4 +1,4 @@
-use crate::{gcr, line_bits, payload, reply_bits, unline};
+use gcr_reply::{gcr, line_bits, payload, reply_bits, unline};
 
 #[test]
 fn payloads(rt: HostRuntime) {

@@ -1,4 +1,4 @@
-use crate::{Crossing, Next, Phase};
+use zero_cross::{Crossing, Next, Phase};
 use esc_base::{Sector, Tick};
 
 /// A sector 1 of a forward drive that began at 1000, with a filter that ends at 7124.

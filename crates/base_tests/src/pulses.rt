@@ -1,4 +1,4 @@
-use crate::{InputKind, Servo, pulse, value_of};
+use servo_input::{InputKind, Servo, pulse, value_of};
 use edge_capture::{Burst, Edge};
 use esc_base::{Frame, Tick, Verdict, Why};
 

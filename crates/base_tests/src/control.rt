@@ -1,6 +1,6 @@
 ghost use Rattle.std.specs.Prelude.{◌≡◌, ◌<◌};
 
-use crate::{Control, Marks, on_ticks};
+use arming::{Control, Marks, on_ticks};
 use bitflags::Flags;
 use dshot_commands::Act;
 use esc_base::{Cause, Mode};

@@ -1,6 +1,6 @@
-use super::*;
 use esc_base::{Event, MemSource, Note, Tick};
 use std::test::Fail;
+use trace_text::{Item, Line, Lines, Refusal, event_text, note_read, note_text, write_note};
 
 /// The answer that ends the reading of a text of few lines, and its line.
 fn outcome(src: &mut MemSource) -> (Item, u64) {

@@ -1,7 +1,7 @@
 ghost use Rattle.std.specs.Prelude.{◌≡◌, ◌<◌, ◌≤◌, ◌+◌, ◌*◌, ◌^◌};
 ghost use Rattle.edge_capture.specs.Edges.{last_at};
 
-use crate::{Burst, Capture, Edge, Heard, mode_numbers};
+use edge_capture::{Burst, Capture, Edge, Heard, mode_numbers};
 use esc_base::{Mode, Tick};
 use std::process::Abort;
 
