@@ -1,5 +1,6 @@
-use crate::drive_tests::{journal_of, throttled};
-use crate::tests::lines_of;
+//! Zero crossings and the sectors that follow them.
+use crate::drives::{journal_of, throttled};
+use crate::runs::lines_of;
 use std::alloc::Global;
 use std::test::Fail;
 

@@ -1,4 +1,5 @@
-use crate::*;
+//! Captures, and their traces.
+use am32csv::{Clock, Expected, Layout, Rate, Status, csv_main};
 use esc_base::MemSink;
 use std::test::Fail;
 

@@ -1,5 +1,6 @@
-use crate::Status;
-use crate::tests::{ZERO, lines_of, push_frames, ran};
+//! The start of a drive, its gates and its ends.
+use crate::runs::{ZERO, lines_of, push_frames, ran};
+use am32sim::Status;
 use esc_base::MemFlash;
 use std::alloc::Global;
 use std::test::Fail;

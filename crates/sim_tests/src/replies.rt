@@ -1,7 +1,8 @@
+//! Replies to bidirectional frames.
 ghost use Rattle.std.specs.Prelude.{◌<◌, ◌^◌};
 
-use crate::drive_tests::journal_of;
-use crate::tests::lines_of;
+use crate::drives::journal_of;
+use crate::runs::lines_of;
 use std::alloc::Global;
 use std::test::Fail;
 

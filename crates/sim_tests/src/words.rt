@@ -1,14 +1,12 @@
 //! What words ask for, and what `show` writes.
-use crate::tests::{DIRECTION, SAVE, two_commands};
-use crate::{Status, Words, sim_main};
+use crate::runs::{DIRECTION, SAVE, two_commands};
+use am32sim::{Status, Words, sim_main};
 use esc_base::{FileFlash, FlashDev, FlashOp, MemFlash, MemSink, MemSource};
 use settings_block::default_block;
 use std::alloc::Global;
-use std::cell::Cell;
 use std::fs;
-use std::io::{self, Write};
 use std::test::Fail;
-use trace_tools::PipeEnd;
+use trace_runner::Room;
 
 /// How the command of these words ends, which stand between spaces, with an empty trace, and what it writes.
 fn commanded<F: FlashDev>(
@@ -34,7 +32,7 @@ fn commanded_on<F: FlashDev>(
     }
     let mut src = MemSource::new(alloc, trace.as_bytes(), 7, &[])?;
     let mut out = MemSink::new(alloc, 16384, puts)?;
-    let status = sim_main(&words, &mut src, &mut out, flash);
+    let status = sim_main(&words, &mut src, &mut out, flash, Room::new(alloc)?);
     Ok((status, String::from_utf8_lossy(alloc, out.given())?))
 }
 
@@ -167,28 +165,4 @@ fn a_save_reaches_the_image_and_the_next_command(rt: HostRuntime) -> Result<(), 
     assert!(rt; shown.as_str().starts_with("block ok\ndirection 1\n"));
     fs::remove_file(&rt, "words_saved.img")?;
     Ok(())
-}
-
-/// A writer whose reader has gone.
-#[derive(Drop)]
-struct Closed;
-
-impl Write for Closed {
-    fn write(&mut self, _buf: &[u8]) -> io::Result<usize> {
-        Err(io::Error::from(io::ErrorKind::BrokenPipe))
-    }
-
-    fn flush(&mut self) -> io::Result<()> {
-        Ok(())
-    }
-}
-
-#[test]
-fn a_reader_that_has_gone_is_noted(rt: HostRuntime) {
-    let is_gone = Cell::new(false);
-    let mut end = PipeEnd::new(Closed, &is_gone);
-    assert!(rt; end.flush().is_ok());
-    assert!(rt; !is_gone.get());
-    assert!(rt; end.write(b"U 0 1\n").is_err());
-    assert!(rt; is_gone.get());
 }

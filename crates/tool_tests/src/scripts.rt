@@ -1,4 +1,5 @@
-use crate::*;
+//! Scripts of flights, and their traces.
+use am32trace::{Expected, ScriptWords, Status, trace_main};
 use esc_base::{MemSink, MemSource};
 use std::test::Fail;
 

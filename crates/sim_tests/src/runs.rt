@@ -1,10 +1,12 @@
+//! Runs of whole traces: ticks, frames, refusals, faults, settings and saves.
 ghost use Rattle.std.specs.Prelude.{◌<◌, ◌^◌};
 
-use crate::{Status, Words, sim_main, status_text};
+use am32sim::{Status, Words, sim_main, status_text};
 use esc_base::{Block48, FlashOp, MemFlash, MemSink, MemSource};
 use settings_block::default_block;
 use std::alloc::Global;
 use std::test::Fail;
+use trace_runner::Room;
 use trace_text::Refusal;
 
 /// How a run ends that reads the trace which these parts make, in pieces of so many bytes, and what it writes. The takes
@@ -25,7 +27,7 @@ pub(crate) fn ran(
     words.push("run")?;
     let mut src = MemSource::new(alloc, trace.as_bytes(), piece.max(1), takes)?;
     let mut out = MemSink::new(alloc, 65536, puts)?;
-    let status = sim_main(&words, &mut src, &mut out, flash);
+    let status = sim_main(&words, &mut src, &mut out, flash, Room::new(alloc)?);
     Ok((status, String::from_utf8_lossy(alloc, out.given())?))
 }
 
@@ -162,10 +164,22 @@ fn a_flash_that_fails_leaves_the_trace_unread(rt: HostRuntime) -> Result<(), Fai
         let mut out = MemSink::new(rt.alloc(), 4096, &[])?;
         let mut words = Words::new(rt.alloc());
         words.push("run")?;
-        let first = sim_main(&words, &mut src, &mut out, &mut flash);
+        let first = sim_main(
+            &words,
+            &mut src,
+            &mut out,
+            &mut flash,
+            Room::new(rt.alloc())?,
+        );
         assert_eq!(rt; first, Status::AttachFault, "{op:?}");
         assert!(rt; out.given().is_empty(), "{op:?}");
-        let second = sim_main(&words, &mut src, &mut out, &mut flash);
+        let second = sim_main(
+            &words,
+            &mut src,
+            &mut out,
+            &mut flash,
+            Room::new(rt.alloc())?,
+        );
         assert_eq!(rt; second, Status::Done, "{op:?}");
         assert_eq!(rt; out.given(), START.as_bytes(), "{op:?}");
     }
