@@ -7,7 +7,7 @@ use Rattle.esc_base.specs.declared.event.Event.{Event}
 use Rattle.esc_base.specs.declared.event.Event.TheVariants as event
 use Rattle.esc_base.specs.declared.note.Note.{Note}
 use Rattle.esc_base.specs.declared.note.Note.TheVariants as note
-use Rattle.esc_base.specs.Times.{is_reached}
+use Rattle.esc_base.specs.Times.{is_reached, dead_time, filter_time, least_blanking}
 use Rattle.esc_base.specs.Trace.{differ, tick_of}
 use Rattle.zero_cross.specs.declared.phase.Phase.{Phase}
 use Rattle.zero_cross.specs.declared.phase.Phase.TheVariants as phase
@@ -39,6 +39,7 @@ use Rattle.esc_rooms.proofs.cmp.Events.{reached_at, cross_later, cross_changes, 
 use Rattle.esc_rooms.proofs.shared.Law.{HandlerLaw}
 use Rattle.esc_rooms.proofs.cmp.Preserves.{free_at, searched_drive}
 use Rattle.esc_rooms.proofs.cmp.Looks.{q_drives}
+use Rattle.esc_rooms.proofs.cmp.Asked.{cmp_asked}
 use Rattle.esc_rooms.proofs.cmp.Steps.{cmp_steps_preserve}
 
 -- ---- what the notes call is due
@@ -85,11 +86,11 @@ no_second Started z q = q
 no_second (Turned t) z q = q
 no_second (Crossed t y) z q = q
 
-long_blank : (back : List Note) → HasQ (turn_at back) → turned_at back + 300 ≤ blanked_at back
+long_blank : (back : List Note) → HasQ (turn_at back) → turned_at back + least_blanking ≤ blanked_at back
 long_blank [] q = absurd q
 long_blank (note.Step t s ∷ back) q = longer t.0 (interval_at back)
   where
-    longer : (t interval : ℕ) → t + 300 ≤ t + blanking_of interval
+    longer : (t interval : ℕ) → t + least_blanking ≤ t + blanking_of interval
     longer t interval = omega arith
 long_blank (note.Control t n s d ∷ back) q = long_blank back (by_control (d == 0) (rests_at back) (turn_at back) q)
 long_blank (note.Cross t ∷ back) q = absurd (no_second (turn_at back) t.0 q)
@@ -137,11 +138,11 @@ late_entered (phase.Filter end) w e t unheld shut at none due s =
         let d = t kind.Comm in
         let on : 0 < w.bank.sector = omega arith in
         let to : w.core.drive.turn.to ≡ w.bank.sector = d.newest.to_is (rw shut refl) on in
-        let free : at_leg w.core.drive.gates.hi_free (low_of w.core.drive.turn.to) ≤ turned_at w.back + 48 =
+        let free : at_leg w.core.drive.gates.hi_free (low_of w.core.drive.turn.to) ≤ turned_at w.back + dead_time =
         d.switches.outer on (low_of w.core.drive.turn.to) (λ same. apart_legs w.bank.sector on d.switches.sectors (same ∙ ap low_of to)) in
         let long = long_blank w.back q in
         let f = s.phase_is.1 in
-        let end_is : end.0 ≡ f.begun + 24 = f.end_is in
+        let end_is : end.0 ≡ f.begun + filter_time = f.end_is in
         let past = f.after in
         let l = over in
         omega arith
@@ -192,7 +193,7 @@ outside w (event.Stall at n) is past t = rw (held-push w.trace (event.Stall at n
 pub cmp_law : HandlerLaw kind.Cmp
 cmp_law = record {
   called = λ w i s. called w i.rest.ties i.unheld (cmp_shut w.core.cmp_at i.shut) s;
-  asked = λ w i. (tt, tt);
+  asked = λ w i. (tt, cmp_asked w i);
   entered = λ w i.
       entered w i.rest.ties i.unheld (cmp_shut w.core.cmp_at i.shut) i.due i.past (comm_shut w.core.comm_at w.core.drive.turn.at (i.highest.shut kind.Comm (omega arith)))
       (i.highest.none kind.Comm (omega arith));
