@@ -87,7 +87,11 @@ good : (o : Option Act) (x : World) (outer : List Kind) (frame : Frame) (w m : �
 good None x outer frame w m g per sound e k same answers on shut named st = record {
   gates = quiet_gates kind.Cap x _ (λ e. cc) refl refl refl;
   fits = λ told. (
-    record { at = refl; owned = refl; keeps = record { laws = elim [ owed.Windows ↦ answers | owed.Nests ↦ inside (so_far x).stack kind.Cap outer on | l ↦ tt ]; waits = tt } },
+    record {
+      at = refl;
+      owned = refl;
+      keeps = record { laws = elim [ owed.Windows ↦ answers | owed.Nests ↦ inside (so_far x).stack kind.Cap outer on | l ↦ tt ]; waits = tt };
+    },
     tt,
   );
   ground = record {
@@ -148,7 +152,11 @@ judges (Good frame) x outer w m g per sound e k same answers on shut =
 judges (Bad why) x outer w m g per sound e k same answers on shut = record {
   gates = quiet_gates kind.Cap x _ (λ e. cc) refl refl refl;
   fits = λ told. (
-    record { at = refl; owned = refl; keeps = record { laws = elim [ owed.Windows ↦ answers | owed.Nests ↦ inside (so_far x).stack kind.Cap outer on | l ↦ tt ]; waits = tt } },
+    record {
+      at = refl;
+      owned = refl;
+      keeps = record { laws = elim [ owed.Windows ↦ answers | owed.Nests ↦ inside (so_far x).stack kind.Cap outer on | l ↦ tt ]; waits = tt };
+    },
     tt,
   );
   ground = ground_noted x (note.Bad (as_tick x.bank.time) (why_number why)) refl refl tt refl g;
@@ -164,7 +172,11 @@ judges (Bad why) x outer w m g per sound e k same answers on shut = record {
 judges (Found mode) x outer w m g per sound e k same answers on shut = record {
   gates = quiet_gates kind.Cap x _ (λ e. cc) refl refl refl;
   fits = λ told. (
-    record { at = refl; owned = refl; keeps = record { laws = elim [ owed.Windows ↦ answers | owed.Nests ↦ inside (so_far x).stack kind.Cap outer on | l ↦ tt ]; waits = tt } },
+    record {
+      at = refl;
+      owned = refl;
+      keeps = record { laws = elim [ owed.Windows ↦ answers | owed.Nests ↦ inside (so_far x).stack kind.Cap outer on | l ↦ tt ]; waits = tt };
+    },
     tt,
   );
   ground = record {
@@ -194,7 +206,11 @@ judges (Found mode) x outer w m g per sound e k same answers on shut = record {
 judges Nothing x outer w m g per sound e k same answers on shut = record {
   gates = quiet_gates kind.Cap x _ (λ e. cc) refl refl refl;
   fits = λ told. (
-    record { at = refl; owned = refl; keeps = record { laws = elim [ owed.Windows ↦ answers | owed.Nests ↦ inside (so_far x).stack kind.Cap outer on | l ↦ tt ]; waits = tt } },
+    record {
+      at = refl;
+      owned = refl;
+      keeps = record { laws = elim [ owed.Windows ↦ answers | owed.Nests ↦ inside (so_far x).stack kind.Cap outer on | l ↦ tt ]; waits = tt };
+    },
     tt,
   );
   ground = ground_noted x (note.Nothing (as_tick x.bank.time)) refl refl tt refl g;

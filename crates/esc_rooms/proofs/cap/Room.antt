@@ -69,7 +69,8 @@ edge : (v : Bool) (w : World) (level : Bool) → differ w.bank.level level ≡ v
 edge true w level d g t = (
   signal_follows (so_far w).signal w.core.cap_at (cap_seen w)
       (cap_view (w.trace ++ event.Edge (as_tick w.bank.time) level ∷ []) w.core (edge_bank w.bank level) (so_far w))
-      (edge_follows w.trace w.core w.bank (so_far w) level (rising_push (line w.trace).edges (edge_now w.bank level) 0 g.outside.edges.1 g.outside.edges.0 (omega arith))
+      (edge_follows w.trace w.core w.bank (so_far w) level
+      (rising_push (line w.trace).edges (edge_now w.bank level) 0 g.outside.edges.1 g.outside.edges.0 (omega arith))
       (ap (λ (l : Line). l.edges) (line_changes w.trace w.bank level (subst (λ (l : Bool). differ l level ≡ true) g.outside.level d)))) t.0,
   edge_sound w.bank.window (edge_now w.bank level) t.1,
   subst (λ (edges : List Edge). TimerTied (so_far w).signal w.core.cap_at edges w.made.cap_past (put_off w.bank.timer w.bank.time))
@@ -78,7 +79,8 @@ edge true w level d g t = (
   t.3,
 )
 edge false w level d g t =
-    plain w (event.Edge (as_tick w.bank.time) level) (line_same w.trace w.bank level (subst (λ (l : Bool). differ l level ≡ false) g.outside.level d)) (omega arith) t
+    plain w (event.Edge (as_tick w.bank.time) level) (line_same w.trace w.bank level (subst (λ (l : Bool). differ l level
+    ≡ false) g.outside.level d)) (omega arith) t
 
 outside : (w : World) (e : Event) → tick_of e ≡ w.bank.time → Ground w → CapTie w → CapTie (after_outside w e)
 outside w (event.Edge at level) is g t =
@@ -116,7 +118,8 @@ cap_law = record {
   );
   beside = λ w i. elim [ kind.Cap ↦ λ ne. absurd (ne refl) | j ↦ λ ne. i.rest.ties j ];
   steps = λ w answers outer given i.
-      cap_steps_preserve (so_far w).signal w.core.cap_at w outer i.rest.ground (i.rest.ties kind.Cap).3 (i.rest.ties kind.Cap).1 refl (i.rest.ties kind.Cap).0 (i.rest.ties kind.Cap).2 i.past.cap i.on
+      cap_steps_preserve (so_far w).signal w.core.cap_at w outer i.rest.ground (i.rest.ties kind.Cap).3 (i.rest.ties kind.Cap).1 refl (i.rest.ties kind.Cap).0
+      (i.rest.ties kind.Cap).2 i.past.cap i.on
       (comm_shut w.core.comm_at w.core.drive.turn.at (i.above kind.Comm (omega arith))) (i.alone kind.Tick (λ e. cc)) i.left;
   later = λ w u from small i. later w u from (i.ties kind.Cap);
   outside = λ w e i. outside w e i.now i.rest.ground (i.rest.ties kind.Cap);

@@ -88,7 +88,14 @@ open_window : (x : World) (outer : List Kind) (s : Signal) → Ground x → Peri
 open_window x outer s g per e may none done on = record {
   gates = quiet_gates kind.Cap x _ (λ e. cc) refl refl refl;
   fits = λ told. (
-    record { at = refl; owned = refl; keeps = record { laws = elim [ owed.Windows ↦ (rw e may, g.control.ties.mode_is) | owed.Nests ↦ inside (so_far x).stack kind.Cap outer on | l ↦ tt ]; waits = tt } },
+    record {
+      at = refl;
+      owned = refl;
+      keeps = record {
+        laws = elim [ owed.Windows ↦ (rw e may, g.control.ties.mode_is) | owed.Nests ↦ inside (so_far x).stack kind.Cap outer on | l ↦ tt ];
+        waits = tt;
+      };
+    },
     tt,
   );
   ground = ground_noted x (note.Window (as_tick x.bank.time) (mode_number x.core.control.mode)) refl refl tt refl g;
@@ -144,7 +151,11 @@ reads_period : (x : World) (outer : List Kind) (w m : ℕ) → Ground x → Peri
 reads_period x outer w m g per sound e k heard is on = record {
   gates = quiet_gates kind.Cap x _ (λ e. cc) refl refl refl;
   fits = λ told. (
-    record { at = refl; owned = refl; keeps = record { laws = elim [ owed.Replies ↦ rw e is | owed.Nests ↦ inside (so_far x).stack kind.Cap outer on | l ↦ tt ]; waits = tt } },
+    record {
+      at = refl;
+      owned = refl;
+      keeps = record { laws = elim [ owed.Replies ↦ rw e is | owed.Nests ↦ inside (so_far x).stack kind.Cap outer on | l ↦ tt ]; waits = tt };
+    },
     tt,
   );
   ground = ground_noted x (note.Period (as_tick x.bank.time) (period_read x.bank)) refl refl tt refl g;
@@ -159,7 +170,18 @@ loads_reply : (x : World) (outer : List Kind) (w m : ℕ) (told_period period : 
 loads_reply x outer w m told_period period g per sound e k heard is on = record {
   gates = quiet_gates kind.Cap x _ (λ e. cc) refl refl refl;
   fits = λ told. (
-    record { at = refl; owned = refl; keeps = record { laws = elim [ owed.Replies ↦ rw (e, ← is) (record { start_is = reply_starts (cap_seen x) w m x.bank.time heard; bits_are = reply_of-tells period }) | owed.Nests ↦ inside (so_far x).stack kind.Cap outer on | l ↦ tt ]; waits = tt } },
+    record {
+      at = refl;
+      owned = refl;
+      keeps = record {
+        laws = elim [
+          | owed.Replies ↦ rw (e, ← is) (record { start_is = reply_starts (cap_seen x) w m x.bank.time heard; bits_are = reply_of-tells period })
+          | owed.Nests ↦ inside (so_far x).stack kind.Cap outer on
+          | l ↦ tt
+        ];
+        waits = tt;
+      };
+    },
     tt,
   );
   ground = ground_noted x (note.Reply (as_tick x.bank.time) (as_tick (reply_from x.core x.bank)) (reply_of period)) refl refl tt refl g;
@@ -182,7 +204,21 @@ returns : (x : World) (outer : List Kind) → Ground x → PeriodTie x → Signa
 returns x outer g per tied sound timer past on = record {
   gates = quiet_gates kind.Cap x _ (λ e. cc) refl refl refl;
   fits = λ told. (
-    record { at = refl; owned = refl; keeps = record { laws = elim [ owed.Windows ↦ λ e. back_may x.trace x.core x.bank (so_far x) (so_far x).signal tied | owed.Replies ↦ λ e. back_replied x.trace x.core x.bank (so_far x) (so_far x).signal tied | owed.Drives ↦ λ e. cc | owed.Searches ↦ λ e. cc | owed.Nests ↦ (inside (so_far x).stack kind.Cap outer on, back_done x.trace x.core x.bank (so_far x) (so_far x).signal tied) | l ↦ tt ]; waits = tt } },
+    record {
+      at = refl;
+      owned = refl;
+      keeps = record {
+        laws = elim [
+          | owed.Windows ↦ λ e. back_may x.trace x.core x.bank (so_far x) (so_far x).signal tied
+          | owed.Replies ↦ λ e. back_replied x.trace x.core x.bank (so_far x) (so_far x).signal tied
+          | owed.Drives ↦ λ e. cc
+          | owed.Searches ↦ λ e. cc
+          | owed.Nests ↦ (inside (so_far x).stack kind.Cap outer on, back_done x.trace x.core x.bank (so_far x) (so_far x).signal tied)
+          | l ↦ tt
+        ];
+        waits = tt;
+      };
+    },
     tt,
   );
   ground = ground_noted x (note.Leave (as_tick x.bank.time) 3) refl refl tt refl g;
@@ -202,7 +238,8 @@ answered : (x : World) (s : Signal) (w m t : ℕ) (n : Note) → s ≡ Listens w
     → AnswersAt x.loaded x.trace s (so_far x).cap_entered t n
 answered x s w m t n e a = rw e a
 
-pub cap_steps_preserve : (s : Signal) (at : CapAt) (x : World) (outer : List Kind) → Ground x → PeriodTie x → WindowSound x.bank.window x.bank.time → (so_far x).signal ≡ s
+pub cap_steps_preserve : (s : Signal) (at : CapAt) (x : World) (outer : List Kind) → Ground x → PeriodTie x → WindowSound x.bank.window x.bank.time
+    → (so_far x).signal ≡ s
     → SignalTied s at (cap_seen x) → TimerTied s at (line x.trace).edges x.made.cap_past x.bank.timer → x.made.cap_past ≤ x.bank.time
     → (so_far x).stack ≡ kind.Cap ∷ outer → x.core.comm_at ≡ comm.Shut → 8 < tick_need x.core.tick_at → 0 < cap_left at
     → StepKeeps kind.Cap outer x (cap_step at x.core x.bank)

@@ -132,7 +132,8 @@ late_entered (phase.Filter end) w e t unheld shut at none due s =
 
     by_sector : (n : ℕ) → w.bank.sector ≡ n → HasQ (turn_at w.back) → 0 < demand_at w.back → low_free w.core.drive ≤ w.bank.time
     by_sector zero z q some =
-        (let first : at_leg w.core.drive.gates.hi_free (low_of w.core.drive.turn.to) ≡ 0 = (t kind.Comm).switches.unused z (low_of w.core.drive.turn.to) in omega arith)
+        (let first : at_leg w.core.drive.gates.hi_free (low_of w.core.drive.turn.to) ≡ 0 =
+        (t kind.Comm).switches.unused z (low_of w.core.drive.turn.to) in omega arith)
     by_sector (suc n) z q some =
         let d = t kind.Comm in
         let on : 0 < w.bank.sector = omega arith in
@@ -194,7 +195,8 @@ cmp_law = record {
   called = λ w i s. called w i.rest.ties i.unheld (cmp_shut w.core.cmp_at i.shut) s;
   asked = λ w i. (tt, tt);
   entered = λ w i.
-      entered w i.rest.ties i.unheld (cmp_shut w.core.cmp_at i.shut) i.due i.past (comm_shut w.core.comm_at w.core.drive.turn.at (i.highest.shut kind.Comm (omega arith)))
+      entered w i.rest.ties i.unheld (cmp_shut w.core.cmp_at i.shut) i.due i.past
+      (comm_shut w.core.comm_at w.core.drive.turn.at (i.highest.shut kind.Comm (omega arith)))
       (i.highest.none kind.Comm (omega arith));
   beside = λ w i. elim [
     | kind.Cmp ↦ λ ne. absurd (ne refl)

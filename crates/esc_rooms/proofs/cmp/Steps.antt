@@ -82,7 +82,8 @@ cmp_read_preserves false w outer e i = absurd (
 
 ack_filter_preserves : (w : World) (outer : List Kind) → IsCmp w outer cmp.Ack → StepKeeps kind.Cmp outer w (ack_step true w.core w.bank)
 ack_filter_preserves w outer i =
-    cmp_step_preserves w outer cmp.Ack cmp.Arm (phase.Filter (as_tick (w.bank.time + filter_time))) (after_changed w.core.drive.crossing w.bank.time) w.core.hold false
+    cmp_step_preserves w outer cmp.Ack cmp.Arm (phase.Filter (as_tick (w.bank.time + filter_time))) (after_changed w.core.drive.crossing w.bank.time)
+    w.core.hold false
     w.bank.comp_enabled w.bank.crossing (Writes reg.CmpAck 0) i refl refl refl refl refl refl
     (acked (cross_seen w) w.core.drive.crossing.phase (free_of w outer cmp.Ack i) (stands_at w outer cmp.Ack w.core.drive.crossing.phase i refl))
 
@@ -226,7 +227,8 @@ cmp_return_preserves w outer i = record {
 
 -- ---- all its steps
 
-pub cmp_steps_preserve : (place : CmpAt) (w : World) (outer : List Kind) → IsCmp w outer place → 0 < cmp_left place → StepKeeps kind.Cmp outer w (cmp_step place w.core w.bank)
+pub cmp_steps_preserve : (place : CmpAt) (w : World) (outer : List Kind) → IsCmp w outer place → 0 < cmp_left place
+    → StepKeeps kind.Cmp outer w (cmp_step place w.core w.bank)
 cmp_steps_preserve cmp.Shut w outer i left = absurd (omega arith)
 cmp_steps_preserve cmp.Raise w outer i left = cmp_raise_preserves w outer i
 cmp_steps_preserve cmp.Look w outer i left = cmp_look_preserves w.core.drive.crossing.phase w outer refl i

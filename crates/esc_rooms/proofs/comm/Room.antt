@@ -144,9 +144,20 @@ entered w t unheld shut due past =
     (d.low shut some (unmasked_commutes w.core.cmp_at (cmp_unmasked w.core.cmp_at (unheld kind.Cmp)))) in
     record {
       switches = d.switches;
-      newest = record { since = λ s. (let a : turned_at w.back + 4 ≤ w.made.comm_past = rw shut at (d.newest.since s) in omega arith); to_is = λ e. d.newest.to_is (rw shut refl); at_low = d.newest.at_low };
+      newest = record {
+        since = λ s. (let a : turned_at w.back + 4 ≤ w.made.comm_past = rw shut at (d.newest.since s) in omega arith);
+        to_is = λ e. d.newest.to_is (rw shut refl);
+        at_low = d.newest.at_low;
+      };
       next = d.next;
-      row = record { turned = d.row.turned; forced = d.row.forced; unforced = d.row.unforced; rest_unmarked = d.row.rest_unmarked; stuck = d.row.stuck; marked = λ l e. d.row.marked l (rw shut refl) };
+      row = record {
+        turned = d.row.turned;
+        forced = d.row.forced;
+        unforced = d.row.unforced;
+        rest_unmarked = d.row.rest_unmarked;
+        stuck = d.row.stuck;
+        marked = λ l e. d.row.marked l (rw shut refl);
+      };
       place = record {
         none = refl;
         due = brought (drive_seen w) kept due;
@@ -213,9 +224,22 @@ timer_later v u l (inr (at, e, now, c)) = inr (at, e, omega arith, record { star
 
 later : (v : DriveView) (u : ℕ) → v.time ≤ u → DriveTied v → DriveTied (record v { time = u })
 later v u l t = record {
-  switches = record { sector_is = t.switches.sector_is; sectors = t.switches.sectors; pair = t.switches.pair; held = λ x on. (let h = t.switches.held x on in omega arith); soon = λ x. (let s = t.switches.soon x in omega arith); outer = t.switches.outer; unused = t.switches.unused; past = (let p = t.switches.past in omega arith) };
+  switches = record {
+    sector_is = t.switches.sector_is;
+    sectors = t.switches.sectors;
+    pair = t.switches.pair;
+    held = λ x on. (let h = t.switches.held x on in omega arith);
+    soon = λ x. (let s = t.switches.soon x in omega arith);
+    outer = t.switches.outer;
+    unused = t.switches.unused;
+    past = (let p = t.switches.past in omega arith);
+  };
   newest = t.newest;
-  next = record { idle = t.next.idle; due = λ d. change_later v.wait v.turn v.drive.change v.time u l (t.next.due d); first = λ z d. (let f = t.next.first z d in omega arith) };
+  next = record {
+    idle = t.next.idle;
+    due = λ d. change_later v.wait v.turn v.drive.change v.time u l (t.next.due d);
+    first = λ z d. (let f = t.next.first z d in omega arith);
+  };
   row = t.row;
   place = place_later v.comm_at v u l t.place;
   low = λ e d s. low_kept v.tick_at v (record v { time = u }) (timer_later v u l) (λ c. record { started = c.started; due = (let x = c.due in omega arith) })

@@ -106,7 +106,8 @@ turn_logged loaded nest cost trace c c' b b' flash flash' stack stack' log notes
     entry_told loaded nest cost trace c c' b b' stack stack' log notes e.0 e.1.entered e.1.regs_are e.1.stack_is e.1.notes_are
     (entry_turn loaded nest cost trace c b stack log e.0 some l e.1.unmasked e.1.chosen)
 turn_logged loaded nest cost trace c c' b b' flash flash' stack stack' log notes some small l busy (inr e) =
-    own_told loaded nest cost trace c c' b b' stack stack' log notes e.0 e.1 e.2 e.3.stepped.answers some (flash, (flash', e.3.stepped.flash_is)) l e.3.none_enters e.3.innermost_is
+    own_told loaded nest cost trace c c' b b' stack stack' log notes e.0 e.1 e.2 e.3.stepped.answers some (flash, (flash', e.3.stepped.flash_is)) l
+    e.3.none_enters e.3.innermost_is
     e.3.stepped.stepped e.3.stack_is e.3.notes_are
 
 -- ---- time
@@ -278,7 +279,11 @@ module _ (loaded : Loaded) (nest : Nest) (cost : ℕ) (trace : List Event) (e : 
         marks = marks_grow loaded nest trace e b stack log at (notes_below loaded nest cost trace (tick_of e) [] log l.fits before) l.marks;
         gates = told_grows e c b (reverse (journal loaded log)) l.gates;
         ground = event_ground (world loaded nest trace c b log) e at l.ground;
-        ties = λ k. event_tie k (world loaded nest trace c b log) e (record { rest = at_rest loaded nest cost trace next c b stack log l; past = made_below log b.time below; now = at });
+        ties = λ k. event_tie k (world loaded nest trace c b log) e (record {
+          rest = at_rest loaded nest cost trace next c b stack log l;
+          past = made_below log b.time below;
+          now = at;
+        });
         patient = patient_grows loaded nest trace e c b stack log at before l.patient;
         owes = l.owes;
         reached = λ k o. reached_grows cost trace e log (steps_since k log) (entered_at k log) (l.reached k o) (l.reached_by k o (tick_of e) before);

@@ -102,10 +102,12 @@ flag_later at flag asked duty demand entered t u le d f = record {
 pub pwm_law : HandlerLaw kind.Pwm
 pwm_law = record {
   called = λ w i s.
-      called_flag w.core.tick_at w.bank.flag (pwm_asked_at w.back) (demand_at w.back) (pwm_entered_at w.back) w.bank.time (i.unheld kind.Tick) (i.rest.ties kind.Pwm).1 s;
+      called_flag w.core.tick_at w.bank.flag (pwm_asked_at w.back) (demand_at w.back) (pwm_entered_at w.back) w.bank.time (i.unheld kind.Tick)
+      (i.rest.ties kind.Pwm).1 s;
   asked = λ w i. (
     tt,
-    flag_calls w.core.tick_at w.bank.flag (pwm_asked_at w.back) (demand_at w.back) (pwm_entered_at w.back) w.bank.time (flag_drives w i.rest.ties i.unheld i.due)
+    flag_calls w.core.tick_at w.bank.flag (pwm_asked_at w.back) (demand_at w.back) (pwm_entered_at w.back) w.bank.time
+        (flag_drives w i.rest.ties i.unheld i.due)
         (i.rest.ties kind.Pwm).1 i.due,
   );
   entered = λ w i. (

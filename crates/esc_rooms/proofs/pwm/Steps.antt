@@ -128,7 +128,8 @@ on_places None x w outer e i =
     } in
     record {
       gates = write_word (Some x) w outer _ after i refl refl refl refl refl pair
-          (high_on_keeps g (gates_after g w.bank after) w.bank after x refl refl refl e (pair_apart w.bank.sector w.bank.hi w.bank.lo d.switches.sectors d.switches.pair))
+          (high_on_keeps g (gates_after g w.bank after) w.bank after x refl refl refl e
+          (pair_apart w.bank.sector w.bank.hi w.bank.lo d.switches.sectors d.switches.pair))
           (λ none. or_on w.bank.hi x);
       fits = λ told. tt;
       ground = i.at.ground;
@@ -174,7 +175,8 @@ write_places None w outer i =
     } in
     record {
       gates = write_word None w outer _ after i refl refl refl refl refl pair
-          (high_off_keeps (gates_after g w.bank after) w.bank after 0 refl refl (pair_apart w.bank.sector w.bank.hi w.bank.lo d.switches.sectors d.switches.pair))
+          (high_off_keeps (gates_after g w.bank after) w.bank after 0 refl refl
+          (pair_apart w.bank.sector w.bank.hi w.bank.lo d.switches.sectors d.switches.pair))
           (and_zero_r w.bank.hi);
       fits = λ told. tt;
       ground = i.at.ground;
@@ -192,9 +194,24 @@ write_places None w outer i =
 
 pwm_return_preserves : (w : World) (outer : List Kind) → IsPwm w outer pwm.Back → StepKeeps kind.Pwm outer w (pwm_step pwm.Back w.core w.bank)
 pwm_return_preserves w outer i = record {
-  gates = still_gates w _ refl refl refl (λ own. (let o = own_tie w outer pwm.Back i in omega arith)) (λ over. (let o = own_tie w outer pwm.Back i in omega arith)) refl;
+  gates = still_gates w _ refl refl refl (λ own. (let o = own_tie w outer pwm.Back i in omega arith)) (λ over. (let o =
+      own_tie w outer pwm.Back i in omega arith)) refl;
   fits = λ told. (
-    record { at = refl; owned = refl; keeps = record { laws = elim [ owed.Windows ↦ λ k. cc | owed.Replies ↦ λ k. cc | owed.Drives ↦ λ k. cc | owed.Searches ↦ λ e. cc | owed.Nests ↦ (inside (so_far w).stack kind.Pwm outer i.on, tt) | l ↦ tt ]; waits = tt } },
+    record {
+      at = refl;
+      owned = refl;
+      keeps = record {
+        laws = elim [
+          | owed.Windows ↦ λ k. cc
+          | owed.Replies ↦ λ k. cc
+          | owed.Drives ↦ λ k. cc
+          | owed.Searches ↦ λ e. cc
+          | owed.Nests ↦ (inside (so_far w).stack kind.Pwm outer i.on, tt)
+          | l ↦ tt
+        ];
+        waits = tt;
+      };
+    },
     tt,
   );
   ground = ground_noted w (note.Leave (as_tick w.bank.time) 5) refl refl tt refl i.ground;

@@ -326,5 +326,6 @@ reads true w outer e i =
 reads false w outer e i =
     let tied = ticks_tie w outer tick.Read i in
     let small : w.bank.time < 2147483648 = i.ground.outside.small in
-    reads_as (number_in (w.bank.time / control_period)) (marks_in (w.bank.time / control_period) w.core.line.active) w outer i (rw (lt-ltb (w.bank.time / control_period) 1073741824 (omega arith)) refl)
+    reads_as (number_in (w.bank.time / control_period)) (marks_in (w.bank.time / control_period) w.core.line.active) w outer i
+    (rw (lt-ltb (w.bank.time / control_period) 1073741824 (omega arith)) refl)
     (rw (lt-ltb (w.bank.time / control_period) 1073741824 (omega arith), mark_is w outer i ∙ e, i.ground.line.session_is) refl) tied.0 tied.1

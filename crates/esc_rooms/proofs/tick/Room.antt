@@ -69,7 +69,8 @@ shut_at w none t = subst (λ (p : TickAt). DutyTied p w.bank.duty (demand_at w.b
 pub tick_law : HandlerLaw kind.Tick
 tick_law = record {
   called = λ w i s.
-      tick_due (waits_of w.core) w.bank (rw ((i.rest.ties kind.Tick).1, i.rest.ground.control.ties.number_is) (ltb-true (number_at w.back) (w.bank.time / control_period) s));
+      tick_due (waits_of w.core) w.bank
+      (rw ((i.rest.ties kind.Tick).1, i.rest.ground.control.ties.number_is) (ltb-true (number_at w.back) (w.bank.time / control_period) s));
   asked = λ w i. (tt, tt);
   entered = λ w i. (
     (due_tick (waits_of w.core) w.bank (i.rest.ties kind.Tick).2 i.due, refl),

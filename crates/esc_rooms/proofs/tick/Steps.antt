@@ -259,7 +259,21 @@ tick_return_preserves : (w : World) (outer : List Kind) → IsTick w outer tick.
 tick_return_preserves w outer i = record {
   gates = quiet_gates kind.Tick w _ (λ e. cc) refl refl refl;
   fits = λ told. (
-    record { at = refl; owned = refl; keeps = record { laws = elim [ owed.Windows ↦ λ e. cc | owed.Replies ↦ λ e. cc | owed.Drives ↦ λ e z. (told.hi_is ∙ (rest_tie w outer tick.Back i z).high_off, told.lo_is ∙ (rest_tie w outer tick.Back i z).low_off) | owed.Searches ↦ λ e. cc | owed.Nests ↦ (inside (so_far w).stack kind.Tick outer i.on, ticks_tie w outer tick.Back i) | l ↦ tt ]; waits = tt } },
+    record {
+      at = refl;
+      owned = refl;
+      keeps = record {
+        laws = elim [
+          | owed.Windows ↦ λ e. cc
+          | owed.Replies ↦ λ e. cc
+          | owed.Drives ↦ λ e z. (told.hi_is ∙ (rest_tie w outer tick.Back i z).high_off, told.lo_is ∙ (rest_tie w outer tick.Back i z).low_off)
+          | owed.Searches ↦ λ e. cc
+          | owed.Nests ↦ (inside (so_far w).stack kind.Tick outer i.on, ticks_tie w outer tick.Back i)
+          | l ↦ tt
+        ];
+        waits = tt;
+      };
+    },
     tt,
   );
   ground = ground_noted w (note.Leave (as_tick w.bank.time) 2) refl refl tt refl i.ground;
