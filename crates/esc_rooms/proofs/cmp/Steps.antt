@@ -35,7 +35,7 @@ use Rattle.esc_laws.specs.InTime.{IsInTime}
 use Rattle.esc_rooms.specs.Rooms.{StepKeeps, drive_seen, cross_seen}
 use Rattle.esc_laws.proofs.Comparator.{steady_by}
 use Rattle.esc_rooms.proofs.shared.RoomSteps.{quiet_gates, ground_noted, inside, popped}
-use Rattle.esc_rooms.proofs.cmp.Facts.{goes, cmp_moves}
+use Rattle.esc_rooms.proofs.cmp.Facts.{moves_by_phase, cmp_moves}
 use Rattle.esc_rooms.proofs.cmp.StepFacts.{read_ready, read_unready, acked, armed, commuted, lowered, returned}
 use Rattle.esc_rooms.proofs.cmp.Preserves.{IsCmp, free_of, stands_at, quiet_drive, not_shut, cmp_step_preserves, cmp_wait_preserves}
 use Rattle.esc_rooms.proofs.cmp.Looks.{cmp_raise_preserves, cmp_look_preserves}
@@ -164,7 +164,7 @@ cmp_commute_preserves w outer e i =
       ground = i.ground;
       tie = λ told. cmp_moves (cross_seen w) cmp.Lower w.core.drive.crossing w.bank.comp_changed w.bank.comp_enabled w.bank.crossing
           (not_shut w outer cmp.Commute refl i) (free_of w outer cmp.Commute i) (i.ties kind.Cmp)
-          (goes (cross_seen w) cmp.Lower phase.Done w.core.drive.crossing w.bank.comp_changed w.bank.comp_enabled w.bank.crossing e refl
+          (moves_by_phase (cross_seen w) cmp.Lower phase.Done w.core.drive.crossing w.bank.comp_changed w.bank.comp_enabled w.bank.crossing e refl
           (commuted (cross_seen w) (free_of w outer cmp.Commute i) st));
       others = elim [
         | kind.Cmp ↦ λ ne u. absurd (ne refl)

@@ -78,9 +78,9 @@ direction_is w g =
     ap (λ (s : Settings). s.direction == w.core.orders.spin) g.orders.settings_are
     ∙ ap (λ (n : ℕ). (settings_at w.loaded.settings w.back).direction == n) g.orders.spin_is
 
-begins_turn : (w : World) (outer : List Kind) → w.core.drive.change ≤ w.bank.time → IsComm w outer comm.Decide w.core.drive.turn.at
+decide_turn_preserves : (w : World) (outer : List Kind) → w.core.drive.change ≤ w.bank.time → IsComm w outer comm.Decide w.core.drive.turn.at
     → StepKeeps kind.Comm outer w (begins w.core w.bank)
-begins_turn w outer due i =
+decide_turn_preserves w outer due i =
     let t = i.ties kind.Comm in
     let to : ℕ = next_sector w.bank.sector (is_forward w.core.orders) in
     let d : Drive = record w.core.drive { turn = change_to to; postponed = false } in
@@ -104,13 +104,13 @@ begins_turn w outer due i =
     })
 
 -- where no change is due, the low switch is postponed
-resumes : (late : Bool) (w : World) (outer : List Kind) → w.core.drive.postponed ≡ late → w.bank.time < w.core.drive.change
+decide_low_preserves : (late : Bool) (w : World) (outer : List Kind) → w.core.drive.postponed ≡ late → w.bank.time < w.core.drive.change
     → IsComm w outer comm.Decide w.core.drive.turn.at
     → StepKeeps kind.Comm outer w (goes_on (record w.core { comm_at = waits_for late }) NoAccess)
-resumes false w outer e early i =
+decide_low_preserves false w outer e early i =
     let tied : Decides (drive_seen w) = place_tie w outer comm.Decide w.core.drive.turn.at i in
     absurd (elim tied.due [ inl l ↦ (let x = l in omega arith) | inr p ↦ (let z : true ≡ false = sym p.0 ∙ e in cc) ])
-resumes true w outer e early i =
+decide_low_preserves true w outer e early i =
     let t = i.ties kind.Comm in
     let tied : Decides (drive_seen w) = place_tie w outer comm.Decide w.core.drive.turn.at i in
     comm_step_preserves w outer comm.Decide comm.Low w.core.drive.turn.at w.core.drive.gates w.core.drive.turn w.core.drive.postponed w.bank.comm w.bank.stuck
@@ -139,8 +139,8 @@ resumes true w outer e early i =
 pub comm_decide_preserves : (v : Bool) (w : World) (outer : List Kind) → nat_le w.core.drive.change w.bank.time ≡ v
     → IsComm w outer comm.Decide w.core.drive.turn.at
     → StepKeeps kind.Comm outer w (decided v w.core w.bank)
-comm_decide_preserves true w outer e i = begins_turn w outer (leb-true w.core.drive.change w.bank.time e) i
-comm_decide_preserves false w outer e i = resumes w.core.drive.postponed w outer refl (leb-false w.core.drive.change w.bank.time e) i
+comm_decide_preserves true w outer e i = decide_turn_preserves w outer (leb-true w.core.drive.change w.bank.time e) i
+comm_decide_preserves false w outer e i = decide_low_preserves w.core.drive.postponed w outer refl (leb-false w.core.drive.change w.bank.time e) i
 
 -- ---- the change of sector
 

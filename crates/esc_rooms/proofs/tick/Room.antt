@@ -25,11 +25,11 @@ use Rattle.esc_rooms.proofs.tick.Steps.{tick_steps_preserve}
 
 -- ---- time
 
-later : (at : TickAt) (read t u ticks : ℕ) → t ≤ u → TickTied at read t ticks → TickTied at read u ticks
-later tick.Shut read t u ticks le i = tt
-later tick.Raise read t u ticks le i = (let a : read < t / control_period = i.0 in omega arith, i.1)
-later tick.Read read t u ticks le i = (let a : read < t / control_period = i.0 in omega arith, i.1)
-later at read t u ticks le i = i
+ticks_later : (at : TickAt) (read t u ticks : ℕ) → t ≤ u → TickTied at read t ticks → TickTied at read u ticks
+ticks_later tick.Shut read t u ticks le i = tt
+ticks_later tick.Raise read t u ticks le i = (let a : read < t / control_period = i.0 in omega arith, i.1)
+ticks_later tick.Read read t u ticks le i = (let a : read < t / control_period = i.0 in omega arith, i.1)
+ticks_later at read t u ticks le i = i
 
 -- with the duty at 0 time brings no PWM event
 no_edge : (flag : Bool) (duty t u : ℕ) → duty ≡ 0 → flag ≡ false → (flag || has_edge duty t u) ≡ false
@@ -114,7 +114,7 @@ tick_law = record {
     cmp_is = cmp_shut w.core.cmp_at (i.above kind.Cmp (omega arith));
   }) i.left;
   later = λ w u from small i. (
-    later w.core.tick_at w.bank.number_read w.bank.time u (so_far w).ticks from (i.ties kind.Tick).0,
+    ticks_later w.core.tick_at w.bank.number_read w.bank.time u (so_far w).ticks from (i.ties kind.Tick).0,
     (i.ties kind.Tick).1,
     (let r = (i.ties kind.Tick).2 in omega arith),
     (i.ties kind.Tick).3,
