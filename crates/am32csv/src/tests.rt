@@ -1,4 +1,4 @@
-use super::*;
+use crate::*;
 use esc_base::MemSink;
 use std::test::Fail;
 

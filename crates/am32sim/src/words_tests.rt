@@ -1,6 +1,5 @@
 //! What words ask for, and what `show` writes.
 use crate::tests::{DIRECTION, SAVE, two_commands};
-use crate::usage::usage_text;
 use crate::{Status, Words, sim_main};
 use esc_base::{FileFlash, FlashDev, FlashOp, MemFlash, MemSink, MemSource};
 use settings_block::default_block;
@@ -192,13 +191,4 @@ fn a_reader_that_has_gone_is_noted(rt: HostRuntime) {
     assert!(rt; !is_gone.get());
     assert!(rt; end.write(b"U 0 1\n").is_err());
     assert!(rt; is_gone.get());
-}
-
-#[test]
-fn the_usage_text_names_each_option(rt: HostRuntime) -> Result<(), Fail> {
-    let text = usage_text(rt.alloc())?;
-    for name in ["run", "show", "--cost", "--nest", "--flash"] {
-        assert!(rt; text.as_str().contains(name), "no {name}");
-    }
-    Ok(())
 }

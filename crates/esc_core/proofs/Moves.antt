@@ -7,6 +7,7 @@ use Rattle.esc_base.specs.declared.signal.Mode.{Mode}
 use Rattle.esc_base.specs.declared.signal.Mode.TheVariants.{D300Inv, D600Inv}
 use Rattle.esc_base.specs.declared.kind.Kind.TheVariants as kind
 use Rattle.esc_base.specs.declared.note.Note.{Note}
+use Rattle.esc_base.specs.Times.{stuck_changes}
 use Rattle.timer_regs.specs.Bank.{Bank}
 use Rattle.timer_regs.specs.Effects.{read_value}
 use Rattle.timer_regs.specs.declared.regs.Reg.TheVariants as reg
@@ -51,7 +52,8 @@ use Rattle.input_detect.specs.Judge.{judged}
 use Rattle.settings_block.specs.Settings.{servo_of}
 use Rattle.esc_core.specs.Stepped.{Stepped, goes_on}
 use Rattle.esc_core.specs.Cap.{after_edges, after_copy, after_good, opens, takes, next_edge, judge_step, cap_step}
-use Rattle.esc_core.specs.Tick.{ticked, asked, drive_after, number_in, marks_in, off_step, tick_step}
+use Rattle.esc_core.specs.Drive.{drive_after}
+use Rattle.esc_core.specs.Tick.{ticked, asked, number_in, marks_in, off_step, tick_step}
 use Rattle.esc_core.specs.Pwm.{chopped, pwm_step}
 use Rattle.esc_core.specs.Cmp.{ready_step, judged_step, blank_step, filter_step, look_step, is_blanked, read_step, may_filter, ack_step, cmp_step}
 use Rattle.esc_core.specs.Drive.{arms}
@@ -470,7 +472,7 @@ comm_moves comm.Low c b l = resumed_moves c b
 comm_moves comm.Blank c b l = comm_goes 5 _ _ _ _ c b (lit< tt) (lit< tt) (arms_mask (until c.drive.crossing.phase) b)
 comm_moves comm.Period c b l = comm_goes 4 _ _ _ _ c b (lit< tt) (lit< tt) refl
 comm_moves comm.Arm c b l =
-    let left = armed_left (nat_le 60 c.drive.forced) c.drive.turn.at in
+    let left = armed_left (nat_le stuck_changes c.drive.forced) c.drive.turn.at in
     comm_goes 3 _ _ _ _ c b left.0 left.1 refl
 comm_moves comm.Stick c b l = comm_goes 2 _ _ _ _ c b (lit< tt) (lit< tt) refl
 comm_moves comm.Back c b l = record {

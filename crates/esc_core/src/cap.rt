@@ -6,7 +6,7 @@ ghost use Rattle.interrupt_machine.specs.Did.{notes_of};
 ghost use Rattle.edge_capture.specs.Edges.{last_at};
 ghost use Rattle.input_detect.specs.Judge.{IsJudged};
 ghost use Rattle.esc_core.specs.Stepped.{IsStepped};
-ghost use Rattle.esc_core.specs.Cap.{cap_step, judge_step, period_step, reply_step, opens, edge_of, takes, after_copy, after_good};
+ghost use Rattle.esc_core.specs.Cap.{cap_step, judge_step, period_step, reply_step, opens, edge_of, takes, after_copy, after_good, pause_from};
 
 use crate::own::{no_note, note_and, one_note};
 use crate::reply::{period_us, reply_end, reply_start};
@@ -191,7 +191,7 @@ fn after_good(window: Mode) -> CapAt
 
 fn pause_after(t: Tick) -> CapAt
     requires { t.0 < 2 ^ 31 }
-    ensures { result ≡ CapAt.Pause (t.0 + 600) }
+    ensures { result ≡ CapAt.Pause (pause_from t.0) }
 {
     CapAt::Pause(t.0 as u32 + PAUSE)
 }

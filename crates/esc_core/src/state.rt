@@ -8,7 +8,7 @@ use gate_driver::{AllOff, Chop};
 use std::marker::Model;
 
 /// Where an open CAP stands. Each place is named by the step that comes next.
-#[derive(Clone, Copy, Debug, PartialEq, Eq, Drop)]
+#[derive(Clone, Copy, Drop)]
 pub enum CapAt {
     Shut,
     /// Reads how many edges there are, or opens a window where the window timer was set.
@@ -29,7 +29,7 @@ pub enum CapAt {
 }
 
 /// Where an open TICK stands.
-#[derive(Clone, Copy, Debug, PartialEq, Eq, Drop)]
+#[derive(Clone, Copy, Drop)]
 pub enum TickAt {
     Shut,
     /// Raises the mask.
@@ -52,7 +52,7 @@ pub enum TickAt {
 }
 
 /// Where an open PWM stands.
-#[derive(Clone, Copy, Debug, PartialEq, Eq, Drop)]
+#[derive(Clone, Copy, Drop)]
 pub enum PwmAt {
     Shut,
     /// Makes a step of chopping.
@@ -61,7 +61,7 @@ pub enum PwmAt {
 }
 
 /// Where an open COMM stands.
-#[derive(Clone, Copy, Debug, PartialEq, Eq, Drop)]
+#[derive(Clone, Copy, Drop)]
 pub enum CommAt {
     Shut,
     /// Decides between a sector change, for which it reads the sector, and a postponed low switch.
@@ -82,7 +82,7 @@ pub enum CommAt {
 }
 
 /// Where an open CMP stands.
-#[derive(Clone, Copy, Debug, PartialEq, Eq, Drop)]
+#[derive(Clone, Copy, Drop)]
 pub enum CmpAt {
     Shut,
     /// Raises the mask.
@@ -104,7 +104,7 @@ pub enum CmpAt {
 }
 
 /// Where an open MAIN stands.
-#[derive(Clone, Copy, Debug, PartialEq, Eq, Drop)]
+#[derive(Clone, Copy, Drop)]
 pub enum MainAt {
     Shut,
     /// Does what waits.
@@ -113,7 +113,7 @@ pub enum MainAt {
 }
 
 /// Where an open UART stands.
-#[derive(Clone, Copy, Debug, PartialEq, Eq, Drop)]
+#[derive(Clone, Copy, Drop)]
 pub enum UartAt {
     Shut,
     /// Reads whether a byte waits.

@@ -81,12 +81,7 @@ impl Core {
         let marks = marks(state, self.serial.is_active());
         let answer = self.control.tick(n, marks);
         let t = regs.now();
-        if answer.start {
-            self.drive.start(t);
-        }
-        if answer.demand == 0 {
-            self.drive.crossing.off();
-        }
+        self.drive.answered(answer.start, answer.demand == 0, t);
         self.tick_at = after_number(answer);
         let control = Note::Control {
             t,

@@ -134,7 +134,7 @@ low_on v = is_on v.lo (low_of v.sector)
 
 -- it is on, or postponed
 abbrev pub OnOrLate : DriveView → Type 0
-OnOrLate v = ((low_on v ≡ true) × (v.drive.postponed ≡ false)) ⊎ (v.drive.postponed ≡ true)
+OnOrLate v = ((low_on v ≡ true) × (v.drive.postponed ≡ false)) ⊎ ((v.drive.postponed ≡ true) × (low_on v ≡ false))
 
 -- the same at the end of an activation with a Q: it is postponed only where the high switch of its leg went off less than 48
 -- ticks before the Q

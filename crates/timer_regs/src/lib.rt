@@ -2,12 +2,18 @@
 //! kinds are due.
 #![tactic(auto)]
 
+mod access;
 mod comparator;
+mod due;
+mod events;
 mod kinds;
+mod next_due;
 mod regs;
-mod uart;
+mod reply;
 #[cfg(test)]
 mod tests;
+mod timers;
+mod uart;
 
 pub use kinds::KindSet;
 pub use regs::{Reg, Regs};

@@ -13,7 +13,7 @@ use Rattle.gate_driver.specs.declared.all_off.AllOff.TheVariants as off
 use Rattle.esc_core.specs.declared.drive.Drive.{Drive}
 use Rattle.esc_core.specs.declared.state.TickAt.{TickAt}
 use Rattle.esc_core.specs.declared.state.TickAt.TheVariants as tick
-use Rattle.esc_core.specs.Tick.{drive_after}
+use Rattle.esc_core.specs.Drive.{drive_after}
 use Rattle.esc_core.specs.Reply.{period_of as read_period}
 use Rattle.esc_laws.specs.Calls.{turned_at}
 use Rattle.esc_rooms.specs.CrossTied.{ends_drive}

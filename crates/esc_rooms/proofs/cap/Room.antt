@@ -22,6 +22,7 @@ use Rattle.esc_rooms.proofs.cap.JudgedTies.{timer_off, timer_grows}
 use Rattle.esc_rooms.proofs.shared.Lines.{plain_follows, edge_now, edge_bank, edge_follows, rising_push, edge_sound, line_changes, line_same}
 use Rattle.esc_rooms.proofs.shared.Dues.{cap_called, cap_entered, signal_follows, time_follows}
 use Rattle.esc_rooms.proofs.shared.Law.{HandlerLaw}
+use Rattle.esc_rooms.proofs.cap.Asked.{cap_asked}
 use Rattle.esc_rooms.proofs.cap.Steps.{cap_steps_preserve}
 
 -- ---- it is called and entered
@@ -108,7 +109,12 @@ cap_law = record {
   called = λ w i s. cap_called (waits_of w.core) (so_far w).signal w.trace w.core w.bank (so_far w) w.made.cap_past
       (shut_tie w (i.rest.ties kind.Cap) i.shut)
       (shut_timer w (i.rest.ties kind.Cap) i.shut) s;
-  asked = λ w i. (tt, tt);
+  asked = λ w i. (
+    tt,
+    cap_asked (so_far w).signal w.trace w.core w.bank (so_far w)
+        (cap_entered (waits_of w.core) (so_far w).signal w.trace w.core w.bank (so_far w) w.made.cap_past refl (shut_tie w (i.rest.ties kind.Cap) i.shut)
+        (shut_timer w (i.rest.ties kind.Cap) i.shut) i.due),
+  );
   entered = λ w i. (
     cap_entered (waits_of w.core) (so_far w).signal w.trace w.core w.bank (so_far w) w.made.cap_past refl (shut_tie w (i.rest.ties kind.Cap) i.shut)
         (shut_timer w (i.rest.ties kind.Cap) i.shut) i.due,

@@ -126,7 +126,7 @@ is_crossing w outer end i e over well =
 -- where COMM wasn't late, the low switch is on
 low_up : (v : DriveView) → HasQ v.turn → v.drive.postponed ≡ false → TimerKept v → (low_on v ≡ true) × (v.drive.postponed ≡ false)
 low_up v q prompt (inl (e, inl on)) = on
-low_up v q prompt (inl (e, inr late)) = absurd (let z : false ≡ true = sym prompt ∙ late in cc)
+low_up v q prompt (inl (e, inr late)) = absurd (let z : false ≡ true = sym prompt ∙ late.0 in cc)
 low_up v q prompt (inr (at, e, l, c)) = absurd (subst (λ (x : Turn). HasQ x) c.started q)
 
 crossed_change : (turn : Turn) (wait z at time : ℕ) → HasQ turn → at ≡ z + wait → ChangeTied wait (crossed_by turn z) at time

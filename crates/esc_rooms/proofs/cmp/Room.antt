@@ -39,6 +39,7 @@ use Rattle.esc_rooms.proofs.cmp.Events.{reached_at, cross_later, cross_changes, 
 use Rattle.esc_rooms.proofs.shared.Law.{HandlerLaw}
 use Rattle.esc_rooms.proofs.cmp.Preserves.{free_at, searched_drive}
 use Rattle.esc_rooms.proofs.cmp.Looks.{q_drives}
+use Rattle.esc_rooms.proofs.cmp.Asked.{cmp_asked}
 use Rattle.esc_rooms.proofs.cmp.Steps.{cmp_steps_preserve}
 
 -- ---- what the notes call is due
@@ -193,7 +194,7 @@ cmp_outside w (event.Stall at n) is past t = rw (held-push w.trace (event.Stall 
 pub cmp_law : HandlerLaw kind.Cmp
 cmp_law = record {
   called = λ w i s. cmp_called w i.rest.ties i.unheld (cmp_shut w.core.cmp_at i.shut) s;
-  asked = λ w i. (tt, tt);
+  asked = λ w i. (tt, cmp_asked w i);
   entered = λ w i.
       cmp_entered w i.rest.ties i.unheld (cmp_shut w.core.cmp_at i.shut) i.due i.past
       (comm_shut w.core.comm_at w.core.drive.turn.at (i.highest.shut kind.Comm (omega arith)))

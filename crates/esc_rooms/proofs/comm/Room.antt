@@ -1,5 +1,5 @@
 -- COMM's row of the laws: what calls it, its entry, and the drive's tie as time goes on.
-use Rattle.std.proofs.Common.{◌≡◌, ◌≤◌, ◌<◌, ◌+◌, ◌⊎◌, inl, inr, ℕ, zero, suc, min, Bool, true, false, not, ◌||◌, nat_lt, nat_le, if◌then◌else◌, Option, Some, None, refl, sym, ◌∙◌, subst, arith}
+use Rattle.std.proofs.Common.{◌≡◌, ◌≤◌, ◌<◌, ◌+◌, ◌⊎◌, inl, inr, ℕ, zero, suc, min, Bool, true, false, not, ◌||◌, nat_lt, nat_le, if◌then◌else◌, Option, Some, refl, sym, ◌∙◌, subst, arith}
 use Rattle.std.proofs.lemmas.Bool.{cases_lt, and_parts, ltb-true, leb-true, le-leb, not-true}
 use Rattle.esc_base.specs.declared.kind.Kind.TheVariants as kind
 use Rattle.esc_base.specs.Legs.{is_on}
@@ -20,11 +20,12 @@ use Rattle.esc_rooms.specs.Tied.{WordTold}
 use Rattle.esc_rooms.specs.DriveTied.{DriveView, DriveTied, CommTied, TimerKept, ChangeTied, Resumed, HasActed, OnOrHeld, low_on, TurnTied}
 use Rattle.esc_rooms.specs.World.{World, after_enter}
 use Rattle.esc_rooms.specs.Rooms.{Ties, Tie, Unheld, drive_seen, cross_seen}
-use Rattle.esc_rooms.proofs.shared.DriveFacts.{comm_shut, rest_still, timer_kept, low_kept}
+use Rattle.esc_rooms.proofs.shared.DriveFacts.{comm_shut, timer_kept, low_kept}
 use Rattle.esc_rooms.proofs.cmp.CrossFacts.{cmp_unmasked, unmasked_commutes}
 use Rattle.esc_rooms.proofs.cmp.BesideComm.{moved_cross}
 use Rattle.esc_rooms.proofs.shared.Law.{HandlerLaw}
 use Rattle.esc_rooms.proofs.cap.Period.{period_kept}
+use Rattle.esc_rooms.proofs.comm.Asked.{entry_drives, brought, comm_asked}
 use Rattle.esc_rooms.proofs.comm.Steps.{comm_steps_preserve}
 
 open_drives : (w : World) → Ties w → (w.core.comm_at ≡ comm.Shut → ⊥) → 0 < demand_at w.back
@@ -57,7 +58,7 @@ change_due v (inr (at, e, now, c)) l = reached v.timer at v.time e now
 low_due : (v : DriveView) → TimerKept v → low_on v ≡ false → low_free v.drive ≤ v.time → is_reached v.timer v.time ≡ true
 low_due v (inl (e, inl o)) off l = (let z : true ≡ false = sym o.0 ∙ off in cc)
 low_due v (inl (e, inr late)) off l =
-    reached v.timer (due_at v.drive) v.time e (due_by_low v.drive.postponed v.drive.change (low_free v.drive) v.time late l)
+    reached v.timer (due_at v.drive) v.time e (due_by_low v.drive.postponed v.drive.change (low_free v.drive) v.time late.0 l)
 low_due v (inr (at, e, now, c)) off l = reached v.timer at v.time e now
 
 turn_due : (wait : ℕ) (turn : Turn) (change time : ℕ) → ChangeTied wait turn change time → turn_is_due wait turn time ≡ true → change ≤ time
@@ -112,28 +113,6 @@ comm_called w t told unheld shut e = elim (or_parts (calls_turn (advance_of w.lo
         (rw (to, (t kind.Comm).switches.sector_is, ← told.hi_free (low_of (sector_at w.back))) free)
 
 -- ---- its entry
-
-entry_drives : (w : World) → Ties w → Unheld w → is_reached w.bank.comm w.bank.time ≡ true → 0 < demand_at w.back
-entry_drives w t unheld due = elim (cases_lt 0 (demand_at w.back)) [
-  | inl l ↦ l
-  | inr z ↦ absurd (
-      let still = rest_still w.core.tick_at w.bank.hi w.bank.lo w.bank.flag w.bank.comm w.core.drive.postponed w.bank.stuck (unheld kind.Tick)
-      ((t kind.Tick).4 (omega arith)).rest in
-      let r : is_reached None w.bank.time ≡ true = subst (λ (x : Option ℕ). is_reached x w.bank.time ≡ true) still.disarmed due in
-      cc)
-]
-
--- what brought it: the change, or the postponed switch
-due_split : (late : Bool) (change free time : ℕ) → (if late then min change free else change) ≤ time → (change ≤ time) ⊎ ((late ≡ true) × (free ≤ time))
-due_split false change free time l = inl l
-due_split true change free time l = elim (cases_lt time change) [ inr a ↦ inl a | inl a ↦ inr (refl, omega arith) ]
-
-brought : (v : DriveView) → TimerKept v → is_reached v.timer v.time ≡ true
-    → (v.drive.change ≤ v.time) ⊎ ((v.drive.postponed ≡ true) × (low_free v.drive ≤ v.time))
-brought v (inl (e, o)) due =
-    due_split v.drive.postponed v.drive.change (low_free v.drive) v.time
-    (leb-true (due_at v.drive) v.time (subst (λ (x : Option ℕ). is_reached x v.time ≡ true) e due))
-brought v (inr (at, e, now, c)) due = inl c.due
 
 comm_entered : (w : World) → Ties w → Unheld w → w.core.comm_at ≡ comm.Shut → is_reached w.bank.comm w.bank.time ≡ true → w.made.comm_past ≤ w.bank.time
     → Tie kind.Comm (after_enter kind.Comm w)
@@ -251,7 +230,7 @@ comm_later v u l t = record {
 pub comm_law : HandlerLaw kind.Comm
 comm_law = record {
   called = λ w i s. comm_called w i.rest.ties i.told i.unheld (comm_shut w.core.comm_at w.core.drive.turn.at i.shut) s;
-  asked = λ w i. (tt, tt);
+  asked = λ w i. (tt, comm_asked w i);
   entered = λ w i. comm_entered w i.rest.ties i.unheld (comm_shut w.core.comm_at w.core.drive.turn.at i.shut) i.due i.past.comm;
   beside = λ w i. elim [
     | kind.Comm ↦ λ ne. absurd (ne refl)

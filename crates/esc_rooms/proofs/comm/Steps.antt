@@ -21,7 +21,7 @@ use Rattle.esc_core.specs.Stepped.{Stepped, goes_on}
 use Rattle.esc_core.specs.Firmware.{comm_left, tick_need}
 use Rattle.esc_laws.specs.Saves.{advance_of}
 use Rattle.esc_laws.specs.Calls.{turns_in, postponed_at, low_is_on, HasTurned, HasCaughtUp}
-use Rattle.esc_rooms.specs.DriveTied.{DriveView, LowTied, TimerKept, Resumes, Resumed, HasActed, OnOrHeld, low_on}
+use Rattle.esc_rooms.specs.DriveTied.{DriveView, LowTied, TimerKept, Resumes, Resumed, HasActed, OnOrHeld, OnOrLate, low_on}
 use Rattle.esc_rooms.specs.World.{World, so_far}
 use Rattle.commutation.specs.Turns.{six_of}
 use Rattle.commutation.specs.Drive.{turns_at, rests_at}
@@ -267,9 +267,9 @@ comm_return_preserves at w outer i =
     has_done told to (inr r) = inr (record { none = r.none; not_due = r.not_due; postponed = r.postponed; low = low_same told ∙ r.low })
 
     on_or_late : ((turns_in w.back ≡ 1) × OnOrHeld (drive_seen w)) ⊎ Resumed (drive_seen w)
-        → ((low_on (drive_seen w) ≡ true) × (w.core.drive.postponed ≡ false)) ⊎ (w.core.drive.postponed ≡ true)
+        → OnOrLate (drive_seen w)
     on_or_late (inl (one, inl o)) = inl o
-    on_or_late (inl (one, inr h)) = inr h.0
+    on_or_late (inl (one, inr h)) = inr (h.0, h.1)
     on_or_late (inr r) = inl (r.low, r.prompt)
 
     keeps_timer : (at : TickAt) → 8 < tick_need at → TimerKept view → LowTied at view

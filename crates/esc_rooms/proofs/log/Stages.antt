@@ -2,7 +2,7 @@
 use Rattle.std.proofs.Common.{◌≡◌, ◌≢◌, ◌<◌, ℕ, Bool, true, false, ◌&&◌, ◌==◌, if◌then◌else◌, List, [], ◌∷◌, ◌++◌, reverse, Some, None, ◌⊎◌, refl, sym, ◌∙◌, ap, subst, arith, All, inl, inr, append-nil, append_assoc}
 use Rattle.std.proofs.lemmas.Bool.{cases_Bool}
 use Rattle.std.proofs.lemmas.Bool.Decides.{nat_tests}
-use Rattle.std.proofs.lemmas.List.Elements.{All-nil, All-cons}
+use Rattle.std.proofs.lemmas.List.Elements.{All-nil, All-cons, All-tail}
 use Rattle.esc_base.specs.declared.kind.Kind.{Kind}
 use Rattle.esc_base.specs.declared.kind.Kind.TheVariants as kind
 use Rattle.esc_base.specs.declared.event.Event.{Event}
@@ -27,8 +27,9 @@ use Rattle.esc_laws.specs.Place.{Place, next, place}
 use Rattle.gate_driver.specs.DeadSafe.{high_at, low_at, IsSafe, IsTied}
 use Rattle.gate_driver.proofs.OffTimes.{gates_same}
 use Rattle.gate_driver.proofs.DeadTime.{said_after}
-use Rattle.esc_laws.specs.Nested.{IsAboveAll, IsBuilt, IsAsked}
-use Rattle.esc_laws.specs.Steps.{opening, is_entry, ReturnsLast}
+use Rattle.esc_laws.specs.Asked.{IsAsked}
+use Rattle.esc_laws.specs.Nested.{IsAboveAll, IsBuilt}
+use Rattle.esc_laws.specs.Steps.{opening, is_entry, is_gate, ReturnsLast, GateFirst}
 use Rattle.esc_laws.specs.Saves.{is_save}
 use Rattle.esc_rooms.specs.Tied.{WordTold}
 use Rattle.esc_laws.specs.Looks.{Made, made_next, placed}
@@ -102,6 +103,19 @@ owned_no_entry n k e = refl
 owned_save : (n : Note) (k : Kind) → owner n ≡ Some k → is_save n ≡ true → k ≡ kind.Main
 owned_save (note.Saved t r) k e is = (let z : Some kind.Main ≡ Some k = e in cc)
 owned_save n k e is = cc
+
+owned_no_gate : (n : Note) (k : Kind) → owner n ≡ Some k → is_gate n ≡ false
+owned_no_gate (note.Gate t hi lo) k e = absurd (let z : None ≡ Some k = e in cc)
+owned_no_gate n k e = refl
+
+-- a step's own notes have no G
+none_gate : (k : Kind) (w : World) (notes : List Note) → AllFit k w notes → All (λ m. is_gate m ≡ false) notes
+none_gate k w [] f = All-nil (λ m. is_gate m ≡ false)
+none_gate k w (n ∷ notes) f = All-cons (λ m. is_gate m ≡ false) n notes (owned_no_gate n k f.0.owned) (none_gate k (noted w n) notes f.1)
+
+first_of_none : (notes : List Note) → All (λ m. is_gate m ≡ false) notes → GateFirst notes
+first_of_none [] a = tt
+first_of_none (n ∷ notes) a = All-tail (λ m. is_gate m ≡ false) n notes a
 
 all_own : (k : Kind) (w : World) (notes : List Note) → AllFit k w notes → All (IsOwn k w.bank.time) notes
 all_own k w [] f = All-nil (IsOwn k w.bank.time)
@@ -210,6 +224,7 @@ pub step_made : (k : Kind) (answers : List Answer) (loaded : Loaded) (nest : Nes
     × All (IsOwn k b.time) (all_notes b k (kind_step k answers (counted_down c b) b))
     × ReturnsLast k (all_notes b k (kind_step k answers (counted_down c b) b))
     × DriveKeeps k (counted (world_of loaded nest trace c b made rest)) (kind_step k answers (counted_down c b) b)
+    × GateFirst (all_notes b k (kind_step k answers (counted_down c b) b))
 step_made k answers loaded nest trace c b made rest outer i past above alone left given =
     let s : Stepped = kind_step k answers (counted_down c b) b in
     let after : Bank = accessed b s.access in
@@ -230,6 +245,7 @@ step_made k answers loaded nest trace c b made rest outer i past above alone lef
         all_own k w (step_notes b.time k s) (plain.fits (told_same k w s plain.gates was same)),
         returns_last k outer w s on (told_same k w s plain.gates was same) plain,
         plain.gates.drive,
+        first_of_none (step_notes b.time k s) (none_gate k w (step_notes b.time k s) (plain.fits (told_same k w s plain.gates was same))),
       )
       | inr other ↦ (
           let told : StepKeeps k outer (gated w after) s =
@@ -256,6 +272,7 @@ step_made k answers loaded nest trace c b made rest outer i past above alone lef
             All-cons (IsOwn k b.time) g (step_notes b.time k s) (refl, refl, λ e. cc) (all_own k (gated w after) (step_notes b.time k s) (told.fits by.1)),
             returns_last k outer (gated w after) s on by.1 told,
             plain.gates.drive,
+            none_gate k (gated w after) (step_notes b.time k s) (told.fits by.1),
           ))
     ]
 
@@ -279,7 +296,7 @@ enter_stack k p t = refl
 
 -- an I fits where the kind is asked for and above all open ones
 enter_fits : (k : Kind) (w : World) (before : List Note) (stack : List Kind) → Tie kind.Cmp w → reverse before ≡ w.back → (place before).stack ≡ stack
-    → IsBuilt k × IsAsked k w.back w.bank.time → IsAboveAll w.nest stack (kind_number k) → NoteFits w.loaded w.nest w.trace before (enters k w.bank.time)
+    → IsBuilt k × IsAsked w.loaded w.trace (so_far w) w.back w.bank.time k → IsAboveAll w.nest stack (kind_number k) → NoteFits w.loaded w.nest w.trace before (enters k w.bank.time)
 enter_fits k w before stack few e open_is asked above =
     note_fits w before (enters k w.bank.time) e (record {
       laws = elim [
@@ -288,8 +305,8 @@ enter_fits k w before stack few e open_is asked above =
           rw (kind_of-number k) asked.0,
           subst (λ (st : List Kind). IsAboveAll w.nest st (kind_number k))
               (sym (ap (λ (p : Place). p.stack) (ap placed (sym e) ∙ placed-is before) ∙ open_is)) above,
-          rw (kind_of-number k) asked.1,
         )
+        | owed.Asks ↦ rw (kind_of-number k) asked.1
         | l ↦ tt
       ];
       waits = tt;

@@ -1,5 +1,5 @@
 -- An entry and an own step carry the log on.
-use Rattle.std.proofs.Common.{◌≡◌, ◌≢◌, ◌≤◌, ◌<◌, ◌+◌, ℕ, Bool, true, false, not, if◌then◌else◌, List, [], ◌∷◌, ◌++◌, reverse, Some, None, refl, sym, ◌∙◌, subst, arith, All, ◌⊎◌, inl, inr}
+use Rattle.std.proofs.Common.{◌≡◌, ◌≢◌, ◌≤◌, ◌<◌, ◌+◌, ℕ, Bool, true, false, not, if◌then◌else◌, List, [], ◌∷◌, ◌++◌, length, reverse, Some, None, refl, sym, ◌∙◌, subst, arith, All, ◌⊎◌, inl, inr}
 use Rattle.std.proofs.lemmas.Bool.{not-true, and_parts}
 use Rattle.std.proofs.lemmas.List.Elements.{All-nil, All-cons, All-weaker}
 use Rattle.esc_base.specs.declared.kind.Kind.{Kind}
@@ -28,7 +28,7 @@ use Rattle.esc_core.specs.Firmware.{left_of, need_of, entered_core, kind_step, c
 use Rattle.esc_core.proofs.Bounds.{Bounds, need_some, mask_down, goes_bounds}
 use Rattle.esc_laws.specs.Place.{Place}
 use Rattle.esc_laws.specs.Seen.{sees, sees_at}
-use Rattle.esc_laws.specs.Steps.{Turned, opening, notes_in, journal, after, uses, is_of, is_entry, ReturnsLast, own_steps, steps_since, entered_at, called, StepFits, Below}
+use Rattle.esc_laws.specs.Steps.{Turned, opening, notes_in, journal, after, uses, is_of, is_entry, is_gate, ReturnsLast, GateFirst, most_notes, own_steps, steps_since, entered_at, called, StepFits, Below}
 use Rattle.esc_rooms.specs.Tied.{Keeps, WordTold}
 use Rattle.esc_laws.specs.Looks.{made}
 use Rattle.esc_rooms.specs.World.{world, enters, all_notes, open_left}
@@ -91,11 +91,12 @@ entry_fits loaded nest cost trace c b stack log k l down chosen calls = record {
   entry = λ e. refl;
   own = λ e. cc;
   reached = λ e. cc;
-  some = λ e. cc;
   few = λ e. cc;
   at_tick = All-cons (λ n. time_of n ≡ b.time) (enters k b.time) [] refl (All-nil (λ n. time_of n ≡ b.time));
   no_entry = λ e. cc;
   returns = λ e. cc;
+  gate_first = All-nil (λ m. is_gate m ≡ false);
+  six = omega arith;
   patient = calls;
 }
 
@@ -212,9 +213,9 @@ own_owes c c' outer log k t notes v owes less others j o = elim (same_kind j k) 
 own_fits : (loaded : Loaded) (nest : Nest) (cost : ℕ) (trace : List Event) (c : Brain) (b : Bank) (outer : List Kind) (log : List Turned) (k : Kind)
     (notes : List Note)
     → Logged loaded nest cost trace b.time c b (k ∷ outer) log
-    → All (IsOwn k b.time) notes → ReturnsLast k notes → ((j : Kind) → called loaded nest trace (log ++ own_of b.time k notes ∷ []) j ≤ 8)
+    → All (IsOwn k b.time) notes → ReturnsLast k notes → GateFirst notes → length notes ≤ most_notes → ((j : Kind) → called loaded nest trace (log ++ own_of b.time k notes ∷ []) j ≤ 8)
     → StepFits loaded nest cost trace log (own_of b.time k notes)
-own_fits loaded nest cost trace c b outer log k notes l own back calls =
+own_fits loaded nest cost trace c b outer log k notes l own back first short calls =
     let inside : is_open (k ∷ outer) k ≡ true = self_open k outer in
     let at : b.time ≡ after cost trace log = l.at_next (λ e. cc) in
     record {
@@ -226,11 +227,12 @@ own_fits loaded nest cost trace c b outer log k notes l own back calls =
       entry = λ e. cc;
       own = λ e. rw (sym l.marks.stack_is) refl;
       reached = λ e. rw (since-push k log (own_of b.time k notes)) (at ∙ l.reached k inside);
-      some = λ e. rw (own-push k log (own_of b.time k notes), of_self k) (omega arith);
       few = λ e. rw (own-push k log (own_of b.time k notes), of_self k) (let a = l.owes k inside in let left = l.keeps.live k inside in omega arith);
       at_tick = All-weaker (IsOwn k b.time) (λ n. time_of n ≡ b.time) (λ n p. p.0) notes own;
       no_entry = λ e. All-weaker (IsOwn k b.time) (λ n. is_entry n ≡ false) (λ n p. p.1) notes own;
       returns = λ e. back;
+      gate_first = first;
+      six = short;
       patient = calls;
     }
 
@@ -240,10 +242,10 @@ stepped_by k answers c b = kind_step k answers (counted_down c b) b
 pub own_turn : (loaded : Loaded) (nest : Nest) (cost : ℕ) (trace : List Event) (c : Brain) (b : Bank) (outer : List Kind) (log : List Turned) (k : Kind)
     (answers : List Answer)
     → 1 ≤ cost → Given k (counted_down c b) answers → Logged loaded nest cost trace b.time c b (k ∷ outer) log
-    → (b.masked ≡ false → next_entry nest (k ∷ outer) (due_now (waits_of c) b) ≡ None)
+    → (b.masked ≡ false → next_entry nest (k ∷ outer) (due_now (waits_of c) b) ≡ None) → length (all_notes b k (stepped_by k answers c b)) ≤ most_notes
     → Logged loaded nest cost trace (b.time + cost) (stepped_by k answers c b).core (accessed b (stepped_by k answers c b).access)
     (open_left k outer (stepped_by k answers c b)) (log ++ own_of b.time k (all_notes b k (stepped_by k answers c b)) ∷ [])
-own_turn loaded nest cost trace c b outer log k answers some given l none =
+own_turn loaded nest cost trace c b outer log k answers some given l none short =
     let s : Stepped = stepped_by k answers c b in
     let b' : Bank = accessed b s.access in
     let notes : List Note = all_notes b k s in
@@ -270,7 +272,7 @@ own_turn loaded nest cost trace c b outer log k answers some given l none =
       reached = λ j o. reached_on cost trace log (own_of b.time k notes) j refl (l.at_next (λ e. cc)) (l.reached j (left_open s.over k j outer o));
       reached_by = λ j o t below.
           by_on cost trace log (own_of b.time k notes) j t refl (l.at_next (λ e. cc)) (l.reached j (left_open s.over k j outer o)) below;
-      fits = own_fits loaded nest cost trace c b outer log k notes l step.1 step.2;
+      fits = own_fits loaded nest cost trace c b outer log k notes l step.1 step.2 step.4 short;
       drive = own_chops loaded nest trace c b s log k l.gates
           (subst (λ (ns : List Note). WordTold s.core b' (reverse (opening loaded ++ ns))) (sym (notes-push log (own_of b.time k notes))) step.0.gates)
           (l.ties kind.Comm).switches.sector_is step.3;

@@ -22,7 +22,8 @@ use Rattle.commutation.specs.Drive.{rests_at, turns_at}
 use Rattle.gate_driver.specs.declared.all_off.AllOff.TheVariants as off
 use Rattle.esc_core.specs.declared.state.TickAt.TheVariants as tick
 use Rattle.esc_core.specs.Drive.{is_stuck}
-use Rattle.esc_core.specs.Tick.{number_in, marks_in, number_step, drive_after, outcome_note, ticked}
+use Rattle.esc_core.specs.Tick.{number_in, marks_in, number_step, outcome_note, ticked}
+use Rattle.esc_core.specs.Drive.{drive_after}
 use Rattle.esc_laws.specs.Calls.{pwm_entered_at}
 use Rattle.esc_rooms.proofs.shared.Facts.{above_zero}
 use Rattle.esc_rooms.specs.Tied.{TickTied}

@@ -71,7 +71,10 @@ tick_law = record {
   called = λ w i s.
       tick_due (waits_of w.core) w.bank
       (rw ((i.rest.ties kind.Tick).1, i.rest.ground.control.ties.number_is) (ltb-true (number_at w.back) (w.bank.time / control_period) s));
-  asked = λ w i. (tt, tt);
+  asked = λ w i. (
+    tt,
+    rw (sym i.rest.ground.control.ties.number_is, ← (i.rest.ties kind.Tick).1) (due_tick (waits_of w.core) w.bank (i.rest.ties kind.Tick).2 i.due),
+  );
   entered = λ w i. (
     (due_tick (waits_of w.core) w.bank (i.rest.ties kind.Tick).2 i.due, refl),
     (i.rest.ties kind.Tick).1,
