@@ -90,7 +90,8 @@ module _ (cost : ℕ) (trace : List Event) (log : List Turned) (m d s until t : 
     pub sector : (view before).sector ≡ s
     pub low_free : at_leg (view before).hi_free (low_of s) ≤ pwm_period * m + 39
 
-  inside : (w : ℕ) (before rest : List Turned) → log ≡ before ++ rest → AllBy w before → FirstAbove w rest → pwm_period * m ≤ w + 1 → w < pwm_period * m + pwm_period
+  inside : (w : ℕ) (before rest : List Turned) → log ≡ before ++ rest → AllBy w before → FirstAbove w rest → pwm_period * m ≤ w + 1
+      → w < pwm_period * m + pwm_period
       → Inside w before
   inside w before rest e b f lo hi = named (subst (λ (v : View). (v.demand ≡ d) × (v.sector ≡ s) × (at_leg v.hi_free (low_of s) ≤ pwm_period * m + 39))
       (at_split w log before rest e b f) (u.demand w (omega arith) hi, u.sector w lo hi, u.low_free w lo hi))
@@ -107,7 +108,8 @@ module _ (cost : ℕ) (trace : List Event) (log : List Turned) (m d s until t : 
   open_passes before z y none o a b c f = let r = (none y a c (free_in y b f)).comm in cc
 
   -- so it is shut by then
-  shut_by : (before : List Turned) (z : ℕ) → NonePassed cost trace before z → pwm_period * m + 39 * cost ≤ z → Before before → (v : Bool) → (view before).comm ≡ v
+  shut_by : (before : List Turned) (z : ℕ) → NonePassed cost trace before z → pwm_period * m + 39 * cost ≤ z → Before before → (v : Bool)
+      → (view before).comm ≡ v
       → (view before).comm ≡ false
   shut_by before z none le b false e = e
   shut_by before z none le b true e =
@@ -201,9 +203,11 @@ module _ (cost : ℕ) (trace : List Event) (log : List Turned) (m d s until t : 
         let x : after cost trace (before ++ e ∷ []) < pwm_period * m + cost =
         rw (after-push cost trace before e) (elim (cases_lt (e.tick + cost) (pwm_period * m - chopping_steps * cost)) [
           | inl q ↦ (let a : free trace (e.tick + cost) ≤ pwm_period * m - chopping_steps * cost =
-              free_low trace (pwm_period * m - chopping_steps * cost) (pwm_period * m + (pwm_period - 1)) (e.tick + cost) u.stalls (omega arith) (omega arith) in omega arith)
+              free_low trace (pwm_period * m - chopping_steps * cost) (pwm_period * m + (pwm_period - 1)) (e.tick + cost) u.stalls (omega arith) (omega arith)
+              in omega arith)
           | inr g ↦ (let a : free trace (e.tick + cost) ≡ e.tick + cost =
-              free_same trace (pwm_period * m - chopping_steps * cost) (pwm_period * m + (pwm_period - 1)) (e.tick + cost) u.stalls g (omega arith) in omega arith)
+              free_same trace (pwm_period * m - chopping_steps * cost) (pwm_period * m + (pwm_period - 1)) (e.tick + cost) u.stalls g (omega arith) in omega
+              arith)
         ]) in
         record { c = 24; left = λ o. (omega arith, omega arith, omega arith); soon = omega arith })
     | inr ge ↦ (
@@ -271,7 +275,8 @@ module _ (cost : ℕ) (trace : List Event) (log : List Turned) (m d s until t : 
           let off : is_on (view (before ++ e ∷ [])).lo (low_of s) ≡ false = rw same i.off in
           let n = s'.inside in let n' = s'.inside_after in
           let c1 = low_calls d s (pwm_period * m + 39) e.tick (view before) u.drives n.demand n.sector i.off n.low_free (omega arith) i.shut in
-          let c2 = low_calls d s (pwm_period * m + 39) e.tick (view (before ++ e ∷ [])) u.drives n'.demand n'.sector off n'.low_free (omega arith) (cl.shut i.shut) in
+          let c2 = low_calls d s (pwm_period * m + 39) e.tick (view (before ++ e ∷ [])) u.drives n'.demand n'.sector off n'.low_free (omega arith)
+          (cl.shut i.shut) in
           let more : (view (before ++ e ∷ [])).comm_waits ≡ (view before).comm_waits + 1 = waits_after before e
           ∙ both_called (comm_called (view before) e.tick) (comm_called (view (before ++ e ∷ [])) e.tick) (view before).comm_waits c1 c2 in
           let pat = p.comm_patient in
