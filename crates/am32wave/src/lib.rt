@@ -1,4 +1,4 @@
-//! The proved part of `am32wave`: a journal of `am32sim` as a wave, or in words.
+//! The proved part of `am32wave`: a journal of `am32sim` as a wave, a page, a still picture, or in words.
 #![tactic(auto)]
 
 mod ahead;
@@ -21,8 +21,6 @@ mod sentence;
 mod status;
 mod still;
 mod tally;
-#[cfg(test)]
-mod tests;
 mod view;
 mod wire;
 
@@ -30,4 +28,4 @@ pub use journal::Refusal;
 pub use laws::{gates_follow_notes, levels_follow_events, page_has_no_markup, page_tells_journal};
 pub use run::{Form, traced_main, wave_main};
 pub use status::{Status, status_text};
-pub use view::{Plan, Stretch, View};
+pub use view::{Stretch, View};

@@ -65,23 +65,23 @@ pub const BEFORE_SPAN: &str = r##"</text>
 /// What stands before the changes: the lines of the quarters, and each row low.
 pub const BEFORE_ROWS: &str = r##"</text>
 <svg x="130" y="0" width="810" height="430" fill="inherit">
-<use href="#l" y="20"/>
-<use href="#l" y="40"/>
-<use href="#l" y="60"/>
-<use href="#l" y="100"/>
-<use href="#l" y="120"/>
-<use href="#l" y="140"/>
-<use href="#l" y="160"/>
-<use href="#l" y="180"/>
-<use href="#l" y="200"/>
-<use href="#l" y="220"/>
-<use href="#l" y="280"/>
-<use href="#l" y="300"/>
-<use href="#l" y="320"/>
-<use href="#l" y="340"/>
-<use href="#l" y="360"/>
-<use href="#l" y="380"/>
-<use href="#l" y="400"/>
+<use href="#l" x="-1%" y="20"/>
+<use href="#l" x="-1%" y="40"/>
+<use href="#l" x="-1%" y="60"/>
+<use href="#l" x="-1%" y="100"/>
+<use href="#l" x="-1%" y="120"/>
+<use href="#l" x="-1%" y="140"/>
+<use href="#l" x="-1%" y="160"/>
+<use href="#l" x="-1%" y="180"/>
+<use href="#l" x="-1%" y="200"/>
+<use href="#l" x="-1%" y="220"/>
+<use href="#l" x="-1%" y="280"/>
+<use href="#l" x="-1%" y="300"/>
+<use href="#l" x="-1%" y="320"/>
+<use href="#l" x="-1%" y="340"/>
+<use href="#l" x="-1%" y="360"/>
+<use href="#l" x="-1%" y="380"/>
+<use href="#l" x="-1%" y="400"/>
 <line class="g" x1="25%" x2="25%" y1="20" y2="430"/>
 <line class="g" x1="50%" x2="50%" y1="20" y2="430"/>
 <line class="g" x1="75%" x2="75%" y1="20" y2="430"/>

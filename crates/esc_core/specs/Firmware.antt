@@ -33,7 +33,7 @@ use Rattle.esc_core.specs.Drive.{first_drive}
 use Rattle.fourway_packet.specs.Queue.{Queue}
 use Rattle.esc_core.specs.Line.{first_line, line_waits}
 use Rattle.esc_core.specs.Brain.{Brain}
-use Rattle.esc_core.specs.Stepped.{Stepped, goes_back}
+use Rattle.esc_core.specs.Stepped.{Stepped}
 use Rattle.esc_core.specs.Cap.{cap_step}
 use Rattle.esc_core.specs.Tick.{tick_step}
 use Rattle.esc_core.specs.Pwm.{pwm_step}
@@ -74,11 +74,11 @@ pwm_left pwm.Back = 1
 
 abbrev pub cmp_left : CmpAt → ℕ
 cmp_left cmp.Shut = 0
-cmp_left cmp.Raise = 6
-cmp_left cmp.Look = 5
+cmp_left cmp.Raise = 7
+cmp_left cmp.Look = 6
+cmp_left cmp.Read = 5
 cmp_left cmp.Ack = 4
 cmp_left cmp.Arm = 3
-cmp_left cmp.Enable = 3
 cmp_left cmp.Commute = 3
 cmp_left cmp.Lower = 2
 cmp_left cmp.Back = 1
@@ -141,10 +141,10 @@ pwm_need pwm.Back = 9
 pwm_need pwm.Shut = 9
 
 abbrev pub cmp_need : CmpAt → ℕ
-cmp_need cmp.Look = 4
+cmp_need cmp.Look = 5
+cmp_need cmp.Read = 4
 cmp_need cmp.Ack = 3
 cmp_need cmp.Arm = 2
-cmp_need cmp.Enable = 2
 cmp_need cmp.Commute = 2
 cmp_need cmp.Lower = 1
 cmp_need cmp.Raise = 9

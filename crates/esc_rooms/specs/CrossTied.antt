@@ -1,7 +1,7 @@
--- Machinery, and no law: how a run is proved to be legal. Nothing that `Legal` means rests on this.
 -- What ties the search for a crossing to what the notes and the comparator say, by where CMP, COMM and TICK stand. Each fact
 -- holds between any two steps, whatever is open.
 use Rattle.std.specs.Prelude.{◌≡◌, ◌<◌, ◌≤◌, ◌+◌, ◌⊎◌, ℕ, Bool, true, false, not, ◌||◌, if◌then◌else◌, nat_le, Option, Some, None}
+use Rattle.esc_base.specs.Times.{filter_time}
 use Rattle.esc_base.specs.Numbers.{as_tick}
 use Rattle.zero_cross.specs.declared.phase.Phase.{Phase}
 use Rattle.zero_cross.specs.declared.phase.Phase.TheVariants as phase
@@ -71,7 +71,7 @@ HasZ turn = ⊥
 -- changes since
 pub record Filters (changed : Bool) (end since blanked past : ℕ) : Type 0 where
   pub begun : ℕ
-  pub end_is : end ≡ begun + 24
+  pub end_is : end ≡ begun + filter_time
   pub below : begun < past
   pub bit : changed ≡ not (nat_le since begun)
   pub after : blanked ≤ begun
@@ -109,14 +109,19 @@ Waits (phase.Blank end) = Unit {0}
 Waits (phase.Filter end) = Unit {0}
 Waits p = ⊥
 
+-- blanking is over by tick u
+abbrev pub IsBlanked : Phase → ℕ → Type 0
+IsBlanked (phase.Blank end) u = end.0 ≤ u
+IsBlanked p u = ⊥
+
 -- by where CMP stands
 abbrev pub RegsTied : CmpAt → Phase → Option ℕ → Bool → ℕ → Type 0
 RegsTied cmp.Shut p timer enabled time = Armed p timer enabled
 RegsTied cmp.Raise p timer enabled time = Called p timer time × (enabled ≡ false)
 RegsTied cmp.Look p timer enabled time = Called p timer time × (enabled ≡ false)
+RegsTied cmp.Read p timer enabled time = IsBlanked p time × (enabled ≡ true)
 RegsTied cmp.Ack p timer enabled time = MayFilter p time
 RegsTied cmp.Arm p timer enabled time = Waits p
-RegsTied cmp.Enable p timer enabled time = p ≡ phase.Watch
 RegsTied cmp.Commute p timer enabled time = (p ≡ phase.Done) × (timer ≡ None) × (enabled ≡ false)
 RegsTied cmp.Lower p timer enabled time = Armed p timer enabled
 RegsTied cmp.Back p timer enabled time = Armed p timer enabled
@@ -178,8 +183,8 @@ to_come_after phase.Done armed changed expected = 0
 abbrev pub future : CmpAt → Phase → Bool → Bool → Bool → ℕ
 future cmp.Raise p armed changed expected = to_come_after p armed changed expected
 future cmp.Look p armed changed expected = to_come_after p armed changed expected
+future cmp.Read p armed changed expected = if expected then 1 else if armed || changed then 3 else 0
 future cmp.Ack p armed changed expected = if expected then 1 else 2
-future cmp.Enable p armed changed expected = if armed then (if expected then 2 else 3) else 0
 future cmp.Commute p armed changed expected = 0
 future cmp.Shut p armed changed expected = to_come p armed changed expected
 future cmp.Arm p armed changed expected = to_come p armed changed expected
@@ -194,25 +199,20 @@ is_shut at = false
 
 -- a filter that a level which is steady from tick i on will pass, and that ends by tick u
 abbrev pub Passes : Phase → ℕ → ℕ → Type 0
-Passes (phase.Filter end) i u = (end.0 ≤ u) × (i + 24 ≤ end.0)
+Passes (phase.Filter end) i u = (end.0 ≤ u) × (i + filter_time ≤ end.0)
 Passes p i u = ⊥
-
--- blanking is over by tick u
-abbrev pub IsBlanked : Phase → ℕ → Type 0
-IsBlanked (phase.Blank end) u = end.0 ≤ u
-IsBlanked p u = ⊥
 
 -- the first one, which was entered at i, by whether the level has been steady since
 abbrev pub FirstTied : CmpAt → Phase → Bool → ℕ → ℕ → ℕ → Type 0
 FirstTied cmp.Shut p steady i time past = ⊥
 FirstTied cmp.Raise p steady i time past = IsBlanked p time
 FirstTied cmp.Look p steady i time past = IsBlanked p time
+FirstTied cmp.Read p steady i time past = Unit {0}
 FirstTied cmp.Ack p steady i time past = Unit {0}
-FirstTied cmp.Enable p steady i time past = steady ≡ false
 FirstTied cmp.Commute p steady i time past = steady ≡ false
-FirstTied cmp.Arm p steady i time past = steady ≡ true → Passes p i (past + 24)
-FirstTied cmp.Lower p steady i time past = steady ≡ true → Passes p i (past + 24)
-FirstTied cmp.Back p steady i time past = steady ≡ true → Passes p i (past + 24)
+FirstTied cmp.Arm p steady i time past = steady ≡ true → Passes p i (past + filter_time)
+FirstTied cmp.Lower p steady i time past = steady ≡ true → Passes p i (past + filter_time)
+FirstTied cmp.Back p steady i time past = steady ≡ true → Passes p i (past + filter_time)
 
 -- the second one
 abbrev pub SecondTied : CmpAt → Phase → Bool → ℕ → Bool → ℕ → Type 0

@@ -35,7 +35,7 @@ most kind.Main = 8
 most kind.Uart = 8
 most kind.Tick = 48
 most kind.Cap = 64
-most kind.Cmp = 12
+most kind.Cmp = 7
 most kind.Pwm = 12
 most kind.Comm = 24
 

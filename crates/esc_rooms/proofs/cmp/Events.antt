@@ -44,17 +44,6 @@ may_later phase.Watch t u l c = c
 may_later (phase.Filter end) t u l c = c
 may_later phase.Done t u l c = c
 
-regs_later : (at : CmpAt) (p : Phase) (timer : Option ℕ) (enabled : Bool) (t u : ℕ) → t ≤ u → RegsTied at p timer enabled t → RegsTied at p timer enabled u
-regs_later cmp.Raise p timer enabled t u l c = (called_later p timer t u l c.0, c.1)
-regs_later cmp.Look p timer enabled t u l c = (called_later p timer t u l c.0, c.1)
-regs_later cmp.Ack p timer enabled t u l c = may_later p t u l c
-regs_later cmp.Shut p timer enabled t u l c = c
-regs_later cmp.Arm p timer enabled t u l c = c
-regs_later cmp.Enable p timer enabled t u l c = c
-regs_later cmp.Commute p timer enabled t u l c = c
-regs_later cmp.Lower p timer enabled t u l c = c
-regs_later cmp.Back p timer enabled t u l c = c
-
 blank_later : (p : Phase) (t u : ℕ) → t ≤ u → IsBlanked p t → IsBlanked p u
 blank_later phase.Off t u l b = b
 blank_later (phase.Blank end) t u l b = (let a : end.0 ≤ t = b in omega arith)
@@ -62,13 +51,24 @@ blank_later phase.Watch t u l b = b
 blank_later (phase.Filter end) t u l b = b
 blank_later phase.Done t u l b = b
 
+regs_later : (at : CmpAt) (p : Phase) (timer : Option ℕ) (enabled : Bool) (t u : ℕ) → t ≤ u → RegsTied at p timer enabled t → RegsTied at p timer enabled u
+regs_later cmp.Raise p timer enabled t u l c = (called_later p timer t u l c.0, c.1)
+regs_later cmp.Look p timer enabled t u l c = (called_later p timer t u l c.0, c.1)
+regs_later cmp.Read p timer enabled t u l c = (blank_later p t u l c.0, c.1)
+regs_later cmp.Ack p timer enabled t u l c = may_later p t u l c
+regs_later cmp.Shut p timer enabled t u l c = c
+regs_later cmp.Arm p timer enabled t u l c = c
+regs_later cmp.Commute p timer enabled t u l c = c
+regs_later cmp.Lower p timer enabled t u l c = c
+regs_later cmp.Back p timer enabled t u l c = c
+
 first_later : (at : CmpAt) (p : Phase) (steady : Bool) (i t u past : ℕ) → t ≤ u → FirstTied at p steady i t past → FirstTied at p steady i u past
 first_later cmp.Raise p steady i t u past l f = blank_later p t u l f
 first_later cmp.Look p steady i t u past l f = blank_later p t u l f
 first_later cmp.Shut p steady i t u past l f = f
+first_later cmp.Read p steady i t u past l f = f
 first_later cmp.Ack p steady i t u past l f = f
 first_later cmp.Arm p steady i t u past l f = f
-first_later cmp.Enable p steady i t u past l f = f
 first_later cmp.Commute p steady i t u past l f = f
 first_later cmp.Lower p steady i t u past l f = f
 first_later cmp.Back p steady i t u past l f = f
@@ -77,9 +77,9 @@ second_later : (at : CmpAt) (p : Phase) (steady : Bool) (i : ℕ) (z : Bool) (t 
 second_later cmp.Raise p steady i z t u l f = λ e. passes_more p i t u l (f e)
 second_later cmp.Look p steady i z t u l f = λ e. passes_more p i t u l (f e)
 second_later cmp.Shut p steady i z t u l f = f
+second_later cmp.Read p steady i z t u l f = f
 second_later cmp.Ack p steady i z t u l f = f
 second_later cmp.Arm p steady i z t u l f = f
-second_later cmp.Enable p steady i z t u l f = f
 second_later cmp.Commute p steady i z t u l f = f
 second_later cmp.Lower p steady i z t u l f = f
 second_later cmp.Back p steady i z t u l f = f
@@ -143,11 +143,12 @@ to_come_after_most phase.Done armed changed well = omega arith
 future_most : (at : CmpAt) (p : Phase) (armed changed well : Bool) → future at p armed changed well ≤ 3
 future_most cmp.Raise p armed changed well = to_come_after_most p armed changed well
 future_most cmp.Look p armed changed well = to_come_after_most p armed changed well
+future_most cmp.Read p armed changed true = omega arith
+future_most cmp.Read p true changed false = omega arith
+future_most cmp.Read p false true false = omega arith
+future_most cmp.Read p false false false = omega arith
 future_most cmp.Ack p armed changed true = omega arith
 future_most cmp.Ack p armed changed false = omega arith
-future_most cmp.Enable p true changed true = omega arith
-future_most cmp.Enable p true changed false = omega arith
-future_most cmp.Enable p false changed well = omega arith
 future_most cmp.Commute p armed changed well = omega arith
 future_most cmp.Shut p armed changed well = to_come_most p armed changed well
 future_most cmp.Arm p armed changed well = to_come_most p armed changed well
@@ -178,7 +179,6 @@ broken expects level i past time l m = by_test (not (differ level expects)) (nat
 
 first_event : (at : CmpAt) (p : Phase) (steady steady' : Bool) (i time past : ℕ) → steady' ≡ false → FirstTied at p steady i time past
     → FirstTied at p steady' i time past
-first_event cmp.Enable p steady steady' i time past b f = b
 first_event cmp.Commute p steady steady' i time past b f = b
 first_event cmp.Arm p steady steady' i time past b f = λ e. absurd (is_false steady' b e)
 first_event cmp.Lower p steady steady' i time past b f = λ e. absurd (is_false steady' b e)
@@ -186,6 +186,7 @@ first_event cmp.Back p steady steady' i time past b f = λ e. absurd (is_false s
 first_event cmp.Shut p steady steady' i time past b f = f
 first_event cmp.Raise p steady steady' i time past b f = f
 first_event cmp.Look p steady steady' i time past b f = f
+first_event cmp.Read p steady steady' i time past b f = f
 first_event cmp.Ack p steady steady' i time past b f = f
 
 second_event : (at : CmpAt) (p : Phase) (steady steady' : Bool) (i : ℕ) (z : Bool) (time : ℕ) → steady' ≡ false → SecondTied at p steady i z time
@@ -195,7 +196,7 @@ second_event cmp.Raise p steady steady' i z time b f = λ e. absurd (is_false st
 second_event cmp.Look p steady steady' i z time b f = λ e. absurd (is_false steady' b e)
 second_event cmp.Ack p steady steady' i z time b f = λ e. absurd (is_false steady' b e)
 second_event cmp.Arm p steady steady' i z time b f = λ e. absurd (is_false steady' b e)
-second_event cmp.Enable p steady steady' i z time b f = λ e. absurd (is_false steady' b e)
+second_event cmp.Read p steady steady' i z time b f = λ e. absurd (is_false steady' b e)
 second_event cmp.Commute p steady steady' i z time b f = λ e. absurd (is_false steady' b e)
 second_event cmp.Lower p steady steady' i z time b f = λ e. absurd (is_false steady' b e)
 second_event cmp.Back p steady steady' i z time b f = λ e. absurd (is_false steady' b e)
