@@ -4,12 +4,12 @@
 #[cfg(test)]
 mod captures;
 #[cfg(test)]
+mod pages;
+#[cfg(test)]
 mod pipe;
 #[cfg(test)]
 mod scripts;
 #[cfg(test)]
 mod wave_runs;
-#[cfg(test)]
-mod pages;
 #[cfg(test)]
 mod waves;

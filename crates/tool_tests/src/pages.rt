@@ -28,7 +28,8 @@ fn page_data(alloc: Global, from: u32, to: u32) -> Result<String, Fail> {
 #[test]
 fn a_page_has_each_line_and_its_changes(rt: HostRuntime) -> Result<(), Fail> {
     let data = page_data(rt.alloc(), 0, u32::MAX)?;
-    let told = "stretch 0 4294967295\nU 0 1\nI 5 2\n1`\nG 25 1 0\n1A\nQ 50 3\nb011 G\nG 75 0 0\n0A\n";
+    let told =
+        "stretch 0 4294967295\nU 0 1\nI 5 2\n1`\nG 25 1 0\n1A\nQ 50 3\nb011 G\nG 75 0 0\n0A\n";
     assert_eq!(rt; data.as_str(), told);
     Ok(())
 }
@@ -65,7 +66,10 @@ fn a_still_picture_paints_each_change_at_its_place(rt: HostRuntime) -> Result<()
     let form = Form::Drawn(View::Still, Stretch { from: 0, to: 100 });
     let (status, picture) = ran(rt.alloc(), form, JOURNAL, 7, &[], &[])?;
     assert_eq!(rt; status, Status::Done);
-    let painted = behind(picture.as_str(), "y2=\"430\"/>\n<line class=\"g\" x1=\"75%\" x2=\"75%\" y1=\"20\" y2=\"430\"/>\n");
+    let painted = behind(
+        picture.as_str(),
+        "y2=\"430\"/>\n<line class=\"g\" x1=\"75%\" x2=\"75%\" y1=\"20\" y2=\"430\"/>\n",
+    );
     let told = "\
 <use href=\"#h\" x=\"5.000%\" y=\"320\"/>
 <use href=\"#h\" x=\"25.000%\" y=\"120\"/>
@@ -85,16 +89,11 @@ fn a_page_has_the_lines_of_the_trace_too(rt: HostRuntime) -> Result<(), Fail> {
     let mut src = MemSource::new(alloc, b"U 0 1\nZ 40\n", 5, &[])?;
     let mut trace = MemSource::new(alloc, b"30 E 1\n40 C 1\n41 S 3c\n99 END\n", 5, &[])?;
     let mut out = MemSink::new(alloc, 65536, &[])?;
-    let status = traced_main(
-        View::Page,
-        Stretch::WHOLE,
-        &mut src,
-        &mut trace,
-        &mut out,
-    );
+    let status = traced_main(View::Page, Stretch::WHOLE, &mut src, &mut trace, &mut out);
     assert_eq!(rt; status, Status::Done);
     let page = String::from_utf8_lossy(alloc, out.given())?;
-    let told = "stretch 0 4294967295\nU 0 1\n30 E 1\n1e\n40 C 1\n1f\nZ 40\nb00000000000000000000000000000001 H\n41 S 3c\n</script>\n</body>\n</html>\n";
+    let told =
+        "stretch 0 4294967295\nU 0 1\n30 E 1\n1e\n40 C 1\n1f\nZ 40\nb00000000000000000000000000000001 H\n41 S 3c\n</script>\n</body>\n</html>\n";
     assert_eq!(rt; behind(page.as_str(), "id=\"data\">\n"), told);
     Ok(())
 }

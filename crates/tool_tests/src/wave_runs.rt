@@ -35,13 +35,7 @@ pub(crate) fn ran_traced(
     let mut src = MemSource::new(alloc, journal.as_bytes(), piece.max(1), takes)?;
     let mut trace = MemSource::new(alloc, trace.as_bytes(), piece.max(1), trace_takes)?;
     let mut out = MemSink::new(alloc, 65536, puts)?;
-    let status = traced_main(
-        View::Wave,
-        Stretch::WHOLE,
-        &mut src,
-        &mut trace,
-        &mut out,
-    );
+    let status = traced_main(View::Wave, Stretch::WHOLE, &mut src, &mut trace, &mut out);
     Ok((status, String::from_utf8_lossy(alloc, out.given())?))
 }
 
