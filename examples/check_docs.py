@@ -113,6 +113,7 @@ BLOCKS = {
     ("docs/SIGNAL.md", "line     ~~frame~~|"): DRAWN,
     ("docs/TRACE.md", "0 E 1"): Input("am32sim run", cuts=True),
     ("docs/WAVE.md", "./am32sim run examples/first_sectors.trace"): Run(),
+    ("docs/WAVE.md", "stretch 0 4294967295"): Part(command="./am32wave --html < examples/nested.journal"),
     ("docs/WAVE.md", "tick              |"): DRAWN,
     ("docs/WAVE.md", "$ am32wave --explain < examples/nested.journal"): Part(exact=True),
 }
@@ -125,6 +126,7 @@ UNRUN = {
     "docs/": "these need viewers and a browser, and are run by hand",
     "examples/check": "this is it",
     "examples/make.sh": "it writes the samples anew",
+    "examples/pages.sh": "it writes pages for eyes",
 }
 
 # Words between backquotes that are names of other projects.
