@@ -1,5 +1,5 @@
 -- Gates change where a gate word stands, and the levels outside where an event says so.
-use Rattle.std.proofs.Common.{◌≡◌, List, [], ◌∷◌, ◌++◌, Option, Some, None, unwrap_or, refl, ◌∙◌, ap}
+use Rattle.std.proofs.Common.{◌≡◌, List, Option, Some, None, unwrap_or, refl, ◌∙◌, ap}
 use Rattle.std.specs.Option.{option_map}
 use Rattle.esc_base.specs.declared.gate.Leg.{Leg}
 use Rattle.esc_base.specs.Legs.{is_on}

@@ -1,5 +1,5 @@
 -- No byte of a page's data is markup.
-use Rattle.std.proofs.Common.{◌≡◌, ◌<◌, ℕ, zero, suc, ◌+◌, ◌/◌, ◌%◌, ◌^◌, Bool, true, false, ◌==◌, if◌then◌else◌, ltb, List, [], ◌∷◌, ◌++◌, All, codes, decimal, Some, None, refl, sym, ◌∙◌, ap, subst, arith}
+use Rattle.std.proofs.Common.{◌≡◌, ◌<◌, ℕ, zero, suc, ◌+◌, ◌/◌, ◌%◌, ◌^◌, Bool, true, false, ◌==◌, if◌then◌else◌, ltb, List, [], ◌∷◌, ◌++◌, All, codes, decimal, Some, None, refl, sym, subst, arith}
 use Rattle.std.specs.Fmt.{digit_glyph}
 use Rattle.std.specs.Str.Parse.{AllDigits}
 use Rattle.std.proofs.lemmas.Bool.Decides.{nat_tests}
@@ -12,14 +12,12 @@ use Rattle.esc_base.specs.declared.note.Note.{Note}
 use Rattle.esc_base.specs.declared.note.Note.TheVariants as note
 use Rattle.esc_base.specs.Range.{InRange}
 use Rattle.esc_base.specs.Trace.{tick_of}
-use Rattle.trace_text.specs.Text.{spaced, hex, bits, level_number, letter, note_fields, note_bytes, event_fields, event_bytes, IsHeldByTrace}
+use Rattle.trace_text.specs.Text.{spaced, hex, bits, letter, note_fields, event_fields, IsHeldByTrace}
 use Rattle.trace_text.proofs.Bits.{no_bits, bits_suc}
 use Rattle.am32wave.specs.declared.moment.Moment.{Moment}
 use Rattle.am32wave.specs.declared.moment.Moment.TheVariants as moment
 use Rattle.am32wave.specs.declared.scene.Scene.{Scene}
-use Rattle.am32wave.specs.declared.view.Plan.{Plan}
 use Rattle.am32wave.specs.declared.view.Stretch.{Stretch}
-use Rattle.am32wave.specs.declared.view.View.{View}
 use Rattle.am32wave.specs.declared.view.View.TheVariants as view
 use Rattle.am32wave.specs.declared.wire.Wire.{Wire}
 use Rattle.am32wave.specs.Drawn.{changes, all_changes, part, parts, late_opening}

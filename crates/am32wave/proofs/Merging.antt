@@ -1,7 +1,7 @@
 -- A journal and its trace are read moment by moment.
 use Rattle.std.proofs.Common.{◌≡◌, ◌≤◌, ℕ, List, [], ◌∷◌, ◌++◌, Option, Some, None, Ok, sym, ◌∙◌, ap, subst, append_assoc, append-nil, length-append, arith}
 use Rattle.std.specs.List.{All}
-use Rattle.std.specs.Io.KnownBytes.{prepend_known, IsAtEnd}
+use Rattle.std.specs.Io.KnownBytes.{prepend_known}
 use Rattle.std.proofs.lemmas.List.Concat.{flat_map-append}
 use Rattle.std.proofs.lemmas.List.Elements.{All-push, All-weaker, All-head, All-tail, All-cons, All-nil}
 use Rattle.esc_base.specs.declared.event.Event.{Event}
@@ -28,7 +28,7 @@ use Rattle.am32wave.specs.declared.next.NextNote.TheVariants as note
 use Rattle.am32wave.specs.declared.reader.Journal.{Journal as Reader}
 use Rattle.am32wave.specs.declared.status.Status.{Status}
 use Rattle.am32wave.specs.declared.status.Status.TheVariants as status
-use Rattle.am32wave.specs.Merged.{NotesRead, NotesEnd, IsNextNote, EventsRead, EventAhead, EventsEnd, FirstEvents, IsNextEvent, NotesStop, EventsStop, Merged, Ends, Gives, MergeSays, NotesWhy, EventsWhy, IsOfNotes, IsOfEvents}
+use Rattle.am32wave.specs.Merged.{NotesRead, IsNextNote, EventsRead, EventAhead, EventsEnd, FirstEvents, IsNextEvent, NotesStop, EventsStop, Merged, Ends, Gives, MergeSays, NotesWhy, EventsWhy, IsOfNotes, IsOfEvents}
 use Rattle.am32wave.specs.Moments.{time, notes_of, events_of, newest_time, InOrder}
 use Rattle.am32wave.specs.Reading.{HasRead, PassesLine}
 use Rattle.am32wave.proofs.Look.{last_time_more}

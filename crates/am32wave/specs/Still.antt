@@ -1,5 +1,5 @@
 -- A stretch of a run as a still picture, an SVG: each change paints its row from its tick on, over what stood there.
-use Rattle.std.specs.Prelude.{ℕ, ◌+◌, ◌-◌, ◌*◌, ◌/◌, ◌%◌, ◌==◌, if◌then◌else◌, min, max, List, [], ◌∷◌, ◌++◌, flat_map}
+use Rattle.std.specs.Prelude.{ℕ, ◌-◌, ◌*◌, ◌/◌, ◌==◌, if◌then◌else◌, min, max, List, [], ◌∷◌, flat_map}
 use Rattle.esc_base.specs.declared.gate.Leg.TheVariants as leg
 use Rattle.esc_base.specs.declared.kind.Kind.TheVariants as kind
 use Rattle.am32wave.specs.declared.still.TheConstants.{STILL_HEAD, BEFORE_QUARTER, BEFORE_HALF, BEFORE_THREE_QUARTERS, BEFORE_SPAN, BEFORE_ROWS, STILL_END}

@@ -2,7 +2,6 @@ use Rattle.std.proofs.Common.{◌++◌, List, ◌∙◌, ap}
 use Rattle.am32wave.specs.declared.scene.Scene.{Scene}
 use Rattle.am32wave.specs.declared.wire.Wire.{Wire}
 use Rattle.am32wave.specs.Pieces.{stamp_text, text}
-use Rattle.am32wave.specs.Scene.{scene}
 use Rattle.am32wave.specs.Wave.{declarations, values}
 use Rattle.am32wave.specs.Wires.{wires_of}
 use Rattle.am32wave.proofs.Parts.{head_of}
