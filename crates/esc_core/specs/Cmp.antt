@@ -30,7 +30,8 @@ judged_step true c b = record {
   notes = note.Cross (as_tick b.time) ∷ [];
   over = false;
 }
-judged_step false c b = goes_on (record c { drive = in_phase c.drive (phase.Blank (as_tick (b.time + rejected_blanking))); cmp_at = cmp.Arm }) (Reads reg.CmpState)
+judged_step false c b =
+    goes_on (record c { drive = in_phase c.drive (phase.Blank (as_tick (b.time + rejected_blanking))); cmp_at = cmp.Arm }) (Reads reg.CmpState)
 
 -- nothing is due: a higher handler changed the phase since the entry, or there is no search
 abbrev pub passes : Brain → Stepped

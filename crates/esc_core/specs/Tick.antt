@@ -20,7 +20,6 @@ use Rattle.arming.specs.Decide.{decide, answer_of}
 use Rattle.arming.specs.Kept.{after_tick, view_of}
 use Rattle.esc_core.specs.declared.state.TickAt.{TickAt}
 use Rattle.esc_core.specs.declared.state.TickAt.TheVariants as tick
-use Rattle.esc_core.specs.declared.drive.Drive.{Drive}
 use Rattle.esc_core.specs.Brain.{Brain}
 use Rattle.esc_core.specs.Drive.{answered}
 use Rattle.esc_core.specs.Stepped.{Stepped, goes_on, goes_back}

@@ -20,20 +20,22 @@ pub(crate) const STUCK_ROW: u8 = 60;
 /// The gates, the newest change of sector, and when the next one is due.
 #[derive(Drop)]
 pub struct Drive {
-    pub(crate) gates: Gates,
-    pub(crate) timing: Timing,
+    /// When each switch last went off.
+    pub gates: Gates,
+    /// The interval between crossings, and the wait to the next sector change.
+    pub timing: Timing,
     /// The search for the sector's zero crossing.
-    pub(crate) crossing: Crossing,
+    pub crossing: Crossing,
     /// The newest change of sector. Where its low switch is postponed it stands at that step.
-    pub(crate) turn: ToSector,
+    pub turn: ToSector,
     /// The tick of 48 MHz from which on the next sector change is due.
-    pub(crate) change: u32,
+    pub change: u32,
     /// The low switch of the newest sector is postponed for the dead time.
-    pub(crate) postponed: bool,
+    pub postponed: bool,
     /// The sector has changed in this drive, and no crossing was accepted since: the next change is forced.
-    pub(crate) turned: bool,
+    pub turned: bool,
     /// How many forced sector changes stand in a row, at most 60.
-    pub(crate) forced: u8,
+    pub forced: u8,
 }
 
 impl Drive {

@@ -1,9 +1,6 @@
 //! Where each open activation stands, and what the core keeps.
-use crate::{Drive, Orders, Serial};
+use crate::{Drive, Listening, Orders, Serial};
 use arming::Control;
-use edge_capture::Burst;
-use esc_base::Mode;
-use fourway_packet::Packets;
 use gate_driver::{AllOff, Chop};
 use std::marker::Model;
 
@@ -137,15 +134,14 @@ pub struct Core {
     pub(crate) comm_at: CommAt,
     /// For how many steps the mask can still stand.
     pub(crate) hold: u8,
-    /// The mode of the newest window.
-    pub(crate) window: Mode,
-    /// The edges of the closed window, as far as they have been read.
-    pub(crate) burst: Burst,
-    /// The window timer was set, and no window was opened since.
-    pub(crate) paused: bool,
-    pub(crate) control: Control,
-    pub(crate) orders: Orders,
-    pub(crate) drive: Drive,
+    /// What CAP keeps of its windows.
+    pub listening: Listening,
+    /// What control ticks and frames have come to.
+    pub control: Control,
+    /// What commands have asked for.
+    pub orders: Orders,
+    /// What is kept of the drive.
+    pub drive: Drive,
     pub(crate) serial: Serial,
 }
 
@@ -164,9 +160,9 @@ impl Model for Core {
       pwm_at = c.pwm_at;
       comm_at = c.comm_at;
       hold = c.hold;
-      window = c.window;
-      burst = c.burst;
-      paused = c.paused;
+      window = c.listening.window;
+      burst = c.listening.burst;
+      paused = c.listening.paused;
       control = c.control;
       orders = c.orders;
       drive = c.drive;

@@ -2,6 +2,7 @@ pub mod Apart
 pub mod Modes
 pub mod Opening
 pub mod Placed
+pub mod Flash
 pub mod Pushes
 pub mod Stalls
 pub mod Rests
@@ -18,12 +19,8 @@ pub mod Notes
 pub mod NotesGrow
 pub mod Parts
 pub mod ChopFront
-pub mod Refused
-pub mod RefusedCrossings
-pub mod RefusedReplies
-pub mod RefusedDrive
 pub mod UpTo
-pub mod RefusedChops
 pub mod DutyKept
-pub mod RefusedSteps
-pub mod Allowed
+pub mod refused
+pub mod allowed
+pub mod LogFixed

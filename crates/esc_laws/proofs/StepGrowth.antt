@@ -56,11 +56,12 @@ step_grows loaded nest cost trace e before x past l f =
       entry = f.entry;
       own = f.own;
       reached = λ n. f.reached n ∙ sym (uses_before cost trace e (steps_since x.kind (before ++ x ∷ [])) (entered_at x.kind before) (rw (← f.reached n) l));
-      some = f.some;
       few = f.few;
       at_tick = f.at_tick;
       no_entry = f.no_entry;
       returns = f.returns;
+      gate_first = f.gate_first;
+      six = f.six;
       patient = λ k. rw (count_before loaded nest trace e (before ++ x ∷ []) k (All-push (λ (y : Turned). y.tick < tick_of e) before x past l)) (f.patient k);
     }
 

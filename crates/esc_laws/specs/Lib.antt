@@ -16,13 +16,12 @@ pub mod Nested
 pub mod Seen
 pub mod Steps
 pub mod Chopped
+pub mod Asked
 pub mod NoteLaw
 pub mod Said
 pub mod Legal
 pub mod Saves
-pub mod Refused
-pub mod RefusedCrossings
-pub mod RefusedReplies
-pub mod RefusedChops
-pub mod Allowed
+pub mod refused
+pub mod allowed
 pub mod DutyKept
+pub mod LogFixed

@@ -1,7 +1,7 @@
 -- A law, or what a law is said with: what `Legal` means rests on this.
 -- The machine's steps in their order, each with its tick, its kind and its notes: the journal is the first two notes and those
 -- of all steps, joined. The program keeps no such list; contracts speak of it. Each count is a fold over it.
-use Rattle.std.specs.Prelude.{◌≡◌, ◌≢◌, ◌<◌, ◌≤◌, ◌+◌, ℕ, zero, suc, Bool, true, false, ◌&&◌, ◌==◌, if◌then◌else◌, nat_lt, nat_le, List, [], ◌∷◌, ◌++◌, Option, Some, None, All}
+use Rattle.std.specs.Prelude.{◌≡◌, ◌≢◌, ◌<◌, ◌≤◌, ◌+◌, ℕ, zero, suc, Bool, true, false, ◌&&◌, ◌==◌, if◌then◌else◌, nat_lt, nat_le, List, [], ◌∷◌, ◌++◌, length, Option, Some, None, All}
 use Rattle.std.specs.List.{fold, flat_map}
 use Rattle.esc_base.specs.declared.kind.Kind.{Kind}
 use Rattle.esc_base.specs.declared.event.Event.{Event}
@@ -139,6 +139,19 @@ ReturnsLast k [] = Unit {0}
 ReturnsLast k (note.Leave t j ∷ rest) = (j ≡ kind_number k) × (rest ≡ [])
 ReturnsLast k (n ∷ rest) = ReturnsLast k rest
 
+abbrev pub is_gate : Note → Bool
+is_gate (note.Gate t hi lo) = true
+is_gate n = false
+
+-- no note but the first is a G: a step changes the gate word once, before anything else that it tells
+abbrev pub GateFirst : List Note → Type 0
+GateFirst [] = Unit {0}
+GateFirst (n ∷ rest) = All (λ m. is_gate m ≡ false) rest
+
+-- a step has no more notes than these: its G, three of a window's verdict or of a control tick, one more, and its return
+abbrev pub most_notes : ℕ
+most_notes = 6
+
 pub record StepFits (loaded : Loaded) (nest : Nest) (cost : ℕ) (trace : List Event) (before : List Turned) (e : Turned) : Type 0 where
   pub later : after cost trace before ≤ e.tick
   -- no step stands in a stall
@@ -154,14 +167,16 @@ pub record StepFits (loaded : Loaded) (nest : Nest) (cost : ℕ) (trace : List E
   -- an entry is its I note, and other steps are those of the innermost kind
   pub entry : e.enters ≡ true → e.notes ≡ note.Enter (as_tick e.tick) (kind_number e.kind) ∷ []
   pub own : e.enters ≡ false → innermost (open_in loaded before) ≡ Some e.kind
-  -- an own step, the return too, stands where `next_step` leads from the entry, and is one of 1 to the most of its kind
+  -- an own step, the return too, is one of the most of its kind; and it stands where `next_step` leads from the entry, which
+  -- follows from `open_step`, and is said so that a reader sees the step's tick by the entry alone
   pub reached : e.enters ≡ false → e.tick ≡ uses cost trace (steps_since e.kind (before ++ e ∷ [])) (entered_at e.kind before)
-  pub some : e.enters ≡ false → 1 ≤ own_steps e.kind (before ++ e ∷ [])
   pub few : e.enters ≡ false → own_steps e.kind (before ++ e ∷ []) ≤ most e.kind
   -- its notes stand at its tick, and an own step has no I, and no O but its own return at its end
   pub at_tick : All (λ n. time_of n ≡ e.tick) e.notes
   pub no_entry : e.enters ≡ false → All (λ n. is_entry n ≡ false) e.notes
   pub returns : e.enters ≡ false → ReturnsLast e.kind e.notes
+  pub gate_first : GateFirst e.notes
+  pub six : length e.notes ≤ most_notes
   -- no kind that is seen due waits for more than 8 counted steps
   pub patient : (k : Kind) → called loaded nest trace (before ++ e ∷ []) k ≤ 8
 

@@ -1,9 +1,18 @@
 //! What the laws refuse, and what they don't.
-ghost use Rattle.esc_laws.specs.Allowed.{SomeAreLegal};
-ghost use Rattle.esc_laws.specs.Refused.{ControlRefuses, DriveRefuses, GatesRefuse, NestingRefuses, StepsRefuse, TurnsRefuse, WindowsRefuse};
-ghost use Rattle.esc_laws.specs.RefusedChops.{ChoppingRefuses, SomeAreChopped};
-ghost use Rattle.esc_laws.specs.RefusedCrossings.{ActivationsRefuse, CrossedTurnsRefuse, CrossingsRefuse, SearchesRefuse};
-ghost use Rattle.esc_laws.specs.RefusedReplies.{RepliesRefuse, ReplyWindowsRefuse, SomeAreReplied};
+ghost use Rattle.esc_laws.specs.allowed.Journals.{SomeAreLegal};
+ghost use Rattle.esc_laws.specs.allowed.Calls.{CallsBegin};
+ghost use Rattle.esc_laws.specs.allowed.Flash.{SomeFlashesFit};
+ghost use Rattle.esc_laws.specs.allowed.Windows.{SomeWindowsOpen};
+ghost use Rattle.esc_laws.specs.refused.Flash.{FlashRefuses};
+ghost use Rattle.esc_laws.specs.refused.Asked.{EntriesRefuse};
+ghost use Rattle.esc_laws.specs.refused.Control.{ControlRefuses};
+ghost use Rattle.esc_laws.specs.refused.Drive.{DriveRefuses, GatesRefuse, TurnsRefuse};
+ghost use Rattle.esc_laws.specs.refused.Nesting.{NestingRefuses};
+ghost use Rattle.esc_laws.specs.refused.Steps.{StepsRefuse};
+ghost use Rattle.esc_laws.specs.refused.Windows.{WindowsRefuse};
+ghost use Rattle.esc_laws.specs.refused.Chops.{ChoppingRefuses, SomeAreChopped};
+ghost use Rattle.esc_laws.specs.refused.Crossings.{ActivationsRefuse, CrossedTurnsRefuse, CrossingsRefuse, SearchesRefuse};
+ghost use Rattle.esc_laws.specs.refused.Replies.{RepliesRefuse, ReplyWindowsRefuse, SomeAreReplied};
 
 /// The rules of control refuse each of these small journals.
 pub fn control_refuses()
@@ -88,4 +97,29 @@ pub fn some_are_chopped()
 /// Some whole journals are legal.
 pub fn some_are_legal()
     ensures { SomeAreLegal }
+{}
+
+/// From which ticks on small journals call for each kind.
+pub fn calls_begin()
+    ensures { CallsBegin }
+{}
+
+/// The law of saves refuses each of these flashes.
+pub fn flash_refuses()
+    ensures { FlashRefuses }
+{}
+
+/// And it allows some: one whose save was done, and one whose save was refused.
+pub fn some_flashes_fit()
+    ensures { SomeFlashesFit }
+{}
+
+/// The rules of windows allow a window at the first tick at which one may open.
+pub fn some_windows_open()
+    ensures { SomeWindowsOpen }
+{}
+
+/// The law of entries refuses each of these: no handler above MAIN is entered that isn't called.
+pub fn entries_refuse()
+    ensures { EntriesRefuse }
 {}

@@ -1,3 +1,7 @@
 pub mod Period
 pub mod Ties
+pub mod JudgedTies
+pub mod Judgements
+pub mod Steps
 pub mod Room
+pub mod Asked

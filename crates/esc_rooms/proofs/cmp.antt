@@ -1,5 +1,10 @@
 pub mod CrossFacts
+pub mod BesideComm
 pub mod Facts
+pub mod StepFacts
 pub mod Events
+pub mod Preserves
 pub mod Looks
+pub mod Steps
 pub mod Room
+pub mod Asked

@@ -1,5 +1,7 @@
 pub mod Facts
-pub mod Goes
+pub mod Preserves
 pub mod Turns
 pub mod Switches
+pub mod Steps
 pub mod Room
+pub mod Asked

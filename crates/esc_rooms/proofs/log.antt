@@ -10,3 +10,5 @@ pub mod Events
 pub mod Start
 pub mod Carried
 pub mod FlashSteps
+pub mod Outside
+pub mod Idle

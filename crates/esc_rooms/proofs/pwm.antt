@@ -1,1 +1,3 @@
+pub mod Preserves
+pub mod Steps
 pub mod Room

@@ -1,4 +1,3 @@
--- Machinery, and no law: how a run is proved to be legal. Nothing that `Legal` means rests on this.
 -- What is kept between any two steps of a run: the core, the registers and the open handlers match the trace so far and the
 -- machine steps so far, and these steps keep every law.
 use Rattle.std.specs.Prelude.{◌≡◌, ◌≢◌, ◌<◌, ◌≤◌, ◌+◌, ℕ, true, false, List, [], All, reverse}
@@ -20,15 +19,6 @@ use Rattle.esc_core.specs.Brain.{Brain}
 use Rattle.esc_core.specs.Calls.{IsMade}
 use Rattle.esc_core.specs.Firmware.{core_step, core_asked, entered_core, left_of, waits_of}
 use Rattle.esc_laws.specs.Said.{Said}
-use Rattle.commutation.specs.Commutated.{Commutated}
-use Rattle.gate_driver.specs.DeadSafe.{DeadSafe}
-use Rattle.esc_laws.specs.Windowed.{Windowed}
-use Rattle.esc_laws.specs.Replied.{Replied}
-use Rattle.esc_laws.specs.Driven.{Driven}
-use Rattle.esc_laws.specs.Crossed.{Crossed}
-use Rattle.esc_laws.specs.Searched.{Searched}
-use Rattle.esc_laws.specs.Saves.{advance_of, forward_at}
-use Rattle.esc_laws.specs.Nested.{NestedAfter}
 use Rattle.esc_laws.specs.Seen.{sees}
 use Rattle.esc_laws.specs.Steps.{Turned, stall_end, notes_in, journal, open_in, free, after, uses, own_steps, steps_since, entered_at, called, EachStep, StepFits, Awaits, Below}
 use Rattle.esc_rooms.specs.Tied.{Keeps, WordTold}

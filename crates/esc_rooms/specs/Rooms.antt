@@ -1,8 +1,8 @@
--- Machinery, and no law: how a run is proved to be legal. Nothing that `Legal` means rests on this.
 -- What ties the core and the registers to the notes and the trace: what all handlers share, and a tie for each handler.
 -- Each fact holds between any two steps. A tie is a function of what it reads, so it stands by computation after each step
 -- that leaves that.
-use Rattle.std.specs.Prelude.{◌≡◌, ◌≢◌, ◌<◌, ◌≤◌, ◌/◌, ◌%◌, ℕ, Bool, true, List, [], ◌∷◌, Option, Some, None, All, ◌+◌, false}
+use Rattle.std.specs.Prelude.{◌≡◌, ◌≢◌, ◌<◌, ◌≤◌, ◌/◌, ◌%◌, ℕ, Bool, true, List, [], ◌∷◌, Option, Some, None, All, false}
+use Rattle.esc_base.specs.Times.{control_period, pwm_period}
 use Rattle.esc_base.specs.declared.kind.Kind.{Kind}
 use Rattle.esc_base.specs.declared.kind.Kind.TheVariants as kind
 use Rattle.esc_base.specs.declared.event.Event.{Event}
@@ -19,7 +19,7 @@ use Rattle.esc_core.specs.Line.{Line}
 use Rattle.esc_core.specs.declared.orders.Orders.{Orders}
 use Rattle.esc_core.specs.Stepped.{Stepped}
 use Rattle.esc_base.specs.Legs.{is_on}
-use Rattle.commutation.specs.Sectors.{high_of, low_of}
+use Rattle.commutation.specs.Sectors.{high_of}
 use Rattle.esc_core.specs.Firmware.{left_of, need_of, uart_left}
 use Rattle.esc_base.specs.Numbers.{kind_number, as_tick}
 use Rattle.timer_regs.specs.Bank.{Bank}
@@ -60,10 +60,8 @@ pub record LineTied (s : Line) (session : Bool) : Type 0 where
   pub none_left : s.left ≡ []
   pub session_is : s.active ≡ session
 
-pub record Grounded (loaded : Loaded) (trace : List Event) (kept : Kept) (o : Orders) (s : Line) (now_level now_comp : Bool) (rests : ℕ) (time : ℕ)
-    (back : List Note) : Type 0 where
-  pub control : Stands kept back
-  pub orders : OrdersTied loaded o back
+-- what is outside: the trace, and the registers that its events set
+pub record OutsideTied (trace : List Event) (now_level now_comp : Bool) (rests time : ℕ) : Type 0 where
   pub level : now_level ≡ (line trace).level
   pub edges : StandUntil time (line trace).edges
   pub rested : IsRestFrom (line trace).edges rests
@@ -71,8 +69,14 @@ pub record Grounded (loaded : Loaded) (trace : List Event) (kept : Kept) (o : Or
   pub events : All (λ e. tick_of e ≤ time) trace
   pub in_time : IsInTime 0 trace
   pub comparator : now_comp ≡ (held trace time).level
-  pub line : LineTied s (session_at back)
   pub small : time < 2147483648
+
+pub record Grounded (loaded : Loaded) (trace : List Event) (kept : Kept) (o : Orders) (s : Line) (now_level now_comp : Bool) (rests : ℕ) (time : ℕ)
+    (back : List Note) : Type 0 where
+  pub control : Stands kept back
+  pub orders : OrdersTied loaded o back
+  pub line : LineTied s (session_at back)
+  pub outside : OutsideTied trace now_level now_comp rests time
 
 abbrev pub Ground : World → Type 0
 Ground w = Grounded w.loaded w.trace w.core.control w.core.orders w.core.line w.bank.level w.bank.comp (rests_from w.bank.changed) w.bank.time w.back
@@ -100,7 +104,7 @@ CapTie w =
 abbrev pub TickTie : World → Type 0
 TickTie w =
     TickTied w.core.tick_at w.bank.number_read w.bank.time (so_far w).ticks × (w.bank.number_read ≡ w.core.control.number) ×
-    (w.bank.number_read ≤ w.bank.time / 2400) × DutyTied w.core.tick_at w.bank.duty (demand_at w.back)
+    (w.bank.number_read ≤ w.bank.time / control_period) × DutyTied w.core.tick_at w.bank.duty (demand_at w.back)
     × (demand_at w.back ≡ 0
     → Rests w.core.tick_at w.core.pwm_at w.core.comm_at w.bank.hi w.bank.lo w.bank.flag w.bank.comm w.core.drive.postponed w.bank.stuck)
 
@@ -242,9 +246,9 @@ pub record GateFits (w : World) (after : Bank) (gates : Gated) : Type 0 where
 
 -- PWM's write is what the position that it has read asks for
 pub record Chops (w : World) (after : Bank) : Type 0 where
-  pub on : w.made.sampled % 2000 < demand_at w.back → 0 < w.bank.sector → high_wait w.core.drive.gates w.bank (high_of w.bank.sector) ≡ None
+  pub on : w.made.sampled % pwm_period < demand_at w.back → 0 < w.bank.sector → high_wait w.core.drive.gates w.bank (high_of w.bank.sector) ≡ None
       → is_on after.hi (high_of w.bank.sector) ≡ true
-  pub off : demand_at w.back ≤ w.made.sampled % 2000 → after.hi ≡ 0
+  pub off : demand_at w.back ≤ w.made.sampled % pwm_period → after.hi ≡ 0
 
 -- While there is a demand, only COMM writes the low switches, and besides it only PWM's fifth own step the high ones. PWM
 -- doesn't return before that step, and has no note of its own but its return.

@@ -1,4 +1,3 @@
--- Machinery, and no law: how a run is proved to be legal. Nothing that `Legal` means rests on this.
 -- What a step finds: the trace, the core, the registers, and the notes so far.
 use Rattle.std.specs.Prelude.{ℕ, true, false, if◌then◌else◌, List, [], ◌∷◌, ◌++◌, reverse}
 use Rattle.esc_base.specs.declared.kind.Kind.{Kind}

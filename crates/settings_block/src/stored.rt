@@ -44,6 +44,7 @@ pub fn load<D: FlashDev>(dev: &mut D) -> Result<Loaded, FlashFault>
     ensures loaded { IfOk result (λ loaded. IsLoaded (D.told dev.old).bytes loaded) }
     ensures in_range { IfOk result (λ loaded. IsInRange loaded.settings) }
     ensures unchanged { (D.told dev.new).bytes ≡ (D.told dev.old).bytes }
+    ensures fine { OnOk result ((D.told dev.new).faults ≡ (D.told dev.old).faults) }
     ensures no_fewer { (D.told dev.old).faults ≤ (D.told dev.new).faults }
     ensures failed { OnErr result (Rose (D.told dev.old).faults (D.told dev.new).faults) }
 {

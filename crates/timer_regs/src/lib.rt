@@ -10,8 +10,6 @@ mod kinds;
 mod next_due;
 mod regs;
 mod reply;
-#[cfg(test)]
-mod tests;
 mod timers;
 mod uart;
 

@@ -1,6 +1,7 @@
 -- CMP's steps that look at the comparator.
 use Rattle.std.proofs.Common.{◌≡◌, ◌≤◌, ◌<◌, ◌+◌, ◌-◌, inl, inr, ℕ, Bool, true, false, not, ◌&&◌, ◌||◌, nat_le, List, ◌∷◌, refl, sym, ◌∙◌, ap, subst, arith}
 use Rattle.std.proofs.lemmas.Bool.{cases_lt, le-leb, leb-true, not-true}
+use Rattle.esc_base.specs.Times.{filter_time, rejected_blanking}
 use Rattle.esc_base.specs.declared.kind.Kind.{Kind}
 use Rattle.esc_base.specs.declared.kind.Kind.TheVariants as kind
 use Rattle.esc_base.specs.declared.event.Event.{Event}
@@ -8,11 +9,12 @@ use Rattle.esc_base.specs.declared.note.Note.TheVariants as note
 use Rattle.esc_base.specs.declared.tick.Tick.{Tick}
 use Rattle.esc_base.specs.Numbers.{as_tick}
 use Rattle.esc_base.specs.Trace.{differ}
-use Rattle.interrupt_machine.specs.Did.{NoAccess}
+use Rattle.timer_regs.specs.declared.regs.Reg.TheVariants as reg
+use Rattle.interrupt_machine.specs.Did.{NoAccess, Reads, Writes}
 use Rattle.zero_cross.specs.declared.phase.Phase.{Phase}
 use Rattle.zero_cross.specs.declared.phase.Phase.TheVariants as phase
 use Rattle.zero_cross.specs.Comparator.{Held, held}
-use Rattle.zero_cross.specs.Kept.{Kept, is_expected, is_clean}
+use Rattle.zero_cross.specs.Kept.{is_expected, is_clean}
 use Rattle.commutation.specs.Commutated.{Turn, Idle, Started, Turned, Crossed, crossed_by, is_forced, turn_at}
 use Rattle.commutation.specs.Pace.{Pace, paced, wait_of}
 use Rattle.commutation.specs.Drive.{pace_at, wait_at}
@@ -26,216 +28,63 @@ use Rattle.esc_core.specs.declared.drive.Drive.{Drive}
 use Rattle.esc_core.specs.Drive.{is_stuck, crossed}
 use Rattle.esc_core.specs.Cmp.{judged_step, passes, blank_step, filter_step, look_step, cmp_step}
 use Rattle.esc_core.specs.Stepped.{goes_on}
-use Rattle.esc_core.specs.Firmware.{tick_need}
 use Rattle.esc_laws.specs.Crossed.{blanked_at, IsCrossing, MayCross}
 use Rattle.esc_laws.specs.Saves.{advance_of}
 use Rattle.esc_rooms.specs.DriveTied.{DriveView, DriveTied, CommTied, TimerKept, ChangeTied, commutes, low_on}
-use Rattle.esc_rooms.specs.CrossTied.{HasQ, is_shut}
+use Rattle.esc_rooms.specs.CrossTied.{HasQ}
 use Rattle.esc_rooms.specs.World.{World, so_far}
-use Rattle.esc_rooms.specs.Rooms.{Ground, Ties, Past, StepKeeps, drive_seen, cross_seen}
-use Rattle.esc_laws.proofs.Comparator.{steady_of, since_past, bit_steady}
+use Rattle.esc_rooms.specs.Rooms.{StepKeeps, drive_seen, cross_seen}
+use Rattle.esc_laws.proofs.Comparator.{steady_of, bit_steady}
 use Rattle.esc_rooms.proofs.shared.RoomSteps.{quiet_gates, ground_noted, inside}
-use Rattle.esc_rooms.proofs.shared.DriveFacts.{timer_kept, low_kept}
-use Rattle.esc_rooms.proofs.cmp.CrossFacts.{tick_unmasked}
-use Rattle.esc_rooms.proofs.cmp.Facts.{Stands, Free, stands, goes, cmp_moves, raised, looked_off, looked_done, looked_early, looked_blanked, looked_watch, looked_reject, accepted}
+use Rattle.esc_rooms.proofs.shared.DriveFacts.{timer_kept}
+use Rattle.esc_rooms.proofs.cmp.StepFacts.{raised, looked_off, looked_done, looked_early, looked_blanked, looked_watch, looked_reject, accepted}
+use Rattle.esc_rooms.proofs.cmp.Preserves.{IsCmp, free_of, stands_at, cmp_step_preserves, cmp_wait_preserves}
 use Rattle.esc_laws.specs.NoteLaw as owed
 
--- ---- what holds before each own step of CMP
+-- ---- it raises the mask, and looks
 
-pub free_at : (w : World) → w.core.comm_at ≡ comm.Shut → 8 < tick_need w.core.tick_at → Past w.made w.bank.time → Free (cross_seen w)
-free_at w closed unmasked past = record {
-  closed = closed;
-  no_search = rw closed refl;
-  goes = tick_unmasked w.core.tick_at unmasked;
-  past = past.cmp;
-  since = since_past w.trace w.bank.time;
-}
+pub cmp_raise_preserves : (w : World) (outer : List Kind) → IsCmp w outer cmp.Raise → StepKeeps kind.Cmp outer w (cmp_step cmp.Raise w.core w.bank)
+cmp_raise_preserves w outer i = cmp_wait_preserves w outer cmp.Raise cmp.Look w.core.drive.crossing.phase 8 (Writes reg.Mask 1) i refl refl refl refl refl
+    (raised (cross_seen w) w.core.drive.crossing.phase (free_of w outer cmp.Raise i) (stands_at w outer cmp.Raise w.core.drive.crossing.phase i refl))
 
-pub record IsCmp (w : World) (outer : List Kind) (place : CmpAt) : Type 0 where
-  pub ground : Ground w
-  pub ties : Ties w
-  pub on : (so_far w).stack ≡ kind.Cmp ∷ outer
-  pub place_is : w.core.cmp_at ≡ place
-  pub comm_is : w.core.comm_at ≡ comm.Shut
-  pub unmasked : 8 < tick_need w.core.tick_at
-  pub past : Past w.made w.bank.time
+look_off_preserves : (w : World) (outer : List Kind) → w.core.drive.crossing.phase ≡ phase.Off → IsCmp w outer cmp.Look
+    → StepKeeps kind.Cmp outer w (passes w.core)
+look_off_preserves w outer e i = cmp_wait_preserves w outer cmp.Look cmp.Lower phase.Off w.core.hold NoAccess i refl refl refl refl e
+    (looked_off (cross_seen w) (free_of w outer cmp.Look i) (stands_at w outer cmp.Look phase.Off i e))
 
-pub free_of : (w : World) (outer : List Kind) (place : CmpAt) → IsCmp w outer place → Free (cross_seen w)
-free_of w outer place i = free_at w i.comm_is i.unmasked i.past
+look_done_preserves : (w : World) (outer : List Kind) → w.core.drive.crossing.phase ≡ phase.Done → IsCmp w outer cmp.Look
+    → StepKeeps kind.Cmp outer w (passes w.core)
+look_done_preserves w outer e i = cmp_wait_preserves w outer cmp.Look cmp.Lower phase.Done w.core.hold NoAccess i refl refl refl refl e
+    (looked_done (cross_seen w) (free_of w outer cmp.Look i) (stands_at w outer cmp.Look phase.Done i e))
 
-pub stands_at : (w : World) (outer : List Kind) (place : CmpAt) (p : Phase) → IsCmp w outer place → w.core.drive.crossing.phase ≡ p
-    → Stands (cross_seen w) place p
-stands_at w outer place p i e = stands (cross_seen w) place p i.place_is e (free_of w outer place i) (i.ties kind.Cmp)
-
--- ---- the drive beside a step that doesn't commute
-
-abbrev pub searched_view : DriveView → CmpAt → Kept → DriveView
-searched_view v at search = record v { cmp_at = at; drive = record v.drive { crossing = search } }
-
-pub searched_drive : (v : DriveView) (at : CmpAt) (search : Kept) → v.comm_at ≡ comm.Shut → commutes v.cmp_at ≡ false → commutes at ≡ false → DriveTied v
-    → DriveTied (searched_view v at search)
-searched_drive v at search shut was is t = record {
-  switches = t.switches;
-  newest = t.newest;
-  next = t.next;
-  row = t.row;
-  place = subst (λ (x : CommAt). CommTied x (searched_view v at search)) (sym shut) tt;
-  low = λ e d s. low_kept v.tick_at v (searched_view v at search) timer (λ c. record { started = c.started; due = c.due }) (t.low e d was);
-  crossed = λ e. absurd (let z : false ≡ true = sym is ∙ e in cc);
-  postponed = t.postponed;
-}
-  where
-    timer : TimerKept v → TimerKept (searched_view v at search)
-    timer (inl e) = inl e
-    timer (inr (n, e, l, c)) = inr (n, e, l, record { started = c.started; due = c.due })
-
--- a step without a note, that leaves the commutation timer
-pub quiet_drive : (w : World) (outer : List Kind) (place at : CmpAt) (search : Kept) → commutes place ≡ false → commutes at ≡ false → IsCmp w outer place
-    → DriveTied (searched_view (drive_seen w) at search)
-quiet_drive w outer place at search was is i =
-    searched_drive (drive_seen w) at search i.comm_is (subst (λ (x : CmpAt). commutes x ≡ false) (sym i.place_is) was) is (i.ties kind.Comm)
-
-pub not_shut : (w : World) (outer : List Kind) (place : CmpAt) → is_shut place ≡ false → IsCmp w outer place → is_shut w.core.cmp_at ≡ false
-not_shut w outer place e i = subst (λ (x : CmpAt). is_shut x ≡ false) (sym i.place_is) e
-
--- ---- it raises the mask
-
-pub raises : (w : World) (outer : List Kind) → IsCmp w outer cmp.Raise → StepKeeps kind.Cmp outer w (cmp_step cmp.Raise w.core w.bank)
-raises w outer i = record {
-  gates = quiet_gates kind.Cmp w _ (λ e. cc) refl refl refl;
-  fits = λ told. tt;
-  ground = i.ground;
-  tie = λ told. cmp_moves (cross_seen w) cmp.Look w.core.drive.crossing w.bank.comp_changed w.bank.comp_enabled w.bank.crossing
-      (not_shut w outer cmp.Raise refl i)
-      (free_of w outer cmp.Raise i) (i.ties kind.Cmp)
-      (goes (cross_seen w) cmp.Look w.core.drive.crossing.phase w.core.drive.crossing w.bank.comp_changed w.bank.comp_enabled w.bank.crossing refl refl
-      (raised (cross_seen w) w.core.drive.crossing.phase (free_of w outer cmp.Raise i) (stands_at w outer cmp.Raise w.core.drive.crossing.phase i refl)));
-  others = elim [
-    | kind.Cmp ↦ λ ne u. absurd (ne refl)
-    | kind.Comm ↦ λ ne u. quiet_drive w outer cmp.Raise cmp.Look w.core.drive.crossing refl refl i
-    | j ↦ λ ne u. u
-  ];
-  stack_is = i.on;
-}
-
--- ---- it looks
-
-passes_off : (w : World) (outer : List Kind) → w.core.drive.crossing.phase ≡ phase.Off → IsCmp w outer cmp.Look → StepKeeps kind.Cmp outer w (passes w.core)
-passes_off w outer e i = record {
-  gates = quiet_gates kind.Cmp w _ (λ e. cc) refl refl refl;
-  fits = λ told. tt;
-  ground = i.ground;
-  tie = λ told. cmp_moves (cross_seen w) cmp.Lower (w.core.drive.crossing) (w.bank.comp_changed) (w.bank.comp_enabled) (w.bank.crossing)
-      (not_shut w outer cmp.Look refl i)
-      (free_of w outer cmp.Look i) (i.ties kind.Cmp)
-      (goes (cross_seen w) cmp.Lower (phase.Off) (w.core.drive.crossing) (w.bank.comp_changed) (w.bank.comp_enabled) (w.bank.crossing) e refl
-      (looked_off (cross_seen w) (free_of w outer cmp.Look i) (stands_at w outer cmp.Look phase.Off i e)));
-  others = elim [
-    | kind.Cmp ↦ λ ne u. absurd (ne refl)
-    | kind.Comm ↦ λ ne u. quiet_drive w outer cmp.Look cmp.Lower (w.core.drive.crossing) refl refl i
-    | j ↦ λ ne u. u
-  ];
-  stack_is = i.on;
-}
-
-passes_done : (w : World) (outer : List Kind) → w.core.drive.crossing.phase ≡ phase.Done → IsCmp w outer cmp.Look → StepKeeps kind.Cmp outer w (passes w.core)
-passes_done w outer e i = record {
-  gates = quiet_gates kind.Cmp w _ (λ e. cc) refl refl refl;
-  fits = λ told. tt;
-  ground = i.ground;
-  tie = λ told. cmp_moves (cross_seen w) cmp.Lower (w.core.drive.crossing) (w.bank.comp_changed) (w.bank.comp_enabled) (w.bank.crossing)
-      (not_shut w outer cmp.Look refl i)
-      (free_of w outer cmp.Look i) (i.ties kind.Cmp)
-      (goes (cross_seen w) cmp.Lower (phase.Done) (w.core.drive.crossing) (w.bank.comp_changed) (w.bank.comp_enabled) (w.bank.crossing) e refl
-      (looked_done (cross_seen w) (free_of w outer cmp.Look i) (stands_at w outer cmp.Look phase.Done i e)));
-  others = elim [
-    | kind.Cmp ↦ λ ne u. absurd (ne refl)
-    | kind.Comm ↦ λ ne u. quiet_drive w outer cmp.Look cmp.Lower (w.core.drive.crossing) refl refl i
-    | j ↦ λ ne u. u
-  ];
-  stack_is = i.on;
-}
-
-begins_early : (end : Tick) (w : World) (outer : List Kind) → w.core.drive.crossing.phase ≡ phase.Blank end → nat_le end.0 w.bank.time ≡ false
+look_early_preserves : (end : Tick) (w : World) (outer : List Kind) → w.core.drive.crossing.phase ≡ phase.Blank end → nat_le end.0 w.bank.time ≡ false
     → IsCmp w outer cmp.Look → StepKeeps kind.Cmp outer w (passes w.core)
-begins_early end w outer e early i = record {
-  gates = quiet_gates kind.Cmp w _ (λ e. cc) refl refl refl;
-  fits = λ told. tt;
-  ground = i.ground;
-  tie = λ told. cmp_moves (cross_seen w) cmp.Lower (w.core.drive.crossing) (w.bank.comp_changed) (w.bank.comp_enabled) (w.bank.crossing)
-      (not_shut w outer cmp.Look refl i)
-      (free_of w outer cmp.Look i) (i.ties kind.Cmp)
-      (goes (cross_seen w) cmp.Lower (phase.Blank end) (w.core.drive.crossing) (w.bank.comp_changed) (w.bank.comp_enabled) (w.bank.crossing) e refl
-      (looked_early (cross_seen w) end.0 early (free_of w outer cmp.Look i) (stands_at w outer cmp.Look (phase.Blank end) i e)));
-  others = elim [
-    | kind.Cmp ↦ λ ne u. absurd (ne refl)
-    | kind.Comm ↦ λ ne u. quiet_drive w outer cmp.Look cmp.Lower (w.core.drive.crossing) refl refl i
-    | j ↦ λ ne u. u
-  ];
-  stack_is = i.on;
-}
+look_early_preserves end w outer e early i = cmp_wait_preserves w outer cmp.Look cmp.Lower (phase.Blank end) w.core.hold NoAccess i refl refl refl refl e
+    (looked_early (cross_seen w) end.0 early (free_of w outer cmp.Look i) (stands_at w outer cmp.Look (phase.Blank end) i e))
 
-is_blanked : (end : Tick) (w : World) (outer : List Kind) → w.core.drive.crossing.phase ≡ phase.Blank end → nat_le end.0 w.bank.time ≡ true
-    → IsCmp w outer cmp.Look → StepKeeps kind.Cmp outer w (blank_step true w.core w.bank)
-is_blanked end w outer e over i = record {
-  gates = quiet_gates kind.Cmp w _ (λ e. cc) refl refl refl;
-  fits = λ told. tt;
-  ground = i.ground;
-  tie = λ told. cmp_moves (cross_seen w) cmp.Read (w.core.drive.crossing) (w.bank.comp_changed && false) (w.bank.comp_enabled || true) (w.bank.crossing)
-      (not_shut w outer cmp.Look refl i)
-      (free_of w outer cmp.Look i) (i.ties kind.Cmp)
-      (goes (cross_seen w) cmp.Read (phase.Blank end) (w.core.drive.crossing) (w.bank.comp_changed && false) (w.bank.comp_enabled || true) (w.bank.crossing) e
-      refl
-      (looked_blanked (cross_seen w) end.0 over (free_of w outer cmp.Look i) (stands_at w outer cmp.Look (phase.Blank end) i e)));
-  others = elim [
-    | kind.Cmp ↦ λ ne u. absurd (ne refl)
-    | kind.Comm ↦ λ ne u. quiet_drive w outer cmp.Look cmp.Read (w.core.drive.crossing) refl refl i
-    | j ↦ λ ne u. u
-  ];
-  stack_is = i.on;
-}
-
-watches : (w : World) (outer : List Kind) → w.core.drive.crossing.phase ≡ phase.Watch → IsCmp w outer cmp.Look
+look_watch_preserves : (w : World) (outer : List Kind) → w.core.drive.crossing.phase ≡ phase.Watch → IsCmp w outer cmp.Look
     → StepKeeps kind.Cmp outer w (goes_on (record w.core { cmp_at = cmp.Ack }) NoAccess)
-watches w outer e i = record {
-  gates = quiet_gates kind.Cmp w _ (λ e. cc) refl refl refl;
-  fits = λ told. tt;
-  ground = i.ground;
-  tie = λ told. cmp_moves (cross_seen w) cmp.Ack (w.core.drive.crossing) (w.bank.comp_changed) (w.bank.comp_enabled) (w.bank.crossing)
-      (not_shut w outer cmp.Look refl i)
-      (free_of w outer cmp.Look i) (i.ties kind.Cmp)
-      (goes (cross_seen w) cmp.Ack (phase.Watch) (w.core.drive.crossing) (w.bank.comp_changed) (w.bank.comp_enabled) (w.bank.crossing) e refl
-      (looked_watch (cross_seen w) (free_of w outer cmp.Look i) (stands_at w outer cmp.Look phase.Watch i e)));
-  others = elim [
-    | kind.Cmp ↦ λ ne u. absurd (ne refl)
-    | kind.Comm ↦ λ ne u. quiet_drive w outer cmp.Look cmp.Ack (w.core.drive.crossing) refl refl i
-    | j ↦ λ ne u. u
-  ];
-  stack_is = i.on;
-}
+look_watch_preserves w outer e i = cmp_wait_preserves w outer cmp.Look cmp.Ack phase.Watch w.core.hold NoAccess i refl refl refl refl e
+    (looked_watch (cross_seen w) (free_of w outer cmp.Look i) (stands_at w outer cmp.Look phase.Watch i e))
 
-rejects : (end : Tick) (w : World) (outer : List Kind) → w.core.drive.crossing.phase ≡ phase.Filter end → nat_le end.0 w.bank.time ≡ true
+-- blanking is over: its changes ask for CMP
+look_blanked_preserves : (end : Tick) (w : World) (outer : List Kind) → w.core.drive.crossing.phase ≡ phase.Blank end → nat_le end.0 w.bank.time ≡ true
+    → IsCmp w outer cmp.Look → StepKeeps kind.Cmp outer w (blank_step true w.core w.bank)
+look_blanked_preserves end w outer e over i =
+    cmp_step_preserves w outer cmp.Look cmp.Read (phase.Blank end) w.core.drive.crossing w.core.hold (w.bank.comp_changed && false)
+    (w.bank.comp_enabled || true)
+    w.bank.crossing (Writes reg.CmpEn 1) i refl refl refl refl e refl
+    (looked_blanked (cross_seen w) end.0 over (free_of w outer cmp.Look i) (stands_at w outer cmp.Look (phase.Blank end) i e))
+
+-- a filter in which the level didn't stand
+judge_rejected_preserves : (end : Tick) (w : World) (outer : List Kind) → w.core.drive.crossing.phase ≡ phase.Filter end → nat_le end.0 w.bank.time ≡ true
     → is_clean w.core.drive.crossing w.bank.comp w.bank.comp_changed ≡ false → IsCmp w outer cmp.Look
     → StepKeeps kind.Cmp outer w (judged_step false w.core w.bank)
-rejects end w outer e over ill i = record {
-  gates = quiet_gates kind.Cmp w _ (λ e. cc) refl refl refl;
-  fits = λ told. tt;
-  ground = i.ground;
-  tie = λ told. cmp_moves (cross_seen w) cmp.Arm (record w.core.drive.crossing { phase = phase.Blank (as_tick (w.bank.time + 400)) }) (w.bank.comp_changed)
-      (w.bank.comp_enabled) (w.bank.crossing) (not_shut w outer cmp.Look refl i)
-      (free_of w outer cmp.Look i) (i.ties kind.Cmp)
-      (goes (cross_seen w) cmp.Arm (phase.Blank (as_tick (w.bank.time + 400))) (record w.core.drive.crossing {
-        phase =
-            phase.Blank (as_tick (w.bank.time + 400));
-      }) (w.bank.comp_changed) (w.bank.comp_enabled) (w.bank.crossing) refl refl
-      (looked_reject (cross_seen w) end.0 over ill (free_of w outer cmp.Look i) (i.ties kind.Cmp) (stands_at w outer cmp.Look (phase.Filter end) i e)));
-  others = elim [
-    | kind.Cmp ↦ λ ne u. absurd (ne refl)
-    | kind.Comm ↦ λ ne u. quiet_drive w outer cmp.Look cmp.Arm (record w.core.drive.crossing { phase = phase.Blank (as_tick (w.bank.time + 400)) }) refl refl i
-    | j ↦ λ ne u. u
-  ];
-  stack_is = i.on;
-}
+judge_rejected_preserves end w outer e over ill i =
+    let anew : Phase = phase.Blank (as_tick (w.bank.time + rejected_blanking)) in
+    cmp_step_preserves w outer cmp.Look cmp.Arm anew (record w.core.drive.crossing { phase = anew }) w.core.hold w.bank.comp_changed w.bank.comp_enabled
+    w.bank.crossing (Reads reg.CmpState) i refl refl refl refl refl refl
+    (looked_reject (cross_seen w) end.0 over ill (free_of w outer cmp.Look i) (i.ties kind.Cmp) (stands_at w outer cmp.Look (phase.Filter end) i e))
 
 -- after a Q there is a demand
 pub q_drives : (turn : Turn) (demand : ℕ) → HasQ turn → (demand ≡ 0 → turn ≡ Idle) → 0 < demand
@@ -269,15 +118,15 @@ is_crossing w outer end i e over well =
     subst (λ (x : Bool). differ x (cross_seen w).expects ≡ false) u.level_is
     (subst (λ (x : Bool). differ w.bank.comp x ≡ false) u.expects_is (not-true (differ w.bank.comp w.core.drive.crossing.expects) two.0)) in
     record {
-      steady = steady_of w.trace (cross_seen w).expects (w.bank.time - 24) w.bank.time (omega arith) i.ground.in_time
-          (bit_steady h (cross_seen w).expects w.bank.comp_changed f.begun (w.bank.time - 24) f.bit (let a = f.end_is in omega arith) two.1 level);
+      steady = steady_of w.trace (cross_seen w).expects (w.bank.time - filter_time) w.bank.time (omega arith) i.ground.outside.in_time
+          (bit_steady h (cross_seen w).expects w.bank.comp_changed f.begun (w.bank.time - filter_time) f.bit (let a = f.end_is in omega arith) two.1 level);
       blanked_before = (let a = f.end_is in let b = f.after in omega arith);
     }
 
 -- where COMM wasn't late, the low switch is on
 low_up : (v : DriveView) → HasQ v.turn → v.drive.postponed ≡ false → TimerKept v → (low_on v ≡ true) × (v.drive.postponed ≡ false)
 low_up v q prompt (inl (e, inl on)) = on
-low_up v q prompt (inl (e, inr late)) = absurd (let z : false ≡ true = sym prompt ∙ late in cc)
+low_up v q prompt (inl (e, inr late)) = absurd (let z : false ≡ true = sym prompt ∙ late.0 in cc)
 low_up v q prompt (inr (at, e, l, c)) = absurd (subst (λ (x : Turn). HasQ x) c.started q)
 
 crossed_change : (turn : Turn) (wait z at time : ℕ) → HasQ turn → at ≡ z + wait → ChangeTied wait (crossed_by turn z) at time
@@ -310,8 +159,19 @@ crossed_drive v wait shut q on prompt same t =
     record {
       switches = t.switches;
       newest = t.newest;
-      next = record { idle = λ z. absurd (let l = q_drives v.turn v.demand q t.next.idle in omega arith); due = λ l. crossed_change v.turn wait v.time _ v.time q (ap (λ (x : ℕ). v.time + x) same); first = λ z l. absurd (omega arith) };
-      row = record { turned = λ l. unforced_now v.turn v.time q; forced = refl; unforced = λ x. refl; rest_unmarked = t.row.rest_unmarked; stuck = λ l. told_mark v.told_stuck v.stuck (is_stuck v.drive) (t.row.stuck l) (t.row.marked l (rw shut refl)); marked = λ l m x. cc };
+      next = record {
+        idle = λ z. absurd (let l = q_drives v.turn v.demand q t.next.idle in omega arith);
+        due = λ l. crossed_change v.turn wait v.time _ v.time q (ap (λ (x : ℕ). v.time + x) same);
+        first = λ z l. absurd (omega arith);
+      };
+      row = record {
+        turned = λ l. unforced_now v.turn v.time q;
+        forced = refl;
+        unforced = λ x. refl;
+        rest_unmarked = t.row.rest_unmarked;
+        stuck = λ l. told_mark v.told_stuck v.stuck (is_stuck v.drive) (t.row.stuck l) (t.row.marked l (rw shut refl));
+        marked = λ l m x. cc;
+      };
       place = subst (λ (x : CommAt). CommTied x (crossed_drive_view v (crossed v.drive v.time) wait)) (sym shut) tt;
       low = λ e l x. cc;
       crossed = λ e. (on, prompt);
@@ -319,10 +179,10 @@ crossed_drive v wait shut q on prompt same t =
     }
 
 -- a crossing is accepted
-accepts : (end : Tick) (w : World) (outer : List Kind) → w.core.drive.crossing.phase ≡ phase.Filter end → nat_le end.0 w.bank.time ≡ true
+judge_accepted_preserves : (end : Tick) (w : World) (outer : List Kind) → w.core.drive.crossing.phase ≡ phase.Filter end → nat_le end.0 w.bank.time ≡ true
     → is_clean w.core.drive.crossing w.bank.comp w.bank.comp_changed ≡ true → IsCmp w outer cmp.Look
     → StepKeeps kind.Cmp outer w (judged_step true w.core w.bank)
-accepts end w outer e over well i =
+judge_accepted_preserves end w outer e over well i =
     let u = i.ties kind.Cmp in
     let t = i.ties kind.Comm in
     let st = stands_at w outer cmp.Look (phase.Filter end) i e in
@@ -368,29 +228,29 @@ accepts end w outer e over well i =
       stack_is = i.on;
     }
 
-by_blank : (v : Bool) (end : Tick) (w : World) (outer : List Kind) → w.core.drive.crossing.phase ≡ phase.Blank end → nat_le end.0 w.bank.time ≡ v
+look_blank_preserves : (v : Bool) (end : Tick) (w : World) (outer : List Kind) → w.core.drive.crossing.phase ≡ phase.Blank end → nat_le end.0 w.bank.time ≡ v
     → IsCmp w outer cmp.Look → StepKeeps kind.Cmp outer w (blank_step v w.core w.bank)
-by_blank true end w outer e over i = is_blanked end w outer e over i
-by_blank false end w outer e early i = begins_early end w outer e early i
+look_blank_preserves true end w outer e over i = look_blanked_preserves end w outer e over i
+look_blank_preserves false end w outer e early i = look_early_preserves end w outer e early i
 
-by_clean : (v : Bool) (end : Tick) (w : World) (outer : List Kind) → w.core.drive.crossing.phase ≡ phase.Filter end → nat_le end.0 w.bank.time ≡ true
+judge_preserves : (v : Bool) (end : Tick) (w : World) (outer : List Kind) → w.core.drive.crossing.phase ≡ phase.Filter end → nat_le end.0 w.bank.time ≡ true
     → is_clean w.core.drive.crossing w.bank.comp w.bank.comp_changed ≡ v → IsCmp w outer cmp.Look → StepKeeps kind.Cmp outer w (judged_step v w.core w.bank)
-by_clean true end w outer e over well i = accepts end w outer e over well i
-by_clean false end w outer e over ill i = rejects end w outer e over ill i
+judge_preserves true end w outer e over well i = judge_accepted_preserves end w outer e over well i
+judge_preserves false end w outer e over ill i = judge_rejected_preserves end w outer e over ill i
 
 -- CMP comes no earlier than the filter's end
-by_filter : (v : Bool) (end : Tick) (w : World) (outer : List Kind) → w.core.drive.crossing.phase ≡ phase.Filter end → nat_le end.0 w.bank.time ≡ v
+look_filter_preserves : (v : Bool) (end : Tick) (w : World) (outer : List Kind) → w.core.drive.crossing.phase ≡ phase.Filter end → nat_le end.0 w.bank.time ≡ v
     → IsCmp w outer cmp.Look → StepKeeps kind.Cmp outer w (filter_step v w.core w.bank)
-by_filter true end w outer e over i = by_clean (is_clean w.core.drive.crossing w.bank.comp w.bank.comp_changed) end w outer e over refl i
-by_filter false end w outer e early i = absurd (
+look_filter_preserves true end w outer e over i = judge_preserves (is_clean w.core.drive.crossing w.bank.comp w.bank.comp_changed) end w outer e over refl i
+look_filter_preserves false end w outer e early i = absurd (
     let l : end.0 ≤ w.bank.time = (stands_at w outer cmp.Look (phase.Filter end) i e).regs.0.1 in
     let g : nat_le end.0 w.bank.time ≡ true = le-leb end.0 w.bank.time l in
     let z : false ≡ true = sym early ∙ g in cc)
 
-pub looks : (p : Phase) (w : World) (outer : List Kind) → w.core.drive.crossing.phase ≡ p → IsCmp w outer cmp.Look
+pub cmp_look_preserves : (p : Phase) (w : World) (outer : List Kind) → w.core.drive.crossing.phase ≡ p → IsCmp w outer cmp.Look
     → StepKeeps kind.Cmp outer w (look_step p w.core w.bank)
-looks phase.Off w outer e i = passes_off w outer e i
-looks (phase.Blank end) w outer e i = by_blank (nat_le end.0 w.bank.time) end w outer e refl i
-looks phase.Watch w outer e i = watches w outer e i
-looks (phase.Filter end) w outer e i = by_filter (nat_le end.0 w.bank.time) end w outer e refl i
-looks phase.Done w outer e i = passes_done w outer e i
+cmp_look_preserves phase.Off w outer e i = look_off_preserves w outer e i
+cmp_look_preserves (phase.Blank end) w outer e i = look_blank_preserves (nat_le end.0 w.bank.time) end w outer e refl i
+cmp_look_preserves phase.Watch w outer e i = look_watch_preserves w outer e i
+cmp_look_preserves (phase.Filter end) w outer e i = look_filter_preserves (nat_le end.0 w.bank.time) end w outer e refl i
+cmp_look_preserves phase.Done w outer e i = look_done_preserves w outer e i

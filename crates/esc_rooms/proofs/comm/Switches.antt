@@ -31,10 +31,10 @@ use Rattle.esc_rooms.specs.Rooms.{StepKeeps, drive_seen, cross_seen}
 use Rattle.esc_rooms.proofs.shared.RoomSteps.{quiet_gates}
 use Rattle.esc_rooms.proofs.shared.DriveFacts.{pair_apart, low_leg_off}
 use Rattle.zero_cross.specs.Kept.{until}
-use Rattle.esc_rooms.proofs.cmp.CrossFacts.{prompt_late, late_blank}
+use Rattle.esc_rooms.proofs.cmp.BesideComm.{prompt_late, late_blank}
 use Rattle.esc_rooms.proofs.comm.Facts.{moved_view, Words, high_words, low_words, IsComm, place_tie, same_to, comm_gates, waits_free}
-use Rattle.esc_rooms.proofs.comm.Goes.{same_search, drive_by, goes}
-use Rattle.esc_rooms.proofs.comm.Turns.{turn_tie, clears_high, clears_low, sets_sector}
+use Rattle.esc_rooms.proofs.comm.Preserves.{same_search, drive_by, comm_step_preserves}
+use Rattle.esc_rooms.proofs.comm.Turns.{turn_tie, clear_high_preserves, clear_low_preserves, set_sector_preserves}
 
 -- ---- the low switch
 
@@ -44,7 +44,8 @@ low_waits : (w : World) (outer : List Kind) (place : CommAt) (at : ChangeAt) (un
     → (w.bank.time < low_free w.core.drive) × (low_on (drive_seen w) ≡ false)
 low_waits w outer place at until i some to e =
     let t = i.ties kind.Comm in
-    let off : is_on w.bank.hi (low_of w.core.drive.turn.to) ≡ false = rw to (low_leg_off w.bank.sector w.bank.hi w.bank.lo t.switches.sectors t.switches.pair) in
+    let off : is_on w.bank.hi (low_of w.core.drive.turn.to) ≡ false =
+    rw to (low_leg_off w.bank.sector w.bank.hi w.bank.lo t.switches.sectors t.switches.pair) in
     let later : w.bank.time < low_free w.core.drive =
     waits_free w.bank.hi (low_free w.core.drive) (low_of w.core.drive.turn.to) w.bank.time until off e in (
       later,
@@ -85,17 +86,20 @@ low_is : (w : World) → w.core.drive.turn.to ≡ w.bank.sector → is_on (bit_o
 low_is w to = subst (λ (s : ℕ). is_on (bit_or w.bank.lo (mask_of (low_of w.core.drive.turn.to))) (low_of s) ≡ true) to
     (or_on w.bank.lo (low_of w.core.drive.turn.to))
 
-low_places : (wait : Option ℕ) (w : World) (outer : List Kind) → low_wait w.core.drive.gates w.bank (low_of w.core.drive.turn.to) ≡ wait
+low_on_preserves : (wait : Option ℕ) (w : World) (outer : List Kind) → low_wait w.core.drive.gates w.bank (low_of w.core.drive.turn.to) ≡ wait
     → IsComm w outer comm.Turn change.Low
     → StepKeeps kind.Comm outer w (turned change.Low (low_step wait w.core.drive.turn w.core.drive.gates w.bank) w.core w.bank)
-low_places None w outer e i =
+low_on_preserves None w outer e i =
     let t = i.ties kind.Comm in
     let g : Gated = w.core.drive.gates in
     let x : Leg = low_of w.core.drive.turn.to in
     let after : Bank = written w.bank reg.GlSet (mask_of x) in
     let tied = turn_tie w outer change.Low i in
     let to : w.core.drive.turn.to ≡ w.bank.sector = same_to w outer comm.Turn change.Low i refl tied.1 in
-    goes w outer comm.Turn comm.Turn change.Low (gates_after g w.bank after) (record { to = w.core.drive.turn.to; at = change.Position }) false w.bank.comm
+    comm_step_preserves w outer comm.Turn comm.Turn change.Low (gates_after g w.bank after) (record {
+      to = w.core.drive.turn.to;
+      at = change.Position;
+    }) false w.bank.comm
     w.bank.stuck w.bank.hi (bit_or w.bank.lo (mask_of x)) _ i refl (λ f. cc) (omega arith) refl refl (record {
       gates = comm_gates w outer comm.Turn change.Low _ i refl
           (low_on_keeps g (gates_after g w.bank after) w.bank after x refl refl refl e
@@ -109,13 +113,14 @@ low_places None w outer e i =
       place_is = record { one = tied.0; some = tied.1; low = low_is w to; prompt = refl };
       late = prompt_late w.core.cmp_at w.core.drive.crossing.phase;
     })
-low_places (Some until) w outer e i =
+low_on_preserves (Some until) w outer e i =
     let t = i.ties kind.Comm in
     let u = i.ties kind.Cmp in
     let tied = turn_tie w outer change.Low i in
     let to : w.core.drive.turn.to ≡ w.bank.sector = same_to w outer comm.Turn change.Low i refl tied.1 in
     let late = low_waits w outer comm.Turn change.Low until i tied.1 to e in
-    goes w outer comm.Turn comm.Blank change.Low w.core.drive.gates w.core.drive.turn true w.bank.comm w.bank.stuck w.bank.hi w.bank.lo _ i refl (λ f. cc)
+    comm_step_preserves w outer comm.Turn comm.Blank change.Low w.core.drive.gates w.core.drive.turn true w.bank.comm w.bank.stuck w.bank.hi w.bank.lo _ i
+    refl (λ f. cc)
     (omega arith) refl refl (record {
       gates = quiet_gates kind.Comm w _ (λ f. cc) refl refl refl;
       words = t.switches;
@@ -132,17 +137,20 @@ low_places (Some until) w outer e i =
     })
 
 -- a postponed one, which may turn on now
-resumed_places : (wait : Option ℕ) (w : World) (outer : List Kind) → low_wait w.core.drive.gates w.bank (low_of w.core.drive.turn.to) ≡ wait
+low_resumed_preserves : (wait : Option ℕ) (w : World) (outer : List Kind) → low_wait w.core.drive.gates w.bank (low_of w.core.drive.turn.to) ≡ wait
     → IsComm w outer comm.Low change.Low
     → StepKeeps kind.Comm outer w (resumed (low_step wait w.core.drive.turn w.core.drive.gates w.bank) w.core)
-resumed_places None w outer e i =
+low_resumed_preserves None w outer e i =
     let t = i.ties kind.Comm in
     let g : Gated = w.core.drive.gates in
     let x : Leg = low_of w.core.drive.turn.to in
     let after : Bank = written w.bank reg.GlSet (mask_of x) in
     let tied : Resumes (drive_seen w) = place_tie w outer comm.Low change.Low i in
     let to : w.core.drive.turn.to ≡ w.bank.sector = same_to w outer comm.Low change.Low i refl tied.some in
-    goes w outer comm.Low comm.Arm change.Low (gates_after g w.bank after) (record { to = w.core.drive.turn.to; at = change.Position }) false w.bank.comm
+    comm_step_preserves w outer comm.Low comm.Arm change.Low (gates_after g w.bank after) (record {
+      to = w.core.drive.turn.to;
+      at = change.Position;
+    }) false w.bank.comm
     w.bank.stuck w.bank.hi (bit_or w.bank.lo (mask_of x)) _ i refl (λ f. cc) (omega arith) refl refl (record {
       gates = comm_gates w outer comm.Low change.Low _ i refl
           (low_on_keeps g (gates_after g w.bank after) w.bank after x refl refl refl e
@@ -159,7 +167,7 @@ resumed_places None w outer e i =
       };
       late = prompt_late w.core.cmp_at w.core.drive.crossing.phase;
     })
-resumed_places (Some until) w outer e i =
+low_resumed_preserves (Some until) w outer e i =
     let tied : Resumes (drive_seen w) = place_tie w outer comm.Low change.Low i in
     let to : w.core.drive.turn.to ≡ w.bank.sector = same_to w outer comm.Low change.Low i refl tied.some in
     let late = low_waits w outer comm.Low change.Low until i tied.some to e in
@@ -168,8 +176,10 @@ resumed_places (Some until) w outer e i =
 -- ---- the high switch
 
 -- a step that turns nothing on, in a change whose low switch is on: to the next place of the change, or behind it
-passes : (w : World) (outer : List Kind) (at to : ChangeAt) (next : CommAt) (access : Access) → IsComm w outer comm.Turn at → is_turning comm.Turn at ≡ false
-    → IsUp (drive_seen w) → accessed w.bank access ≡ record w.bank { accesses = (accessed w.bank access).accesses } → next ≢ comm.Shut → comm_since next to ≤ turn_since at + 1
+comm_quiet_preserves : (w : World) (outer : List Kind) (at to : ChangeAt) (next : CommAt) (access : Access) → IsComm w outer comm.Turn at
+    → is_turning comm.Turn at ≡ false
+    → IsUp (drive_seen w) → accessed w.bank access ≡ record w.bank { accesses = (accessed w.bank access).accesses } → next ≢ comm.Shut
+    → comm_since next to ≤ turn_since at + 1
     → sums_gaps next to ≡ sums_gaps comm.Turn at → begins_search next to ≡ begins_search comm.Turn at → is_marking next to ≡ true
     → CommTied next (moved_view (drive_seen w) (drive_by w w.core.drive.gates (record { to = w.core.drive.turn.to; at = to }) w.core.drive.postponed) next
     w.bank.comm w.bank.stuck (postponed_at w.back) w.bank.hi w.bank.lo)
@@ -177,9 +187,13 @@ passes : (w : World) (outer : List Kind) (at to : ChangeAt) (next : CommAt) (acc
       comm_at = next;
       drive = drive_by w w.core.drive.gates (record { to = w.core.drive.turn.to; at = to }) w.core.drive.postponed;
     }) access)
-passes w outer at to next access i same up stays on since sums search marks place =
+comm_quiet_preserves w outer at to next access i same up stays on since sums search marks place =
     let t = i.ties kind.Comm in
-    goes w outer comm.Turn next at w.core.drive.gates (record { to = w.core.drive.turn.to; at = to }) w.core.drive.postponed w.bank.comm w.bank.stuck
+    comm_step_preserves w outer comm.Turn next at w.core.drive.gates (record {
+      to = w.core.drive.turn.to;
+      at =
+          to;
+    }) w.core.drive.postponed w.bank.comm w.bank.stuck
     w.bank.hi w.bank.lo access i stays on since sums search (record {
       gates = quiet_gates kind.Comm w _ (λ f. cc) refl (ap (λ (b : Bank). b.hi) stays) (ap (λ (b : Bank). b.lo) stays);
       words = t.switches;
@@ -191,28 +205,28 @@ passes w outer at to next access i same up stays on since sums search marks plac
       late = (i.ties kind.Cmp).late;
     })
 
-reads_position : (w : World) (outer : List Kind) → IsComm w outer comm.Turn change.Position
+position_preserves : (w : World) (outer : List Kind) → IsComm w outer comm.Turn change.Position
     → StepKeeps kind.Comm outer w (turn_step change.Position w.core w.bank)
-reads_position w outer i =
+position_preserves w outer i =
     let up : IsUp (drive_seen w) = turn_tie w outer change.Position i in
-    passes w outer change.Position (change.Duty (read_value w.bank reg.PwmPos)) comm.Turn _ i refl up refl (λ f. cc) (omega arith) refl refl refl
+    comm_quiet_preserves w outer change.Position (change.Duty (read_value w.bank reg.PwmPos)) comm.Turn _ i refl up refl (λ f. cc) (omega arith) refl refl refl
     (record { one = up.one; some = up.some; low = up.low; prompt = up.prompt })
 
-duty_places : (below : Bool) (position : ℕ) (w : World) (outer : List Kind) → IsComm w outer comm.Turn (change.Duty position)
+duty_preserves : (below : Bool) (position : ℕ) (w : World) (outer : List Kind) → IsComm w outer comm.Turn (change.Duty position)
     → StepKeeps kind.Comm outer w (turned (change.Duty position) (duty_step below w.core.drive.turn w.core.drive.gates) w.core w.bank)
-duty_places true position w outer i =
+duty_preserves true position w outer i =
     let up : IsUp (drive_seen w) = turn_tie w outer (change.Duty position) i in
-    passes w outer (change.Duty position) change.High comm.Turn _ i refl up refl (λ f. cc) (omega arith) refl refl refl
+    comm_quiet_preserves w outer (change.Duty position) change.High comm.Turn _ i refl up refl (λ f. cc) (omega arith) refl refl refl
     (record { one = up.one; some = up.some; low = up.low; prompt = up.prompt })
-duty_places false position w outer i =
+duty_preserves false position w outer i =
     let up : IsUp (drive_seen w) = turn_tie w outer (change.Duty position) i in
-    passes w outer (change.Duty position) change.Over comm.Blank _ i refl up refl (λ f. cc) (omega arith) refl refl refl
+    comm_quiet_preserves w outer (change.Duty position) change.Over comm.Blank _ i refl up refl (λ f. cc) (omega arith) refl refl refl
     (record { some = up.some; done = inl (up.one, inl (up.low, up.prompt)) })
 
-high_places : (wait : Option ℕ) (w : World) (outer : List Kind) → high_wait w.core.drive.gates w.bank (high_of w.core.drive.turn.to) ≡ wait
+high_preserves : (wait : Option ℕ) (w : World) (outer : List Kind) → high_wait w.core.drive.gates w.bank (high_of w.core.drive.turn.to) ≡ wait
     → IsComm w outer comm.Turn change.High
     → StepKeeps kind.Comm outer w (turned change.High (high_step wait w.core.drive.turn w.core.drive.gates w.bank) w.core w.bank)
-high_places None w outer e i =
+high_preserves None w outer e i =
     let t = i.ties kind.Comm in
     let g : Gated = w.core.drive.gates in
     let x : Leg = high_of w.core.drive.turn.to in
@@ -224,7 +238,7 @@ high_places None w outer e i =
       high = λ y on. elim (or_is w.bank.hi x y on) [ inl s ↦ (ap high_of (sym to) ∙ s, tied.some) | inr o ↦ t.switches.pair.high y o ];
       low = t.switches.pair.low;
     } in
-    goes w outer comm.Turn comm.Blank change.High (gates_after g w.bank after) (record { to = w.core.drive.turn.to; at = change.Over })
+    comm_step_preserves w outer comm.Turn comm.Blank change.High (gates_after g w.bank after) (record { to = w.core.drive.turn.to; at = change.Over })
     w.core.drive.postponed w.bank.comm w.bank.stuck hi w.bank.lo _ i refl (λ f. cc) (omega arith) refl refl (record {
       gates = comm_gates w outer comm.Turn change.High _ i refl
           (high_on_keeps g (gates_after g w.bank after) w.bank after x refl refl refl e
@@ -237,22 +251,23 @@ high_places None w outer e i =
       place_is = record { some = tied.some; done = inl (tied.one, inl (tied.low, tied.prompt)) };
       late = (i.ties kind.Cmp).late;
     })
-high_places (Some until) w outer e i =
+high_preserves (Some until) w outer e i =
     let up : IsUp (drive_seen w) = turn_tie w outer change.High i in
-    passes w outer change.High w.core.drive.turn.at comm.Blank _ i refl up refl (λ f. cc) (omega arith) refl refl refl
+    comm_quiet_preserves w outer change.High w.core.drive.turn.at comm.Blank _ i refl up refl (λ f. cc) (omega arith) refl refl refl
     (record { some = up.some; done = inl (up.one, inl (up.low, up.prompt)) })
 
-pub turn_places : (at : ChangeAt) (w : World) (outer : List Kind) → IsComm w outer comm.Turn at → StepKeeps kind.Comm outer w (turn_step at w.core w.bank)
-turn_places change.ClearHigh w outer i = clears_high w outer i
-turn_places change.ClearLow w outer i = clears_low w outer i
-turn_places change.SetSector w outer i = sets_sector w outer i
-turn_places change.Low w outer i = low_places (low_wait w.core.drive.gates w.bank (low_of w.core.drive.turn.to)) w outer refl i
-turn_places change.Position w outer i = reads_position w outer i
-turn_places (change.Duty position) w outer i = duty_places (nat_lt position w.bank.duty) position w outer i
-turn_places change.High w outer i = high_places (high_wait w.core.drive.gates w.bank (high_of w.core.drive.turn.to)) w outer refl i
-turn_places change.Over w outer i = absurd (turn_tie w outer change.Over i)
+pub comm_turn_preserves : (at : ChangeAt) (w : World) (outer : List Kind) → IsComm w outer comm.Turn at
+    → StepKeeps kind.Comm outer w (turn_step at w.core w.bank)
+comm_turn_preserves change.ClearHigh w outer i = clear_high_preserves w outer i
+comm_turn_preserves change.ClearLow w outer i = clear_low_preserves w outer i
+comm_turn_preserves change.SetSector w outer i = set_sector_preserves w outer i
+comm_turn_preserves change.Low w outer i = low_on_preserves (low_wait w.core.drive.gates w.bank (low_of w.core.drive.turn.to)) w outer refl i
+comm_turn_preserves change.Position w outer i = position_preserves w outer i
+comm_turn_preserves (change.Duty position) w outer i = duty_preserves (nat_lt position w.bank.duty) position w outer i
+comm_turn_preserves change.High w outer i = high_preserves (high_wait w.core.drive.gates w.bank (high_of w.core.drive.turn.to)) w outer refl i
+comm_turn_preserves change.Over w outer i = absurd (turn_tie w outer change.Over i)
 
-pub resumes_low : (w : World) (outer : List Kind) → IsComm w outer comm.Low change.Low → StepKeeps kind.Comm outer w (resumed_step w.core w.bank)
-resumes_low w outer i =
+pub comm_low_preserves : (w : World) (outer : List Kind) → IsComm w outer comm.Low change.Low → StepKeeps kind.Comm outer w (resumed_step w.core w.bank)
+comm_low_preserves w outer i =
     subst (λ (at : ChangeAt). StepKeeps kind.Comm outer w (resumed (place_step at w.core.drive.turn w.core.drive.gates w.bank) w.core)) (sym i.change_is)
-    (resumed_places (low_wait w.core.drive.gates w.bank (low_of w.core.drive.turn.to)) w outer refl i)
+    (low_resumed_preserves (low_wait w.core.drive.gates w.bank (low_of w.core.drive.turn.to)) w outer refl i)

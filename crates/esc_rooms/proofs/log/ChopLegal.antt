@@ -29,19 +29,19 @@ use Rattle.esc_laws.specs.Calls.{calls_turn, calls_low}
 use Rattle.esc_laws.specs.Steps.{Turned, opening, notes_in, journal, own_steps, ReturnsLast, EachStep, StepFits, Awaits}
 use Rattle.esc_laws.specs.Looks.{Made, made_next, made}
 use Rattle.esc_rooms.specs.ChopSteps.{told, ChopFits}
-use Rattle.esc_chopping.specs.ChopView.{View, view, told_by, moved_by, by_of, by_kind, has_leave}
-use Rattle.esc_chopping.specs.ChopView.By.{PwmSteps}
-use Rattle.esc_chopping.specs.ChopLaws.{is_quiet, is_comm_step, DriveFits}
-use Rattle.esc_chopping.specs.ChopPairs.{NoteFits, InPair, EachNote, PairFits}
+use Rattle.esc_chopping.specs.View.{View, view, told_by, moved_by, by_of, by_kind, has_leave}
+use Rattle.esc_chopping.specs.View.By.{PwmSteps}
+use Rattle.esc_chopping.specs.Laws.{is_quiet, is_comm_step, DriveFits}
+use Rattle.esc_chopping.specs.Pairs.{NoteFits, InPair, EachNote, PairFits}
 use Rattle.esc_laws.specs.Saves.{advance_of}
-use Rattle.esc_chopping.specs.ChopBridge.{OneBack, BridgeFits, SeesDrive}
+use Rattle.esc_chopping.specs.FromSteps.{OneBack, BridgeFits, SeesDrive}
 use Rattle.esc_laws.specs.Chopped.{Chopped}
 use Rattle.esc_laws.proofs.Pushes.{journal-push, made-push, made-none, own-push}
 use Rattle.esc_laws.proofs.Notes.{all_front}
-use Rattle.esc_chopping.proofs.ChopPushes.{view-push, view-none}
-use Rattle.esc_chopping.proofs.ChopHigh.{same_after}
-use Rattle.esc_chopping.proofs.ChopBack.{Says, says_all, says_note, says_moved}
-use Rattle.esc_chopping.proofs.ChopBridge.{chopped_of}
+use Rattle.esc_chopping.proofs.Pushes.{view-push, view-none}
+use Rattle.esc_chopping.proofs.High.{same_after}
+use Rattle.esc_chopping.proofs.OfJournal.{Says, says_all, says_note, says_moved}
+use Rattle.esc_chopping.proofs.FromSteps.{chopped_of}
 use Rattle.std.proofs.lemmas.Bool.{leb-true}
 use Rattle.arming.proofs.InOrder.{reverse-push}
 use Rattle.std.proofs.lemmas.Bool.{not-true}

@@ -23,7 +23,7 @@ use Rattle.esc_laws.specs.Steps.{Turned, journal, open_in}
 use Rattle.esc_rooms.specs.Tied.{WordTold}
 use Rattle.esc_rooms.specs.World.{world, counted, enters, all_notes}
 use Rattle.esc_rooms.specs.Rooms.{DriveKeeps}
-use Rattle.esc_chopping.specs.ChopView.{has_leave}
+use Rattle.esc_chopping.specs.View.{has_leave}
 use Rattle.esc_rooms.specs.ChopSteps.{told, ChopFits}
 use Rattle.esc_laws.proofs.Pushes.{journal-push}
 

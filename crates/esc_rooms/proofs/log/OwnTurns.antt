@@ -1,6 +1,7 @@
 -- A whole step of the innermost handler, its return too: which notes it has, and what holds after it between any two steps.
-use Rattle.std.proofs.Common.{◌≡◌, ◌≢◌, ◌≤◌, ◌<◌, ℕ, Bool, true, false, ◌&&◌, nat_lt, if◌then◌else◌, List, [], ◌∷◌, ◌++◌, Some, refl, sym, ◌∙◌, ap, subst, inl, inr, append_assoc}
+use Rattle.std.proofs.Common.{◌≡◌, ◌≢◌, ◌≤◌, ◌<◌, ◌==◌, ℕ, length, arith, Bool, true, false, ◌&&◌, nat_lt, if◌then◌else◌, List, [], ◌∷◌, ◌++◌, Some, refl, sym, ◌∙◌, ap, subst, inl, inr, append_assoc}
 use Rattle.std.proofs.lemmas.Bool.{le-ltb}
+use Rattle.std.proofs.lemmas.List.{length-append}
 use Rattle.esc_base.specs.declared.kind.Kind.{Kind}
 use Rattle.esc_base.specs.declared.note.Note.{Note}
 use Rattle.esc_base.specs.declared.note.Note.TheVariants as note
@@ -8,6 +9,7 @@ use Rattle.esc_base.specs.Numbers.{kind_number, as_tick}
 use Rattle.timer_regs.specs.Bank.{Bank}
 use Rattle.interrupt_machine.specs.declared.firmware.Did.{Did}
 use Rattle.interrupt_machine.specs.declared.firmware.Did.TheVariants.{More, Return}
+use Rattle.interrupt_machine.specs.declared.firmware.Own.TheVariants as own
 use Rattle.interrupt_machine.specs.Did.{accessed, notes_of}
 use Rattle.interrupt_machine.specs.Open.{innermost, is_open, IsStack}
 use Rattle.interrupt_machine.specs.Turn.{gate_note, leave_note, own_notes}
@@ -16,6 +18,7 @@ use Rattle.esc_core.specs.Brain.{Brain}
 use Rattle.esc_core.specs.Stepped.{Stepped, IsStepped, is_return}
 use Rattle.esc_core.specs.Firmware.{left_of, need_of, is_stray}
 use Rattle.esc_core.proofs.Bounds.{Bounds}
+use Rattle.esc_laws.specs.Steps.{most_notes}
 use Rattle.esc_rooms.specs.Tied.{Keeps}
 use Rattle.esc_rooms.specs.World.{all_notes, open_left}
 use Rattle.esc_rooms.proofs.shared.Facts.{access_time, outer_open, not_open}
@@ -45,6 +48,26 @@ own_are k b b' s did c' i =
     ∙ append_assoc (gate_note b.hi b.lo after) (notes_of did) (leave_note after k did)
     ∙ ap (λ (ns : List Note). gate_note b.hi b.lo after ++ ns)
     (ap (λ (ns : List Note). ns ++ leave_note after k did) i.notes_are ∙ ap (λ (ns : List Note). s.notes ++ ns) leaves)
+
+-- they are few: a G, at most two of its own, and the return
+few_gates : (v : Bool) (g : Note) → length (if v then [] else g ∷ []) ≤ 1
+few_gates true g = omega arith
+few_gates false g = omega arith
+
+few_of : (did : Did) (after : Bank) (k : Kind) → length (notes_of did ++ leave_note after k did) ≤ 3
+few_of (More own.None) after k = omega arith
+few_of (More (own.One n)) after k = omega arith
+few_of (More (own.Two n m)) after k = omega arith
+few_of (Return own.None) after k = omega arith
+few_of (Return (own.One n)) after k = omega arith
+few_of (Return (own.Two n m)) after k = omega arith
+
+pub own_few : (hi lo : ℕ) (after : Bank) (k : Kind) (did : Did) → length (own_notes hi lo after k did) ≤ most_notes
+own_few hi lo after k did =
+    let g = few_gates ((after.hi == hi) && (after.lo == lo)) (note.Gate (record { 0 = after.time }) after.hi after.lo) in
+    let own = few_of did after k in
+    rw (append_assoc (gate_note hi lo after) (notes_of did) (leave_note after k did), length-append (gate_note hi lo after) (notes_of did ++ leave_note after k did))
+    (omega arith)
 
 -- ---- what holds between any two steps
 

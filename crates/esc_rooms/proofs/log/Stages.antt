@@ -1,21 +1,18 @@
--- Each stage of a run, once for all handlers: an entry, an own step, time, an event.
-use Rattle.std.proofs.Common.{◌≡◌, ◌≢◌, ◌≤◌, ◌<◌, ℕ, Bool, true, false, ◌&&◌, ◌==◌, if◌then◌else◌, List, [], ◌∷◌, ◌++◌, reverse, Some, None, ◌⊎◌, refl, sym, ◌∙◌, ap, subst, arith, All, inl, inr, append-nil, append_assoc}
+-- A step of a run, once for all handlers: what holds after an entry and after an own step.
+use Rattle.std.proofs.Common.{◌≡◌, ◌≢◌, ◌<◌, ℕ, Bool, true, false, ◌&&◌, ◌==◌, if◌then◌else◌, List, [], ◌∷◌, ◌++◌, reverse, Some, None, ◌⊎◌, refl, sym, ◌∙◌, ap, subst, arith, All, inl, inr, append-nil, append_assoc}
 use Rattle.std.proofs.lemmas.Bool.{cases_Bool}
 use Rattle.std.proofs.lemmas.Bool.Decides.{nat_tests}
-use Rattle.std.proofs.lemmas.List.Elements.{All-nil, All-cons, All-push}
+use Rattle.std.proofs.lemmas.List.Elements.{All-nil, All-cons, All-tail}
 use Rattle.esc_base.specs.declared.kind.Kind.{Kind}
 use Rattle.esc_base.specs.declared.kind.Kind.TheVariants as kind
 use Rattle.esc_base.specs.declared.event.Event.{Event}
-use Rattle.esc_base.specs.declared.event.Event.TheVariants as event
 use Rattle.esc_base.specs.declared.note.Note.{Note}
 use Rattle.esc_base.specs.declared.note.Note.TheVariants as note
 use Rattle.esc_base.specs.Journal.{time_of}
 use Rattle.esc_base.specs.Numbers.{kind_number, as_tick}
-use Rattle.esc_base.specs.Trace.{Line, line, tick_of, differ}
-use Rattle.esc_base.proofs.TraceLaws.{line-push}
 use Rattle.settings_block.specs.declared.stored.Loaded.{Loaded}
 use Rattle.timer_regs.specs.Bank.{Bank}
-use Rattle.timer_regs.specs.Effects.{after_entry, after_line}
+use Rattle.timer_regs.specs.Effects.{after_entry}
 use Rattle.interrupt_machine.specs.declared.nest.Nest.{Nest}
 use Rattle.interrupt_machine.specs.Did.{accessed}
 use Rattle.interrupt_machine.specs.Open.{due_now}
@@ -30,27 +27,23 @@ use Rattle.esc_laws.specs.Place.{Place, next, place}
 use Rattle.gate_driver.specs.DeadSafe.{high_at, low_at, IsSafe, IsTied}
 use Rattle.gate_driver.proofs.OffTimes.{gates_same}
 use Rattle.gate_driver.proofs.DeadTime.{said_after}
-use Rattle.zero_cross.specs.Comparator.{Held, held}
-use Rattle.esc_laws.specs.Nested.{IsAboveAll, IsBuilt, IsAsked}
-use Rattle.esc_laws.specs.Steps.{opening, is_entry, ReturnsLast}
+use Rattle.esc_laws.specs.Asked.{IsAsked}
+use Rattle.esc_laws.specs.Nested.{IsAboveAll, IsBuilt}
+use Rattle.esc_laws.specs.Steps.{opening, is_entry, is_gate, ReturnsLast, GateFirst}
 use Rattle.esc_laws.specs.Saves.{is_save}
 use Rattle.esc_rooms.specs.Tied.{WordTold}
 use Rattle.esc_laws.specs.Looks.{Made, made_next, placed}
-use Rattle.esc_rooms.specs.World.{World, so_far, onto, noted, enters, after_enter, after_step, step_notes, all_notes, gated, counted, open_left, at_time, line_event, comp_event, after_event, after_outside}
-use Rattle.esc_laws.specs.InTime.{IsInTime}
+use Rattle.esc_rooms.specs.World.{World, so_far, onto, noted, enters, after_enter, after_step, step_notes, all_notes, gated, counted, open_left}
 use Rattle.esc_rooms.specs.Rooms.{Above, HoldsAlone, Past, Ground, Tie, Ties, owner, AllFit, WordMoves, GatesKeep, StepTold, StepKeeps, DriveKeeps}
-use Rattle.esc_laws.proofs.Pushes.{All-later, place-push}
+use Rattle.esc_laws.proofs.Pushes.{place-push}
 use Rattle.esc_laws.specs.NoteLaw as owed
 use Rattle.esc_laws.specs.Said.{NoteKeeps, NoteFits, Said}
 use Rattle.esc_laws.proofs.Notes.{said_push}
 use Rattle.esc_rooms.proofs.shared.Facts.{access_time}
-use Rattle.esc_rooms.proofs.shared.Lines.{edge_now, edge_bank, line_changes, line_same, rising_push}
-use Rattle.esc_laws.proofs.Rests.{rest_now}
 use Rattle.esc_rooms.proofs.shared.RoomSteps.{ground_noted}
 use Rattle.esc_rooms.proofs.shared.Returns.{returns_last}
-use Rattle.esc_rooms.proofs.shared.Law.{Highest, Given}
+use Rattle.esc_rooms.proofs.shared.Law.{AtEntry, Highest, Given}
 use Rattle.esc_rooms.proofs.log.Laws.{law}
-use Rattle.esc_laws.proofs.Comparator.{held-push, held_stays, held_now, comp_now, in_time_push}
 use Rattle.esc_laws.proofs.Placed.{placed-is}
 
 -- ---- the notes in both orders
@@ -110,6 +103,19 @@ owned_no_entry n k e = refl
 owned_save : (n : Note) (k : Kind) → owner n ≡ Some k → is_save n ≡ true → k ≡ kind.Main
 owned_save (note.Saved t r) k e is = (let z : Some kind.Main ≡ Some k = e in cc)
 owned_save n k e is = cc
+
+owned_no_gate : (n : Note) (k : Kind) → owner n ≡ Some k → is_gate n ≡ false
+owned_no_gate (note.Gate t hi lo) k e = absurd (let z : None ≡ Some k = e in cc)
+owned_no_gate n k e = refl
+
+-- a step's own notes have no G
+none_gate : (k : Kind) (w : World) (notes : List Note) → AllFit k w notes → All (λ m. is_gate m ≡ false) notes
+none_gate k w [] f = All-nil (λ m. is_gate m ≡ false)
+none_gate k w (n ∷ notes) f = All-cons (λ m. is_gate m ≡ false) n notes (owned_no_gate n k f.0.owned) (none_gate k (noted w n) notes f.1)
+
+first_of_none : (notes : List Note) → All (λ m. is_gate m ≡ false) notes → GateFirst notes
+first_of_none [] a = tt
+first_of_none (n ∷ notes) a = All-tail (λ m. is_gate m ≡ false) n notes a
 
 all_own : (k : Kind) (w : World) (notes : List Note) → AllFit k w notes → All (IsOwn k w.bank.time) notes
 all_own k w [] f = All-nil (IsOwn k w.bank.time)
@@ -218,6 +224,7 @@ pub step_made : (k : Kind) (answers : List Answer) (loaded : Loaded) (nest : Nes
     × All (IsOwn k b.time) (all_notes b k (kind_step k answers (counted_down c b) b))
     × ReturnsLast k (all_notes b k (kind_step k answers (counted_down c b) b))
     × DriveKeeps k (counted (world_of loaded nest trace c b made rest)) (kind_step k answers (counted_down c b) b)
+    × GateFirst (all_notes b k (kind_step k answers (counted_down c b) b))
 step_made k answers loaded nest trace c b made rest outer i past above alone left given =
     let s : Stepped = kind_step k answers (counted_down c b) b in
     let after : Bank = accessed b s.access in
@@ -230,18 +237,26 @@ step_made k answers loaded nest trace c b made rest outer i past above alone lef
     let some : 0 < left_of w.core k = rw (counted_left k c b) left in
     let holds : HoldsAlone k w = (λ j ne. rw (counted_need j c b) (alone j ne)) in
     let was : WordTold w.core w.bank w.back = i.gates in
-    let plain : StepKeeps k outer w s = (law k).steps w answers outer given i.ground ties shut holds past on some in
+    let plain : StepKeeps k outer w s = (law k).steps w answers outer given
+    (record { rest = record { ground = i.ground; ties = ties }; past = past; above = shut; alone = holds; on = on; left = some }) in
     elim (word_after b after (access_time b s.access)) [
       | inl same ↦ rw same.none (
         kept_stood k w rest outer s refl i.said ties (told_same k w s plain.gates was same) plain,
         all_own k w (step_notes b.time k s) (plain.fits (told_same k w s plain.gates was same)),
         returns_last k outer w s on (told_same k w s plain.gates was same) plain,
         plain.gates.drive,
+        first_of_none (step_notes b.time k s) (none_gate k w (step_notes b.time k s) (plain.fits (told_same k w s plain.gates was same))),
       )
       | inr other ↦ (
           let told : StepKeeps k outer (gated w after) s =
-          (law k).steps (gated w after) answers outer given (ground_noted w g refl refl tt refl i.ground) (λ j. gate_tie j w after (ties j)) shut holds
-          past on some in
+          (law k).steps (gated w after) answers outer given (record {
+            rest = record { ground = ground_noted w g refl refl tt refl i.ground; ties = λ j. gate_tie j w after (ties j) };
+            past = past;
+            above = shut;
+            alone = holds;
+            on = on;
+            left = some;
+          }) in
           let by = gate_said k w s plain.gates was other in
           let gate = plain.gates.fits was other.moves in
           let said : Said loaded nest trace b.time (rest ++ g ∷ []) =
@@ -257,6 +272,7 @@ step_made k answers loaded nest trace c b made rest outer i past above alone lef
             All-cons (IsOwn k b.time) g (step_notes b.time k s) (refl, refl, λ e. cc) (all_own k (gated w after) (step_notes b.time k s) (told.fits by.1)),
             returns_last k outer (gated w after) s on by.1 told,
             plain.gates.drive,
+            none_gate k (gated w after) (step_notes b.time k s) (told.fits by.1),
           ))
     ]
 
@@ -280,7 +296,7 @@ enter_stack k p t = refl
 
 -- an I fits where the kind is asked for and above all open ones
 enter_fits : (k : Kind) (w : World) (before : List Note) (stack : List Kind) → Tie kind.Cmp w → reverse before ≡ w.back → (place before).stack ≡ stack
-    → IsBuilt k × IsAsked k w.back w.bank.time → IsAboveAll w.nest stack (kind_number k) → NoteFits w.loaded w.nest w.trace before (enters k w.bank.time)
+    → IsBuilt k × IsAsked w.loaded w.trace (so_far w) w.back w.bank.time k → IsAboveAll w.nest stack (kind_number k) → NoteFits w.loaded w.nest w.trace before (enters k w.bank.time)
 enter_fits k w before stack few e open_is asked above =
     note_fits w before (enters k w.bank.time) e (record {
       laws = elim [
@@ -289,8 +305,8 @@ enter_fits k w before stack few e open_is asked above =
           rw (kind_of-number k) asked.0,
           subst (λ (st : List Kind). IsAboveAll w.nest st (kind_number k))
               (sym (ap (λ (p : Place). p.stack) (ap placed (sym e) ∙ placed-is before) ∙ open_is)) above,
-          rw (kind_of-number k) asked.1,
         )
+        | owed.Asks ↦ rw (kind_of-number k) asked.1
         | l ↦ tt
       ];
       waits = tt;
@@ -304,175 +320,27 @@ pub enter_stood : (k : Kind) (loaded : Loaded) (nest : Nest) (trace : List Event
 enter_stood k loaded nest trace c b made rest stack i past none unheld due high above =
     let w : World = world_of loaded nest trace c b made rest in
     let n : Note = enters k b.time in
+    let at : AtEntry k w = record {
+      rest = record { ground = i.ground; ties = i.ties };
+      past = past;
+      told = i.gates;
+      unheld = unheld;
+      shut = none;
+      due = due;
+      highest = high;
+    } in
     let back : n ∷ reverse (opening loaded ++ rest) ≡ reverse (opening loaded ++ (rest ++ n ∷ [])) =
     sym (reverse-push (opening loaded ++ rest) n) ∙ ap reverse (append_assoc (opening loaded) rest (n ∷ [])) in
     record {
       said = subst (λ (t : ℕ). Said loaded nest trace t (rest ++ n ∷ [])) (sym (enter_time k b)) (said_push loaded nest trace b.time rest n i.said refl
-          (enter_fits k w (opening loaded ++ rest) stack (i.ties kind.Cmp) refl i.stack_is ((law k).asked w i.ground i.ties unheld due) above));
+          (enter_fits k w (opening loaded ++ rest) stack (i.ties kind.Cmp) refl i.stack_is ((law k).asked w at) above));
       gates = subst (λ (ns : List Note). WordTold (entered_core c k) (after_entry b k) ns) back (enter_told k c b (reverse (opening loaded ++ rest)) i.gates);
       ground = subst (λ (ns : List Note). Ground (record (after_enter k w) { back = ns })) back (ground_enter k w i.ground);
       ties = λ j. subst (λ (ns : List Note). Tie j (record (after_enter k w) { back = ns })) back (elim (same_kind j k) [
-        | inl e ↦ subst (λ (x : Kind). Tie x (after_enter k w)) (sym e) ((law k).entered w i.ground i.ties unheld none due past high)
-        | inr ne ↦ (law k).beside w i.ground i.ties unheld none due past high j ne
+        | inl e ↦ subst (λ (x : Kind). Tie x (after_enter k w)) (sym e) ((law k).entered w at)
+        | inr ne ↦ (law k).beside w at j ne
       ]);
       stack_is = ap (λ (ns : List Note). (place ns).stack) (sym (append_assoc (opening loaded) rest (n ∷ [])))
           ∙ ap (λ (p : Place). p.stack) (place-push (opening loaded ++ rest) n) ∙ enter_stack k (place (opening loaded ++ rest)) b.time
           ∙ ap (λ (st : List Kind). k ∷ st) i.stack_is;
     }
-
--- ---- time goes on
-
-pub later_ground : (w : World) (u : ℕ) → w.bank.time ≤ u → u < 2147483648 → Ground w → Ground (at_time w u)
-later_ground w u from small g = record {
-  control = g.control;
-  orders = g.orders;
-  level = g.level;
-  edges = (All-later (λ e. e.t.0) (line w.trace).edges w.bank.time u from g.edges.0, g.edges.1);
-  rested = g.rested;
-  small = small;
-  events = All-later (λ e. tick_of e) w.trace w.bank.time u from g.events;
-  in_time = g.in_time;
-  comparator = g.comparator ∙ ap (λ (h : Held). h.level) (sym (held_stays w.trace w.bank.time u from g.events));
-  line = g.line;
-}
-
--- ---- an event at now
-
-outside_is : (b : Bank) (e : Event)
-    → after_event b e ≡ record b {
-      level = (line_event b e).level;
-      window = (line_event b e).window;
-      timer = (line_event b e).timer;
-      changed = (line_event b e).changed;
-      comp = (comp_event b e).comp;
-      comp_changed = (comp_event b e).comp_changed;
-    }
-outside_is b (event.Edge at level) = by_test (differ b.level level)
-  where
-    by_test : (v : Bool)
-        → (if v then edge_bank b level else b) ≡ record b {
-          level = (if v then edge_bank b level else b).level;
-          window =
-              (if v then edge_bank b level else b).window;
-          timer = (if v then edge_bank b level else b).timer;
-          changed =
-              (if v then edge_bank b level else b).changed;
-        }
-    by_test true = refl
-    by_test false = refl
-outside_is b (event.Comp at level) = by_test (differ b.comp level)
-  where
-    comp_bank : Bank
-    comp_bank = record b { comp = level; comp_changed = true }
-
-    by_test : (v : Bool)
-        → (if v then comp_bank else b) ≡ record b { comp = (if v then comp_bank else b).comp; comp_changed = (if v then comp_bank else b).comp_changed }
-    by_test true = refl
-    by_test false = refl
-outside_is b e = refl
-
-events_now : (w : World) (e : Event) → tick_of e ≡ w.bank.time → Ground w → All (λ x. tick_of x ≤ w.bank.time) (w.trace ++ e ∷ [])
-events_now w e is g = All-push (λ x. tick_of x ≤ w.bank.time) w.trace e g.events (omega arith)
-
-in_time_now : (w : World) (e : Event) → tick_of e ≡ w.bank.time → Ground w → IsInTime 0 (w.trace ++ e ∷ [])
-in_time_now w e is g = in_time_push w.trace e 0 (omega arith) g.in_time (All-later tick_of w.trace w.bank.time (tick_of e) (omega arith) g.events)
-
-edge_ground : (v : Bool) (w : World) (level : Bool) → differ w.bank.level level ≡ v → Ground w
-    → Ground (record w {
-      trace = w.trace ++ event.Edge
-          (as_tick w.bank.time) level ∷ [];
-      bank = record w.bank { level = (if v then edge_bank w.bank level else w.bank).level; changed = (if v then edge_bank w.bank level else w.bank).changed };
-    })
-edge_ground true w level d g =
-    let new = line_changes w.trace w.bank level (subst (λ (l : Bool). differ l level ≡ true) g.level d) in
-    record {
-      control = g.control;
-      orders = g.orders;
-      level = ap (λ (l : Line). l.level) (sym new);
-      edges = rw new (
-        All-push (λ y. y.t.0 ≤ w.bank.time) (line w.trace).edges (edge_now w.bank level) g.edges.0 (omega arith),
-        rising_push (line w.trace).edges (edge_now w.bank level) 0 g.edges.1 g.edges.0 (omega arith),
-      );
-      rested = rw new (rest_now (line w.trace).edges (edge_now w.bank level) g.edges.0);
-      events = events_now w (event.Edge (as_tick w.bank.time) level) refl g;
-      in_time = in_time_now w (event.Edge (as_tick w.bank.time) level) refl g;
-      comparator = rw (held-push w.trace (event.Edge (as_tick w.bank.time) level) w.bank.time) g.comparator;
-      line = g.line;
-      small = g.small;
-    }
-edge_ground false w level d g =
-    let same = line_same w.trace w.bank level (subst (λ (l : Bool). differ l level ≡ false) g.level d) in
-    record {
-      control = g.control;
-      orders = g.orders;
-      level = rw same g.level;
-      edges = rw same g.edges;
-      rested = rw same g.rested;
-      events = events_now w (event.Edge (as_tick w.bank.time) level) refl g;
-      in_time = in_time_now w (event.Edge (as_tick w.bank.time) level) refl g;
-      comparator = rw (held-push w.trace (event.Edge (as_tick w.bank.time) level) w.bank.time) g.comparator;
-      line = g.line;
-      small = g.small;
-    }
-
-outside_ground : (w : World) (e : Event) → tick_of e ≡ w.bank.time → Ground w → Ground (after_outside w e)
-outside_ground w (event.Edge at level) is g =
-    subst
-    (λ (n : ℕ). Ground
-    (record w {
-      trace = w.trace ++ event.Edge
-          (as_tick n) level ∷ [];
-      bank = record w.bank {
-        level = (after_line w.bank level).level;
-        window = (after_line w.bank level).window;
-        timer =
-            (after_line w.bank level).timer;
-        changed = (after_line w.bank level).changed;
-      };
-    }))
-    (sym is)
-    (edge_ground (differ w.bank.level level) w level refl g)
-outside_ground w (event.Comp at level) is g = record {
-  control = g.control;
-  orders = g.orders;
-  level = rw (line-push w.trace (event.Comp at level)) g.level;
-  edges = rw (line-push w.trace (event.Comp at level)) g.edges;
-  rested = rw (line-push w.trace (event.Comp at level)) g.rested;
-  events = events_now w (event.Comp at level) is g;
-  in_time = in_time_now w (event.Comp at level) is g;
-  comparator = comp_now w.bank (held w.trace w.bank.time) at.0 level g.comparator ∙ ap (λ (h : Held). h.level) (sym (held_now w.trace at level w.bank.time is));
-  line = g.line;
-  small = g.small;
-}
-outside_ground w (event.Serial at byte) is g = record {
-  control = g.control;
-  orders = g.orders;
-  level = rw (line-push w.trace (event.Serial at byte)) g.level;
-  edges = rw (line-push w.trace (event.Serial at byte)) g.edges;
-  rested = rw (line-push w.trace (event.Serial at byte)) g.rested;
-  events = events_now w (event.Serial at byte) is g;
-  in_time = in_time_now w (event.Serial at byte) is g;
-  comparator = rw (held-push w.trace (event.Serial at byte) w.bank.time) g.comparator;
-  line = g.line;
-  small = g.small;
-}
-outside_ground w (event.Stall at n) is g = record {
-  control = g.control;
-  orders = g.orders;
-  level = rw (line-push w.trace (event.Stall at n)) g.level;
-  edges = rw (line-push w.trace (event.Stall at n)) g.edges;
-  rested = rw (line-push w.trace (event.Stall at n)) g.rested;
-  events = events_now w (event.Stall at n) is g;
-  in_time = in_time_now w (event.Stall at n) is g;
-  comparator = rw (held-push w.trace (event.Stall at n) w.bank.time) g.comparator;
-  line = g.line;
-  small = g.small;
-}
-
-pub event_ground : (w : World) (e : Event) → tick_of e ≡ w.bank.time → Ground w → Ground (record w { trace = w.trace ++ e ∷ []; bank = after_event w.bank e })
-event_ground w e is g = subst (λ (b : Bank). Ground (record w { trace = w.trace ++ e ∷ []; bank = b })) (sym (outside_is w.bank e)) (outside_ground w e is g)
-
-pub event_tie : (j : Kind) (w : World) (e : Event) → tick_of e ≡ w.bank.time → Past w.made w.bank.time → Ground w → Ties w
-    → Tie j (record w { trace = w.trace ++ e ∷ []; bank = after_event w.bank e })
-event_tie j w e is past g t =
-    subst (λ (b : Bank). Tie j (record w { trace = w.trace ++ e ∷ []; bank = b })) (sym (outside_is w.bank e)) ((law j).outside w e is past g t)

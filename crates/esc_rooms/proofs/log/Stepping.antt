@@ -1,5 +1,5 @@
 -- An entry and an own step carry the log on.
-use Rattle.std.proofs.Common.{◌≡◌, ◌≢◌, ◌≤◌, ◌<◌, ◌+◌, ℕ, Bool, true, false, not, if◌then◌else◌, List, [], ◌∷◌, ◌++◌, reverse, Some, None, refl, sym, ◌∙◌, subst, arith, All, ◌⊎◌, inl, inr}
+use Rattle.std.proofs.Common.{◌≡◌, ◌≢◌, ◌≤◌, ◌<◌, ◌+◌, ℕ, Bool, true, false, not, if◌then◌else◌, List, [], ◌∷◌, ◌++◌, length, reverse, Some, None, refl, sym, ◌∙◌, subst, arith, All, ◌⊎◌, inl, inr}
 use Rattle.std.proofs.lemmas.Bool.{not-true, and_parts}
 use Rattle.std.proofs.lemmas.List.Elements.{All-nil, All-cons, All-weaker}
 use Rattle.esc_base.specs.declared.kind.Kind.{Kind}
@@ -28,41 +28,40 @@ use Rattle.esc_core.specs.Firmware.{left_of, need_of, entered_core, kind_step, c
 use Rattle.esc_core.proofs.Bounds.{Bounds, need_some, mask_down, goes_bounds}
 use Rattle.esc_laws.specs.Place.{Place}
 use Rattle.esc_laws.specs.Seen.{sees, sees_at}
-use Rattle.esc_laws.specs.Steps.{Turned, opening, notes_in, journal, after, uses, is_of, is_entry, ReturnsLast, own_steps, steps_since, entered_at, called, StepFits, Below}
+use Rattle.esc_laws.specs.Steps.{Turned, opening, notes_in, journal, after, uses, is_of, is_entry, is_gate, ReturnsLast, GateFirst, most_notes, own_steps, steps_since, entered_at, called, StepFits, Below}
 use Rattle.esc_rooms.specs.Tied.{Keeps, WordTold}
 use Rattle.esc_laws.specs.Looks.{made}
 use Rattle.esc_rooms.specs.World.{world, enters, all_notes, open_left}
-use Rattle.esc_rooms.specs.Rooms.{Ground, Tie}
 use Rattle.esc_rooms.specs.Logged.{Logged}
 use Rattle.esc_laws.proofs.Pushes.{notes-push, own-push, made-push, since-push}
 use Rattle.esc_laws.proofs.Stalls.{free_ended}
 use Rattle.esc_rooms.proofs.shared.Facts.{of_self, of_other, some_open, outer_open, left_open, access_time}
-use Rattle.esc_rooms.proofs.shared.Law.{Highest, Given}
+use Rattle.esc_rooms.proofs.shared.Law.{AtRest, Highest, Given}
 use Rattle.esc_rooms.proofs.log.Laws.{law}
 use Rattle.esc_rooms.proofs.log.Stages.{world_of, IsOwn, enter_time, enter_stood, step_made}
 use Rattle.esc_laws.proofs.Placed.{placed-is}
 use Rattle.esc_rooms.proofs.log.Entries.{unheld_down, holds_alone, entered_others, entered_most, entry_above_all, keeps_entry, entry_above_kinds}
 use Rattle.esc_rooms.proofs.log.OwnTurns.{steady, keeps_own}
 use Rattle.esc_rooms.proofs.log.ChopSteps.{entry_chops, own_chops}
-use Rattle.esc_rooms.proofs.log.Turns.{reached_on, reached_new, by_on, by_new, stood, logged_after}
+use Rattle.esc_rooms.proofs.log.Turns.{reached_on, reached_new, by_on, by_new, stood, at_rest, logged_after}
 
 -- ---- what is seen due, and isn't open, is due
 
 waits_due : (loaded : Loaded) (nest : Nest) (trace : List Event) (c : Brain) (b : Bank) (stack : List Kind) (log : List Turned) → Keeps c b stack
-    → Ground (world loaded nest trace c b log) → ((j : Kind) → Tie j (world loaded nest trace c b log)) → WordTold c b (reverse (journal loaded log))
+    → AtRest (world loaded nest trace c b log) → WordTold c b (reverse (journal loaded log))
     → ((j : Kind) → 8 < need_of c j) → (k : Kind) → sees loaded trace (journal loaded log) b.time k ≡ true → is_open stack k ≡ false
     → due_now (waits_of c) b k ≡ true
-waits_due loaded nest trace c b stack log keeps g t told unheld k s f =
-    (law k).called (world loaded nest trace c b log) g t told unheld (keeps.shut k f)
+waits_due loaded nest trace c b stack log keeps rest told unheld k s f =
+    (law k).called (world loaded nest trace c b log) (record { rest = rest; told = told; unheld = unheld; shut = keeps.shut k f })
     (subst (λ (p : Place). sees_at loaded trace p (reverse (journal loaded log)) b.time k ≡ true) (sym (placed-is (journal loaded log))) s)
 
 pub sees_due : (loaded : Loaded) (nest : Nest) (trace : List Event) (c : Brain) (b : Bank) (stack : List Kind) (log : List Turned) → Keeps c b stack
-    → Ground (world loaded nest trace c b log) → ((j : Kind) → Tie j (world loaded nest trace c b log)) → WordTold c b (reverse (journal loaded log))
+    → AtRest (world loaded nest trace c b log) → WordTold c b (reverse (journal loaded log))
     → ((j : Kind) → 8 < need_of c j) → (k : Kind) → is_waiting (sees loaded trace (journal loaded log) b.time) stack k ≡ true
     → due_now (waits_of c) b k ≡ true
-sees_due loaded nest trace c b stack log keeps g t told unheld k e =
+sees_due loaded nest trace c b stack log keeps rest told unheld k e =
     let parts = and_parts (sees loaded trace (journal loaded log) b.time k) (not (is_open stack k)) e in
-    waits_due loaded nest trace c b stack log keeps g t told unheld k parts.0 (not-true (is_open stack k) parts.1)
+    waits_due loaded nest trace c b stack log keeps rest told unheld k parts.0 (not-true (is_open stack k) parts.1)
 
 -- ---- an entry
 
@@ -84,18 +83,20 @@ entry_fits loaded nest cost trace c b stack log k l down chosen calls = record {
   first = λ o. (
     refl,
     λ j s. highest_most (due_now (waits_of c) b) k j
-        (waits_due loaded nest trace c b stack log l.keeps l.ground l.ties l.gates (unheld_down c b stack l.keeps down) j s
+        (waits_due loaded nest trace c b stack log l.keeps (at_rest loaded nest cost trace b.time c b stack log l) l.gates
+        (unheld_down c b stack l.keeps down) j s
         (empty_open stack j (l.marks.stack_is ∙ o)))
         (entry_highest nest stack (due_now (waits_of c) b) k chosen),
   );
   entry = λ e. refl;
   own = λ e. cc;
   reached = λ e. cc;
-  some = λ e. cc;
   few = λ e. cc;
   at_tick = All-cons (λ n. time_of n ≡ b.time) (enters k b.time) [] refl (All-nil (λ n. time_of n ≡ b.time));
   no_entry = λ e. cc;
   returns = λ e. cc;
+  gate_first = All-nil (λ m. is_gate m ≡ false);
+  six = omega arith;
   patient = calls;
 }
 
@@ -175,7 +176,8 @@ entry_turn loaded nest cost trace c b stack log k some l down chosen =
           rw still
           (entry_patient nest stack (due_now (waits_of c) b) (sees loaded trace (journal loaded log) b.time)
           (sees loaded trace (journal loaded (log ++ entry_of b.time k ∷ [])) b.time) k c.hold (entered_core c k).hold (called loaded nest trace log)
-          (sees_due loaded nest trace c b stack log l.keeps l.ground l.ties l.gates (unheld_down c b stack l.keeps down)) chosen (rw down at l.patient));
+          (sees_due loaded nest trace c b stack log l.keeps (at_rest loaded nest cost trace b.time c b stack log l) l.gates
+          (unheld_down c b stack l.keeps down)) chosen (rw down at l.patient));
       owes = entry_owes c b stack log k l.owes;
       reached = entry_reached cost trace b stack log k l.at_next l.reached;
       reached_by = entry_by cost trace b stack log k l.at_next l.reached;
@@ -211,9 +213,9 @@ own_owes c c' outer log k t notes v owes less others j o = elim (same_kind j k) 
 own_fits : (loaded : Loaded) (nest : Nest) (cost : ℕ) (trace : List Event) (c : Brain) (b : Bank) (outer : List Kind) (log : List Turned) (k : Kind)
     (notes : List Note)
     → Logged loaded nest cost trace b.time c b (k ∷ outer) log
-    → All (IsOwn k b.time) notes → ReturnsLast k notes → ((j : Kind) → called loaded nest trace (log ++ own_of b.time k notes ∷ []) j ≤ 8)
+    → All (IsOwn k b.time) notes → ReturnsLast k notes → GateFirst notes → length notes ≤ most_notes → ((j : Kind) → called loaded nest trace (log ++ own_of b.time k notes ∷ []) j ≤ 8)
     → StepFits loaded nest cost trace log (own_of b.time k notes)
-own_fits loaded nest cost trace c b outer log k notes l own back calls =
+own_fits loaded nest cost trace c b outer log k notes l own back first short calls =
     let inside : is_open (k ∷ outer) k ≡ true = self_open k outer in
     let at : b.time ≡ after cost trace log = l.at_next (λ e. cc) in
     record {
@@ -225,11 +227,12 @@ own_fits loaded nest cost trace c b outer log k notes l own back calls =
       entry = λ e. cc;
       own = λ e. rw (sym l.marks.stack_is) refl;
       reached = λ e. rw (since-push k log (own_of b.time k notes)) (at ∙ l.reached k inside);
-      some = λ e. rw (own-push k log (own_of b.time k notes), of_self k) (omega arith);
       few = λ e. rw (own-push k log (own_of b.time k notes), of_self k) (let a = l.owes k inside in let left = l.keeps.live k inside in omega arith);
       at_tick = All-weaker (IsOwn k b.time) (λ n. time_of n ≡ b.time) (λ n p. p.0) notes own;
       no_entry = λ e. All-weaker (IsOwn k b.time) (λ n. is_entry n ≡ false) (λ n p. p.1) notes own;
       returns = λ e. back;
+      gate_first = first;
+      six = short;
       patient = calls;
     }
 
@@ -239,10 +242,10 @@ stepped_by k answers c b = kind_step k answers (counted_down c b) b
 pub own_turn : (loaded : Loaded) (nest : Nest) (cost : ℕ) (trace : List Event) (c : Brain) (b : Bank) (outer : List Kind) (log : List Turned) (k : Kind)
     (answers : List Answer)
     → 1 ≤ cost → Given k (counted_down c b) answers → Logged loaded nest cost trace b.time c b (k ∷ outer) log
-    → (b.masked ≡ false → next_entry nest (k ∷ outer) (due_now (waits_of c) b) ≡ None)
+    → (b.masked ≡ false → next_entry nest (k ∷ outer) (due_now (waits_of c) b) ≡ None) → length (all_notes b k (stepped_by k answers c b)) ≤ most_notes
     → Logged loaded nest cost trace (b.time + cost) (stepped_by k answers c b).core (accessed b (stepped_by k answers c b).access)
     (open_left k outer (stepped_by k answers c b)) (log ++ own_of b.time k (all_notes b k (stepped_by k answers c b)) ∷ [])
-own_turn loaded nest cost trace c b outer log k answers some given l none =
+own_turn loaded nest cost trace c b outer log k answers some given l none short =
     let s : Stepped = stepped_by k answers c b in
     let b' : Bank = accessed b s.access in
     let notes : List Note = all_notes b k s in
@@ -262,13 +265,14 @@ own_turn loaded nest cost trace c b outer log k answers some given l none =
       patient =
           own_patient nest k outer (open_left k outer s) (due_now (waits_of c) b) (sees loaded trace (journal loaded log) b.time)
           (sees loaded trace (journal loaded (log ++ own_of b.time k notes ∷ [])) b.time) b.masked b'.masked c.hold s.core.hold (called loaded nest trace log)
-          (λ m. sees_due loaded nest trace c b (k ∷ outer) log l.keeps l.ground l.ties l.gates (unheld_down c b (k ∷ outer) l.keeps m)) none
+          (λ m. sees_due loaded nest trace c b (k ∷ outer) log l.keeps (at_rest loaded nest cost trace b.time c b (k ∷ outer) log l) l.gates
+          (unheld_down c b (k ∷ outer) l.keeps m)) none
           (left_goes s.over b'.masked k outer (mask_down k (need_of c k) c.hold b s bound.mask)) held (λ m. bound.mask.most) bound.mask.less l.patient;
       owes = own_owes c s.core outer log k b.time notes s.over l.owes bound.moves.less (λ j ne. (bound.moves.others j ne).0);
       reached = λ j o. reached_on cost trace log (own_of b.time k notes) j refl (l.at_next (λ e. cc)) (l.reached j (left_open s.over k j outer o));
       reached_by = λ j o t below.
           by_on cost trace log (own_of b.time k notes) j t refl (l.at_next (λ e. cc)) (l.reached j (left_open s.over k j outer o)) below;
-      fits = own_fits loaded nest cost trace c b outer log k notes l step.1 step.2;
+      fits = own_fits loaded nest cost trace c b outer log k notes l step.1 step.2 step.4 short;
       drive = own_chops loaded nest trace c b s log k l.gates
           (subst (λ (ns : List Note). WordTold s.core b' (reverse (opening loaded ++ ns))) (sym (notes-push log (own_of b.time k notes))) step.0.gates)
           (l.ties kind.Comm).switches.sector_is step.3;

@@ -24,6 +24,8 @@ use Rattle.esc_rooms.specs.Logged.{Logged}
 use Rattle.esc_laws.proofs.Pushes.{All-later, notes-push, after-push, made-push, entered-push, since-push, called-push, uses-more, step-push}
 use Rattle.esc_laws.proofs.Stalls.{free_ended}
 use Rattle.esc_rooms.proofs.log.Stages.{Stood}
+use Rattle.esc_rooms.proofs.shared.Law.{AtRest}
+use Rattle.esc_rooms.specs.World.{world}
 
 -- ---- counts of an open kind
 
@@ -65,6 +67,10 @@ stood loaded nest cost trace next c b stack log l = record {
   ties = l.ties;
   stack_is = sym l.marks.stack_is;
 }
+
+pub at_rest : (loaded : Loaded) (nest : Nest) (cost : ℕ) (trace : List Event) (next : ℕ) (c : Brain) (b : Bank) (stack : List Kind) (log : List Turned)
+    → Logged loaded nest cost trace next c b stack log → AtRest (world loaded nest trace c b log)
+at_rest loaded nest cost trace next c b stack log l = record { ground = l.ground; ties = l.ties }
 
 -- ---- the new log
 

@@ -1,48 +1,21 @@
--- PWM's room.
-use Rattle.std.proofs.Common.{◌≡◌, ◌≢◌, ◌≤◌, ◌<◌, ◌%◌, ◌⊎◌, inl, inr, ℕ, Bool, true, false, not, ◌&&◌, ◌||◌, ◌==◌, nat_lt, bit_and, bit_or, if◌then◌else◌, List, [], ◌∷◌, Option, Some, None, refl, sym, ◌∙◌, ap, subst, arith}
-use Rattle.std.specs.Int.Bits.{and_zero_r}
-use Rattle.std.proofs.lemmas.Bool.{cases_lt, cases_Bool, and_parts, lt-ltb, ltb-true, le-ltb, or_left, or_right}
-use Rattle.std.proofs.lemmas.Bool.Decides.{nat_tests}
-use Rattle.esc_base.specs.declared.gate.Leg.{Leg}
-use Rattle.esc_base.specs.declared.kind.Kind.{Kind}
+-- PWM's row of the laws: what calls it, what it is entered for, and its tie as time goes on.
+use Rattle.std.proofs.Common.{◌≡◌, ◌≤◌, ◌<◌, ◌⊎◌, inl, inr, ℕ, Bool, true, false, ◌&&◌, ◌||◌, nat_lt, refl, sym, ◌∙◌, arith}
+use Rattle.std.proofs.lemmas.Bool.{cases_lt, cases_Bool, and_parts, lt-ltb, ltb-true, or_left, or_right}
 use Rattle.esc_base.specs.declared.kind.Kind.TheVariants as kind
-use Rattle.esc_base.specs.declared.note.Note.TheVariants as note
-use Rattle.esc_base.specs.Numbers.{as_tick}
-use Rattle.esc_base.specs.Legs.{mask_of, is_on}
 use Rattle.esc_base.specs.Periods.{edges}
-use Rattle.timer_regs.specs.Bank.{Bank}
-use Rattle.timer_regs.specs.Effects.{written}
 use Rattle.timer_regs.specs.Pwm.{has_edge}
-use Rattle.timer_regs.specs.declared.regs.Reg.TheVariants as reg
-use Rattle.interrupt_machine.specs.Open.{innermost}
-use Rattle.interrupt_machine.specs.Did.{accessed}
 use Rattle.arming.specs.ControlAt.{demand_at}
-use Rattle.commutation.specs.Sectors.{high_of}
-use Rattle.gate_driver.specs.declared.chop.Chop.TheVariants as chop
-use Rattle.gate_driver.specs.declared.all_off.AllOff.TheVariants as off
-use Rattle.gate_driver.specs.Gated.{Gated, gates_after, high_wait}
-use Rattle.gate_driver.specs.Acted.{KeepsDeadTime}
-use Rattle.gate_driver.specs.Chop.{chopped_leg, on_step, write_step, HasChopped}
-use Rattle.gate_driver.proofs.Bits.{all_off, or_on, or_is}
-use Rattle.gate_driver.proofs.OffTimes.{gates_same}
-use Rattle.gate_driver.proofs.DeadTime.{same_keeps, high_off_keeps, high_on_keeps}
-use Rattle.esc_core.specs.declared.state.PwmAt.{PwmAt}
-use Rattle.esc_core.specs.declared.state.PwmAt.TheVariants as pwm
-use Rattle.esc_core.specs.declared.state.CommAt.TheVariants as comm
 use Rattle.esc_core.specs.declared.state.TickAt.{TickAt}
 use Rattle.esc_core.specs.declared.state.TickAt.TheVariants as tick
-use Rattle.esc_core.specs.Pwm.{chopped, pwm_step}
-use Rattle.esc_core.specs.Stepped.{Stepped}
-use Rattle.esc_core.specs.Firmware.{pwm_left, tick_need}
-use Rattle.esc_laws.specs.Driven.{InPair}
+use Rattle.esc_core.specs.Firmware.{tick_need}
 use Rattle.esc_laws.specs.Calls.{pwm_asked_at, pwm_entered_at}
-use Rattle.esc_rooms.specs.DriveTied.{PwmTied, FlagTied, DutyTied, writes_duty}
-use Rattle.esc_rooms.specs.World.{World, so_far}
-use Rattle.esc_rooms.specs.Rooms.{Ground, Ties, Tie, Unheld, Chops, GateFits, GatesKeep, StepKeeps, drive_seen}
-use Rattle.esc_rooms.proofs.shared.RoomSteps.{ground_noted, inside, popped}
-use Rattle.esc_rooms.proofs.shared.DriveFacts.{comm_shut, duty_written, rest_still, pair_apart, with_high}
+use Rattle.esc_rooms.specs.DriveTied.{FlagTied, DutyTied, writes_duty}
+use Rattle.esc_rooms.specs.World.{World}
+use Rattle.esc_rooms.specs.Rooms.{Ties, Unheld}
+use Rattle.esc_rooms.proofs.shared.DriveFacts.{comm_shut, duty_written, rest_still}
 use Rattle.esc_rooms.proofs.shared.Law.{HandlerLaw}
-use Rattle.esc_laws.specs.NoteLaw as owed
+use Rattle.esc_rooms.proofs.pwm.Preserves.{duty_is}
+use Rattle.esc_rooms.proofs.pwm.Steps.{pwm_steps_preserve}
 
 -- ---- what calls PWM, and what it is entered for
 
@@ -50,9 +23,9 @@ or_parts : (a b : Bool) → (a || b) ≡ true → (a ≡ true) ⊎ ((a ≡ false
 or_parts true b e = inl refl
 or_parts false b e = inr (refl, e)
 
-called_flag : (at : TickAt) (flag asked : Bool) (demand entered time : ℕ) → 8 < tick_need at → FlagTied at flag asked demand entered time
+pwm_called : (at : TickAt) (flag asked : Bool) (demand entered time : ℕ) → 8 < tick_need at → FlagTied at flag asked demand entered time
     → (nat_lt 0 demand && (asked || nat_lt (edges demand entered) (edges demand time))) ≡ true → flag ≡ true
-called_flag at flag asked demand entered time unheld t e =
+pwm_called at flag asked demand entered time unheld t e =
     let parts = and_parts (nat_lt 0 demand) (asked || nat_lt (edges demand entered) (edges demand time)) e in
     let some : 0 < demand = ltb-true 0 demand parts.0 in
     elim (or_parts asked (nat_lt (edges demand entered) (edges demand time)) parts.1) [
@@ -80,292 +53,6 @@ flag_drives w t unheld up = elim (cases_lt 0 (demand_at w.back)) [
       let z : true ≡ false = sym up ∙ still.no_event in
       cc)
 ]
-
--- ---- a step that leaves the gates
-
--- while PWM is open TICK's tie holds, since there is a demand
-tick_beside : (place place' : PwmAt) (w : World) (hi : ℕ) → w.core.pwm_at ≡ place → (place ≡ pwm.Shut → ⊥) → Tie kind.Tick w
-    → Tie kind.Tick (record w { core = record w.core { pwm_at = place' }; bank = record w.bank { hi = hi } })
-tick_beside place place' w hi e ne t = (t.0, t.1, t.2, t.3, λ z. absurd (ne (sym e ∙ (t.4 z).pwm_shut)))
-
-still_gates : (w : World) (s : Stepped) → s.core.drive.gates ≡ w.core.drive.gates → (accessed w.bank s.access).hi ≡ w.bank.hi
-    → (accessed w.bank s.access).lo ≡ w.bank.lo → w.made.pwm_own ≢ 4 → (s.over ≡ true → 4 ≤ w.made.pwm_own) → s.notes ≡ [] → GatesKeep kind.Pwm w s
-still_gates w s e hi lo early back silent = record {
-  off_times = e ∙ gates_same w.core.drive.gates w.bank (accessed w.bank s.access) hi lo;
-  fits = λ told moved. absurd (moved hi lo);
-  drive = record { low = λ o d. lo; high = λ o p d. hi; chops = λ is own. absurd (early own); back = λ is over. back over; silent = λ is. silent };
-}
-
--- ---- the write
-
--- what it asks for is what was read
-chops_of : (leg : Option Leg) (below : Bool) (s : ℕ) (g : Gated) (b after : Bank) → leg ≡ chopped_leg below s → HasChopped leg g b after
-    → (below ≡ true → 0 < s → high_wait g b (high_of s) ≡ None → is_on after.hi (high_of s) ≡ true) × (below ≡ false → after.hi ≡ 0)
-chops_of leg below s g b after e h = by_test below refl (subst (λ (l : Option Leg). HasChopped l g b after) e h)
-  where
-    some_leg : (s : ℕ) → 0 < s → chopped_leg true s ≡ Some (high_of s)
-    some_leg s l = rw (not_zero s l) refl
-      where
-        not_zero : (n : ℕ) → 0 < n → (n == 0) ≡ false
-        not_zero n l = grind (arith, nat_tests)
-
-    by_test : (v : Bool) → below ≡ v → HasChopped (chopped_leg below s) g b after
-        → (below ≡ true → 0 < s → high_wait g b (high_of s) ≡ None → is_on after.hi (high_of s) ≡ true) × (below ≡ false → after.hi ≡ 0)
-    by_test true q c = (
-      λ d l none. subst (λ (x : Option Leg). HasChopped x g b after) (ap (λ (v : Bool). chopped_leg v s) q ∙ some_leg s l) c none,
-      λ d. (let z : true ≡ false = sym q ∙ d in cc),
-    )
-    by_test false q c = (
-      λ d. (let z : true ≡ false = sym d ∙ q in cc),
-      λ d. subst (λ (x : Option Leg). HasChopped x g b after) (ap (λ (v : Bool). chopped_leg v s) q) c,
-    )
-
-chopped_sector : (below : Bool) (s : ℕ) (x : Leg) → Some x ≡ chopped_leg below s → (high_of s ≡ x) × (0 < s)
-chopped_sector true s x e = by_zero (s == 0) refl e
-  where
-    some_of : (n : ℕ) → (n == 0) ≡ false → 0 < n
-    some_of n e = grind (arith, nat_tests)
-
-    by_zero : (v : Bool) → (s == 0) ≡ v → Some x ≡ (if not (s == 0) then Some (high_of s) else None) → (high_of s ≡ x) × (0 < s)
-    by_zero true q e = absurd (let z : Some x ≡ None = e ∙ rw q refl in cc)
-    by_zero false q e = (same (e ∙ rw q refl), some_of s q)
-      where
-        same : Some x ≡ Some (high_of s) → high_of s ≡ x
-        same f = cc
-chopped_sector false s x e = absurd (let z : Some x ≡ None = e in cc)
-
--- what holds before the write
-record Writes (leg : Option Leg) (w : World) (outer : List Kind) : Type 0 where
-  ground : Ground w
-  ties : Ties w
-  on : (so_far w).stack ≡ kind.Pwm ∷ outer
-  place : w.core.pwm_at ≡ pwm.Run (chop.Write leg)
-  own : w.made.pwm_own ≡ 4
-  leg_is : leg ≡ chopped_leg (nat_lt (w.made.sampled % 2000) (demand_at w.back)) w.bank.sector
-  drives : 0 < demand_at w.back
-  shut : w.core.comm_at ≡ comm.Shut
-
-chops_so : (leg : Option Leg) (w : World) (outer : List Kind) (after : Bank) → Writes leg w outer → HasChopped leg w.core.drive.gates w.bank after
-    → Chops w after
-chops_so leg w outer after i h =
-    let by = chops_of leg (nat_lt (w.made.sampled % 2000) (demand_at w.back)) w.bank.sector w.core.drive.gates w.bank after i.leg_is h in
-    record {
-      on = λ l s none. by.0 (lt-ltb (w.made.sampled % 2000) (demand_at w.back) l) s none;
-      off = λ l. by.1 (le-ltb (w.made.sampled % 2000) (demand_at w.back) l);
-    }
-
--- a write that changes the word of high switches
-write_word : (leg : Option Leg) (w : World) (outer : List Kind) (s : Stepped) (after : Bank) → Writes leg w outer
-    → s.core.drive.gates ≡ gates_after w.core.drive.gates w.bank after
-    → after ≡ accessed w.bank s.access → s.over ≡ false → s.notes ≡ [] → after.lo ≡ w.bank.lo → InPair w.bank.sector after.hi w.bank.lo
-    → KeepsDeadTime w.bank s.core.drive.gates after
-    → HasChopped leg w.core.drive.gates w.bank after → GatesKeep kind.Pwm w s
-write_word leg w outer s after i off_times same over silent lo pair dead h = record {
-  off_times = subst (λ (b : Bank). s.core.drive.gates ≡ gates_after w.core.drive.gates w.bank b) same off_times;
-  fits = λ told moved. subst (λ (b : Bank). GateFits w b s.core.drive.gates) same (record {
-    nest = rw (ap innermost i.on) tt;
-    dead_time = dead;
-    driven = (
-      λ z. absurd (let l = i.drives in omega arith),
-      rw (← (i.ties kind.Comm).switches.sector_is, lo) pair,
-    );
-  });
-  drive = record {
-    low = λ o d. subst (λ (b : Bank). b.lo ≡ w.bank.lo) same lo;
-    high = λ o p d. absurd (p refl i.own);
-    chops = λ is own. subst (λ (b : Bank). Chops w b) same (chops_so leg w outer after i h);
-    back = λ is e. (let z : false ≡ true = sym over ∙ e in cc);
-    silent = λ is. silent;
-  };
-}
-
-on_places : (wait : Option ℕ) (x : Leg) (w : World) (outer : List Kind) → high_wait w.core.drive.gates w.bank x ≡ wait → Writes (Some x) w outer
-    → StepKeeps kind.Pwm outer w (chopped (chop.Write (Some x)) (on_step wait x w.core.drive.gates w.bank) w.core)
-on_places None x w outer e i =
-    let t : Ties w = i.ties in
-    let d = t kind.Comm in
-    let hi : ℕ = bit_or w.bank.hi (mask_of x) in
-    let g : Gated = w.core.drive.gates in
-    let after : Bank = written w.bank reg.GhSet (mask_of x) in
-    let sector = chopped_sector (nat_lt (w.made.sampled % 2000) (demand_at w.back)) w.bank.sector x i.leg_is in
-    let pair : InPair w.bank.sector hi w.bank.lo = record {
-      high = λ y on. elim (or_is w.bank.hi x y on) [
-        | inl s ↦ (sector.0 ∙ s, sector.1)
-        | inr o ↦ d.switches.pair.high y o
-      ];
-      low = d.switches.pair.low;
-    } in
-    record {
-      gates = write_word (Some x) w outer _ after i refl refl refl refl refl pair
-          (high_on_keeps g (gates_after g w.bank after) w.bank after x refl refl refl e (pair_apart w.bank.sector w.bank.hi w.bank.lo d.switches.sectors d.switches.pair))
-          (λ none. or_on w.bank.hi x);
-      fits = λ told. tt;
-      ground = i.ground;
-      tie = λ told. (rw i.own refl, (t kind.Pwm).1);
-      others = elim [
-        | kind.Pwm ↦ λ ne u. absurd (ne refl)
-        | kind.Tick ↦ λ ne u. tick_beside (pwm.Run (chop.Write (Some x))) (pwm.Run chop.Lower) w hi i.place (λ s. cc) u
-        | kind.Comm ↦ λ ne u. with_high (drive_seen w) hi i.shut pair u
-        | j ↦ λ ne u. u
-      ];
-      stack_is = i.on;
-    }
-on_places (Some until) x w outer e i =
-    let t : Ties w = i.ties in
-    let d = t kind.Comm in
-    record {
-      gates = write_word (Some x) w outer _ w.bank i (gates_same w.core.drive.gates w.bank w.bank refl refl) refl refl refl refl d.switches.pair
-          (same_keeps w.core.drive.gates w.bank w.bank refl refl (pair_apart w.bank.sector w.bank.hi w.bank.lo d.switches.sectors d.switches.pair))
-          (λ none. (let z : Some until ≡ None = sym e ∙ none in cc));
-      fits = λ told. tt;
-      ground = i.ground;
-      tie = λ told. (rw i.own refl, (t kind.Pwm).1);
-      others = elim [
-        | kind.Pwm ↦ λ ne u. absurd (ne refl)
-        | kind.Tick ↦ λ ne u. tick_beside (pwm.Run (chop.Write (Some x))) (pwm.Run chop.Lower) w w.bank.hi i.place (λ s. cc) u
-        | j ↦ λ ne u. u
-      ];
-      stack_is = i.on;
-    }
-
-write_places : (leg : Option Leg) (w : World) (outer : List Kind) → Writes leg w outer
-    → StepKeeps kind.Pwm outer w (chopped (chop.Write leg) (write_step leg w.core.drive.gates w.bank) w.core)
-write_places (Some x) w outer i = on_places (high_wait w.core.drive.gates w.bank x) x w outer refl i
-write_places None w outer i =
-    let t : Ties w = i.ties in
-    let d = t kind.Comm in
-    let hi : ℕ = bit_and w.bank.hi 0 in
-    let g : Gated = w.core.drive.gates in
-    let after : Bank = written w.bank reg.GhClr 7 in
-    let pair : InPair w.bank.sector hi w.bank.lo = record {
-      high = λ y on. absurd (let z = all_off w.bank.hi y in cc);
-      low = d.switches.pair.low;
-    } in
-    record {
-      gates = write_word None w outer _ after i refl refl refl refl refl pair
-          (high_off_keeps (gates_after g w.bank after) w.bank after 0 refl refl (pair_apart w.bank.sector w.bank.hi w.bank.lo d.switches.sectors d.switches.pair))
-          (and_zero_r w.bank.hi);
-      fits = λ told. tt;
-      ground = i.ground;
-      tie = λ told. (rw i.own refl, (t kind.Pwm).1);
-      others = elim [
-        | kind.Pwm ↦ λ ne u. absurd (ne refl)
-        | kind.Tick ↦ λ ne u. tick_beside (pwm.Run (chop.Write None)) (pwm.Run chop.Lower) w hi i.place (λ s. cc) u
-        | kind.Comm ↦ λ ne u. with_high (drive_seen w) hi i.shut pair u
-        | j ↦ λ ne u. u
-      ];
-      stack_is = i.on;
-    }
-
--- ---- all its steps
-
-duty_is : (at : TickAt) (duty demand : ℕ) → 8 < tick_need at → DutyTied at duty demand → duty ≡ demand
-duty_is tick.Shut duty demand l t = t
-duty_is tick.Raise duty demand l t = t
-duty_is tick.Back duty demand l t = t
-duty_is (tick.Off off.High) duty demand l t = absurd (omega arith)
-duty_is (tick.Off off.Low) duty demand l t = absurd (omega arith)
-duty_is (tick.Off off.Over) duty demand l t = absurd (omega arith)
-duty_is at duty demand l t = absurd (omega arith)
-
-open_drives : (w : World) (place : PwmAt) → Ties w → w.core.pwm_at ≡ place → (place ≡ pwm.Shut → ⊥) → 0 < demand_at w.back
-open_drives w place t e ne = elim (cases_lt 0 (demand_at w.back)) [
-  | inl l ↦ l
-  | inr z ↦ absurd (ne (sym e ∙ ((t kind.Tick).4 (omega arith)).pwm_shut))
-]
-
-steps : (place : PwmAt) (w : World) (outer : List Kind) → Ground w → Ties w → w.core.pwm_at ≡ place → w.core.comm_at ≡ comm.Shut
-    → w.bank.duty ≡ demand_at w.back
-    → PwmTied place w.made.pwm_own w.made.sampled (demand_at w.back) w.bank.sector → (so_far w).stack ≡ kind.Pwm ∷ outer → 0 < pwm_left place
-    → StepKeeps kind.Pwm outer w (pwm_step place w.core w.bank)
-steps pwm.Shut w outer g t e shut duty i on left = absurd (omega arith)
-steps (pwm.Run chop.Raise) w outer g t e shut duty i on left = record {
-  gates = still_gates w _ refl refl refl (λ own. omega arith) (λ over. cc) refl;
-  fits = λ told. tt;
-  ground = g;
-  tie = λ told. (rw i refl, (t kind.Pwm).1);
-  others = elim [
-    | kind.Pwm ↦ λ ne u. absurd (ne refl)
-    | kind.Tick ↦ λ ne u. tick_beside (pwm.Run chop.Raise) (pwm.Run chop.Position) w w.bank.hi e (λ s. cc) u
-    | j ↦ λ ne u. u
-  ];
-  stack_is = on;
-}
-steps (pwm.Run chop.Position) w outer g t e shut duty i on left = record {
-  gates = still_gates w _ refl refl refl (λ own. omega arith) (λ over. cc) refl;
-  fits = λ told. tt;
-  ground = g;
-  tie = λ told. (rw i (refl, refl), (t kind.Pwm).1);
-  others = elim [
-    | kind.Pwm ↦ λ ne u. absurd (ne refl)
-    | kind.Tick ↦ λ ne u. tick_beside (pwm.Run chop.Position) (pwm.Run (chop.Duty (w.bank.time % 2000))) w w.bank.hi e (λ s. cc) u
-    | j ↦ λ ne u. u
-  ];
-  stack_is = on;
-}
-steps (pwm.Run (chop.Duty position)) w outer g t e shut duty i on left = record {
-  gates = still_gates w _ refl refl refl (λ own. (let o = i.0 in omega arith)) (λ over. cc) refl;
-  fits = λ told. tt;
-  ground = g;
-  tie = λ told. (rw i.0 (refl, rw (duty, i.1) refl), (t kind.Pwm).1);
-  others = elim [
-    | kind.Pwm ↦ λ ne u. absurd (ne refl)
-    | kind.Tick ↦ λ ne u. tick_beside (pwm.Run (chop.Duty position)) (pwm.Run (chop.Sector (nat_lt position w.bank.duty))) w w.bank.hi e (λ s. cc) u
-    | j ↦ λ ne u. u
-  ];
-  stack_is = on;
-}
-steps (pwm.Run (chop.Sector below)) w outer g t e shut duty i on left = record {
-  gates = still_gates w _ refl refl refl (λ own. (let o = i.0 in omega arith)) (λ over. cc) refl;
-  fits = λ told. tt;
-  ground = g;
-  tie = λ told. (rw i.0 (refl, ap (λ (v : Bool). chopped_leg v w.bank.sector) i.1), (t kind.Pwm).1);
-  others = elim [
-    | kind.Pwm ↦ λ ne u. absurd (ne refl)
-    | kind.Tick ↦ λ ne u. tick_beside (pwm.Run (chop.Sector below)) (pwm.Run (chop.Write (chopped_leg below w.bank.sector))) w w.bank.hi e (λ s. cc) u
-    | j ↦ λ ne u. u
-  ];
-  stack_is = on;
-}
-steps (pwm.Run (chop.Write leg)) w outer g t e shut duty i on left =
-    write_places leg w outer (record {
-      ground = g;
-      ties = t;
-      on = on;
-      place = e;
-      own = i.0;
-      leg_is = i.1;
-      drives = open_drives w (pwm.Run (chop.Write leg)) t e (λ s. cc);
-      shut = shut;
-    })
-steps (pwm.Run chop.Lower) w outer g t e shut duty i on left = record {
-  gates = still_gates w _ refl refl refl (λ own. omega arith) (λ over. cc) refl;
-  fits = λ told. tt;
-  ground = g;
-  tie = λ told. (rw i refl, (t kind.Pwm).1);
-  others = elim [
-    | kind.Pwm ↦ λ ne u. absurd (ne refl)
-    | kind.Tick ↦ λ ne u. tick_beside (pwm.Run chop.Lower) pwm.Back w w.bank.hi e (λ s. cc) u
-    | j ↦ λ ne u. u
-  ];
-  stack_is = on;
-}
-steps (pwm.Run chop.Over) w outer g t e shut duty i on left = absurd i
-steps pwm.Back w outer g t e shut duty i on left = record {
-  gates = still_gates w _ refl refl refl (λ own. omega arith) (λ over. omega arith) refl;
-  fits = λ told. (
-    record { at = refl; owned = refl; keeps = record { laws = elim [ owed.Windows ↦ λ k. cc | owed.Replies ↦ λ k. cc | owed.Drives ↦ λ k. cc | owed.Searches ↦ λ e. cc | owed.Nests ↦ (inside (so_far w).stack kind.Pwm outer on, tt) | l ↦ tt ]; waits = tt } },
-    tt,
-  );
-  ground = ground_noted w (note.Leave (as_tick w.bank.time) 5) refl refl tt refl g;
-  tie = λ told. (tt, (t kind.Pwm).1);
-  others = elim [
-    | kind.Pwm ↦ λ ne u. absurd (ne refl)
-    | kind.Tick ↦ λ ne u. tick_beside pwm.Back pwm.Shut w w.bank.hi e (λ s. cc) u
-    | j ↦ λ ne u. u
-  ];
-  stack_is = popped (so_far w).stack kind.Pwm outer on;
-}
 
 -- ---- time goes on
 
@@ -414,41 +101,48 @@ flag_later at flag asked duty demand entered t u le d f = record {
 
 pub pwm_law : HandlerLaw kind.Pwm
 pwm_law = record {
-  called = λ w g t told unheld none s.
-      called_flag w.core.tick_at w.bank.flag (pwm_asked_at w.back) (demand_at w.back) (pwm_entered_at w.back) w.bank.time (unheld kind.Tick) (t kind.Pwm).1 s;
-  asked = λ w g t unheld due. (
+  called = λ w i s.
+      pwm_called w.core.tick_at w.bank.flag (pwm_asked_at w.back) (demand_at w.back) (pwm_entered_at w.back) w.bank.time (i.unheld kind.Tick)
+      (i.rest.ties kind.Pwm).1 s;
+  asked = λ w i. (
     tt,
-    flag_calls w.core.tick_at w.bank.flag (pwm_asked_at w.back) (demand_at w.back) (pwm_entered_at w.back) w.bank.time (flag_drives w t unheld due)
-        (t kind.Pwm).1 due,
+    flag_calls w.core.tick_at w.bank.flag (pwm_asked_at w.back) (demand_at w.back) (pwm_entered_at w.back) w.bank.time
+        (flag_drives w i.rest.ties i.unheld i.due)
+        (i.rest.ties kind.Pwm).1 i.due,
   );
-  entered = λ w g t unheld none due past high. (
+  entered = λ w i. (
     refl,
     record {
-      new = λ e. (let z : false ≡ true = sym (duty_written w.core.tick_at (unheld kind.Tick)) ∙ e in cc);
+      new = λ e. (let z : false ≡ true = sym (duty_written w.core.tick_at (i.unheld kind.Tick)) ∙ e in cc);
       asks = λ l e. cc;
       counted = λ l e c. absurd (omega arith);
       only = λ l e. cc;
       past = omega arith;
     },
   );
-  beside = λ w g t unheld none due past high. elim [
+  beside = λ w i. elim [
     | kind.Pwm ↦ λ ne. absurd (ne refl)
     | kind.Tick ↦ λ ne. (
-      (t kind.Tick).0,
-      (t kind.Tick).1,
-      (t kind.Tick).2,
-      (t kind.Tick).3,
-      λ z. absurd (let l = flag_drives w t unheld due in omega arith),
+      (i.rest.ties kind.Tick).0,
+      (i.rest.ties kind.Tick).1,
+      (i.rest.ties kind.Tick).2,
+      (i.rest.ties kind.Tick).3,
+      λ z. absurd (let l = flag_drives w i.rest.ties i.unheld i.due in omega arith),
     )
-    | j ↦ λ ne. t j
+    | j ↦ λ ne. i.rest.ties j
   ];
-  steps = λ w answers outer given g t above alone past on left.
-      steps w.core.pwm_at w outer g t refl (comm_shut w.core.comm_at w.core.drive.turn.at (above kind.Comm (omega arith)))
-      (duty_is w.core.tick_at w.bank.duty (demand_at w.back) (alone kind.Tick (λ e. cc)) (t kind.Tick).3) (t kind.Pwm).0 on left;
-  later = λ w u from small g t. (
-    (t kind.Pwm).0,
-    flag_later w.core.tick_at w.bank.flag (pwm_asked_at w.back) w.bank.duty (demand_at w.back) (pwm_entered_at w.back) w.bank.time u from (t kind.Tick).3
-        (t kind.Pwm).1,
+  steps = λ w answers outer given i. pwm_steps_preserve w.core.pwm_at w outer (record {
+    ground = i.rest.ground;
+    ties = i.rest.ties;
+    on = i.on;
+    place_is = refl;
+    comm_is = comm_shut w.core.comm_at w.core.drive.turn.at (i.above kind.Comm (omega arith));
+    duty_is = duty_is w.core.tick_at w.bank.duty (demand_at w.back) (i.alone kind.Tick (λ e. cc)) (i.rest.ties kind.Tick).3;
+  }) i.left;
+  later = λ w u from small i. (
+    (i.ties kind.Pwm).0,
+    flag_later w.core.tick_at w.bank.flag (pwm_asked_at w.back) w.bank.duty (demand_at w.back) (pwm_entered_at w.back) w.bank.time u from (i.ties kind.Tick).3
+        (i.ties kind.Pwm).1,
   );
-  outside = λ w e at past g t. t kind.Pwm;
+  outside = λ w e i. i.rest.ties kind.Pwm;
 }

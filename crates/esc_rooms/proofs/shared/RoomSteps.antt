@@ -1,4 +1,4 @@
--- What all rooms use: the shared ground after a note, and notes that fit.
+-- What the rooms use of a step: what all handlers share after a note, and notes that fit.
 use Rattle.std.proofs.Common.{◌≡◌, ◌≢◌, ◌∙◌, Bool, true, false, if◌then◌else◌, List, ◌∷◌, None, Some, refl, sym, ap}
 use Rattle.esc_base.specs.declared.kind.Kind.{Kind}
 use Rattle.esc_base.specs.declared.kind.Kind.TheVariants as kind
@@ -30,13 +30,7 @@ pub ground_noted : (w : World) (n : Note) → changes_control n ≡ false → sa
 ground_noted w n c s p o g = record {
   control = other_stands n w.core.control w.back c s p g.control;
   orders = orders_other w.loaded w.core.orders n w.back o g.orders;
-  level = g.level;
-  edges = g.edges;
-  rested = g.rested;
-  small = g.small;
-  events = g.events;
-  in_time = g.in_time;
-  comparator = g.comparator;
+  outside = g.outside;
   line = line_other w.core.line n w.back o g.line;
 }
 

@@ -2,6 +2,7 @@
 use Rattle.std.proofs.Common.{◌≡◌, ◌<◌, ◌+◌, ◌-◌, ◌/◌, inl, inr, ℕ, Bool, true, false, not, ◌&&◌, ◌||◌, ◌==◌, nat_lt, if◌then◌else◌, List, [], ◌∷◌, Option, Some, None, refl, sym, ◌∙◌, ap, subst, arith}
 use Rattle.std.proofs.lemmas.Bool.{cases_lt, lt-ltb, le-ltb}
 use Rattle.std.proofs.lemmas.Bool.Decides.{nat_tests}
+use Rattle.esc_base.specs.Times.{control_period}
 use Rattle.esc_base.specs.declared.kind.Kind.{Kind}
 use Rattle.esc_base.specs.declared.kind.Kind.TheVariants as kind
 use Rattle.esc_base.specs.declared.note.Cause.{Cause}
@@ -19,23 +20,20 @@ use Rattle.arming.proofs.TickTies.{tick_stands, start_is}
 use Rattle.commutation.specs.Commutated.{stuck_at}
 use Rattle.commutation.specs.Drive.{rests_at, turns_at}
 use Rattle.gate_driver.specs.declared.all_off.AllOff.TheVariants as off
-use Rattle.esc_core.specs.declared.state.PwmAt.{PwmAt}
-use Rattle.esc_core.specs.declared.state.PwmAt.TheVariants as pwm
-use Rattle.esc_core.specs.declared.state.CommAt.TheVariants as comm
-use Rattle.esc_core.specs.declared.state.TickAt.{TickAt}
 use Rattle.esc_core.specs.declared.state.TickAt.TheVariants as tick
 use Rattle.esc_core.specs.Drive.{is_stuck}
 use Rattle.esc_core.specs.Tick.{number_in, marks_in, number_step, outcome_note, ticked}
 use Rattle.esc_core.specs.Drive.{drive_after}
-use Rattle.esc_laws.specs.Calls.{pwm_asked_at, pwm_entered_at}
+use Rattle.esc_laws.specs.Calls.{pwm_entered_at}
+use Rattle.esc_rooms.proofs.shared.Facts.{above_zero}
 use Rattle.esc_rooms.specs.Tied.{TickTied}
-use Rattle.esc_rooms.specs.DriveTied.{DriveTied, LowTied, FlagTied, PwmTied, DutyTied, RestAt, Rests}
+use Rattle.esc_rooms.specs.DriveTied.{DriveTied, FlagTied, DutyTied, RestAt, Rests}
 use Rattle.esc_rooms.specs.World.{World, so_far}
-use Rattle.esc_rooms.specs.Rooms.{Ground, Ties, StepKeeps, drive_seen, cross_seen}
+use Rattle.esc_rooms.specs.Rooms.{Ties, StepKeeps, drive_seen, cross_seen}
 use Rattle.esc_rooms.proofs.main.Saves.{orders_other}
 use Rattle.esc_rooms.proofs.shared.RoomSteps.{quiet_gates, inside, if_true}
+use Rattle.esc_rooms.proofs.tick.Preserves.{IsTick, ticks_tie, rest_tie, low_tie, pwm_still}
 use Rattle.esc_rooms.proofs.tick.Facts.{asked_flag, asked_view, AskedIn, asked_drive}
-use Rattle.esc_core.specs.declared.state.CmpAt.TheVariants as cmp
 use Rattle.esc_core.specs.Drive.{search_after}
 use Rattle.commutation.specs.Pace.{Pace, first_pace, wait_of}
 use Rattle.commutation.specs.Drive.{pace_at, wait_at}
@@ -48,40 +46,6 @@ use Rattle.esc_rooms.proofs.cap.Period.{rests_is, period_moved, asked_period}
 use Rattle.esc_rooms.proofs.cmp.CrossFacts.{asked_cross}
 use Rattle.std.proofs.lemmas.Bool.{eqb-true}
 use Rattle.esc_laws.specs.NoteLaw as owed
-
--- what holds before each own step of TICK
-pub record IsTick (w : World) (outer : List Kind) (place : TickAt) : Type 0 where
-  pub ground : Ground w
-  pub ties : Ties w
-  pub on : (so_far w).stack ≡ kind.Tick ∷ outer
-  pub place_is : w.core.tick_at ≡ place
-  pub comm_is : w.core.comm_at ≡ comm.Shut
-  pub pwm_is : w.core.pwm_at ≡ pwm.Shut
-  pub cmp_is : w.core.cmp_at ≡ cmp.Shut
-
-pub ticks_tie : (w : World) (outer : List Kind) (place : TickAt) → IsTick w outer place → TickTied place w.bank.number_read w.bank.time (so_far w).ticks
-ticks_tie w outer place i = subst (λ (p : TickAt). TickTied p w.bank.number_read w.bank.time (so_far w).ticks) i.place_is (i.ties kind.Tick).0
-
-pub duty_tie : (w : World) (outer : List Kind) (place : TickAt) → IsTick w outer place → DutyTied place w.bank.duty (demand_at w.back)
-duty_tie w outer place i = subst (λ (p : TickAt). DutyTied p w.bank.duty (demand_at w.back)) i.place_is (i.ties kind.Tick).3
-
-pub rest_tie : (w : World) (outer : List Kind) (place : TickAt) → IsTick w outer place → demand_at w.back ≡ 0
-    → RestAt place w.bank.hi w.bank.lo w.bank.flag w.bank.comm w.core.drive.postponed w.bank.stuck
-rest_tie w outer place i z =
-    subst (λ (p : TickAt). RestAt p w.bank.hi w.bank.lo w.bank.flag w.bank.comm w.core.drive.postponed w.bank.stuck) i.place_is ((i.ties kind.Tick).4 z).rest
-
-pub low_tie : (w : World) (outer : List Kind) (place : TickAt) → IsTick w outer place → 0 < demand_at w.back → LowTied place (drive_seen w)
-low_tie w outer place i l = subst (λ (p : TickAt). LowTied p (drive_seen w)) i.place_is ((i.ties kind.Comm).low i.comm_is l (rw i.cmp_is refl))
-
-pub flag_tie : (w : World) (outer : List Kind) (place : TickAt) → IsTick w outer place
-    → FlagTied place w.bank.flag (pwm_asked_at w.back) (demand_at w.back) (pwm_entered_at w.back) w.bank.time
-flag_tie w outer place i =
-    subst (λ (p : TickAt). FlagTied p w.bank.flag (pwm_asked_at w.back) (demand_at w.back) (pwm_entered_at w.back) w.bank.time) i.place_is (i.ties kind.Pwm).1
-
--- PWM is shut, whatever becomes of the demand
-pwm_still : (w : World) (outer : List Kind) (place : TickAt) (demand : ℕ) → IsTick w outer place
-    → PwmTied w.core.pwm_at w.made.pwm_own w.made.sampled demand w.bank.sector
-pwm_still w outer place demand i = subst (λ (p : PwmAt). PwmTied p w.made.pwm_own w.made.sampled demand w.bank.sector) (sym i.pwm_is) tt
 
 -- ---- the K
 
@@ -108,10 +72,7 @@ asked_in w outer i = record {
 -- TICK's own tie after it
 asked_duty : (zero start : Bool) (duty d : ℕ) → (d == 0) ≡ zero → DutyTied (if zero then tick.Off off.High else tick.DutyOn start) duty d
 asked_duty true start duty d e = eqb-true d 0 e
-asked_duty false start duty d e = is_some d e
-  where
-    is_some : (n : ℕ) → (n == 0) ≡ false → 0 < n
-    is_some n e = grind (arith, nat_tests)
+asked_duty false start duty d e = above_zero d e
 
 asked_ticks : (zero start : Bool) (read time ticks : ℕ) → ticks ≡ 1 → TickTied (if zero then tick.Off off.High else tick.DutyOn start) read time ticks
 asked_ticks true start read time ticks e = e
@@ -158,10 +119,10 @@ no_drive : (w : World) → Ties w → rests_at w.back ≡ true → HasNoQ (turn_
 no_drive w t e = rw ((t kind.Comm).next.idle (eqb-true (demand_at w.back) 0 (rests_is w.back ∙ e))) tt
 
 -- it asks control: a K, then an A or an X
-asks : (lost : Option Cause) (armed_now start : Bool) (w : World) (outer : List Kind) (marks demand : ℕ) (kept : Kept) → IsTick w outer tick.Read
+ask_control_preserves : (lost : Option Cause) (armed_now start : Bool) (w : World) (outer : List Kind) (marks demand : ℕ) (kept : Kept) → IsTick w outer tick.Read
     → start ≡ (nat_lt 0 demand && rests_at w.back) → (so_far w).ticks ≡ 0
-    → Stands kept (with_outcome (as_tick w.bank.time) lost armed_now (note.Control (as_tick w.bank.time) (w.bank.time / 2400) marks demand ∷ w.back))
-    → kept.number ≡ w.bank.time / 2400
+    → Stands kept (with_outcome (as_tick w.bank.time) lost armed_now (note.Control (as_tick w.bank.time) (w.bank.time / control_period) marks demand ∷ w.back))
+    → kept.number ≡ w.bank.time / control_period
     → StepKeeps kind.Tick outer w (record {
       core = record w.core {
         tick_at = if demand == 0 then tick.Off off.High else tick.DutyOn start;
@@ -169,13 +130,13 @@ asks : (lost : Option Cause) (armed_now start : Bool) (w : World) (outer : List 
         drive = record (drive_after start w.bank.time w.core.drive) { crossing = search_after (demand == 0) w.core.drive.crossing };
       };
       access = Reads reg.TickState;
-      notes = note.Control (as_tick w.bank.time) (w.bank.time / 2400) marks demand ∷ outcome_note w.bank.time lost armed_now;
+      notes = note.Control (as_tick w.bank.time) (w.bank.time / control_period) marks demand ∷ outcome_note w.bank.time lost armed_now;
       over = false;
     })
-asks lost armed_now start w outer marks demand kept i begins none st number = by_outcome lost armed_now st
+ask_control_preserves lost armed_now start w outer marks demand kept i begins none st number = by_outcome lost armed_now st
   where
     k : Note
-    k = note.Control (as_tick w.bank.time) (w.bank.time / 2400) marks demand
+    k = note.Control (as_tick w.bank.time) (w.bank.time / control_period) marks demand
 
     gates_same : (s : Bool) → (drive_after s w.bank.time w.core.drive).gates ≡ w.core.drive.gates
     gates_same true = refl
@@ -227,7 +188,8 @@ asks lost armed_now start w outer marks demand kept i begins none st number = by
     here = inside (so_far w).stack kind.Tick outer i.on
 
     by_outcome : (lost : Option Cause) (armed_now : Bool)
-        → Stands kept (with_outcome (as_tick w.bank.time) lost armed_now (note.Control (as_tick w.bank.time) (w.bank.time / 2400) marks demand ∷ w.back))
+        → Stands kept (with_outcome (as_tick w.bank.time) lost armed_now
+        (note.Control (as_tick w.bank.time) (w.bank.time / control_period) marks demand ∷ w.back))
         → StepKeeps kind.Tick outer w (record {
           core = record w.core {
             tick_at = if demand == 0 then tick.Off off.High else tick.DutyOn start;
@@ -235,7 +197,7 @@ asks lost armed_now start w outer marks demand kept i begins none st number = by
             drive = record (drive_after start w.bank.time w.core.drive) { crossing = search_after (demand == 0) w.core.drive.crossing };
           };
           access = Reads reg.TickState;
-          notes = note.Control (as_tick w.bank.time) (w.bank.time / 2400) marks demand ∷ outcome_note w.bank.time lost armed_now;
+          notes = note.Control (as_tick w.bank.time) (w.bank.time / control_period) marks demand ∷ outcome_note w.bank.time lost armed_now;
           over = false;
         })
     by_outcome (Some cause) armed_now st = record {
@@ -248,17 +210,11 @@ asks lost armed_now start w outer marks demand kept i begins none st number = by
         control = st;
         orders = orders_other w.loaded w.core.orders (note.Lost (as_tick w.bank.time) (cause_number cause)) (k ∷ w.back) refl
             (orders_other w.loaded w.core.orders k w.back refl i.ground.orders);
-        level = i.ground.level;
-        edges = i.ground.edges;
-        rested = i.ground.rested;
-        events = i.ground.events;
-        in_time = i.ground.in_time;
-        comparator = i.ground.comparator;
+        outside = i.ground.outside;
         line = i.ground.line;
-        small = i.ground.small;
       };
       tie = λ told. (
-        asked_ticks (demand == 0) start (w.bank.time / 2400) w.bank.time ((so_far w).ticks + 1) ticks_now,
+        asked_ticks (demand == 0) start (w.bank.time / control_period) w.bank.time ((so_far w).ticks + 1) ticks_now,
         sym number,
         omega arith,
         asked_duty (demand == 0) start w.bank.duty demand refl,
@@ -284,17 +240,11 @@ asks lost armed_now start w outer marks demand kept i begins none st number = by
         control = st;
         orders = orders_other w.loaded w.core.orders (note.Armed (as_tick w.bank.time)) (k ∷ w.back) refl
             (orders_other w.loaded w.core.orders k w.back refl i.ground.orders);
-        level = i.ground.level;
-        edges = i.ground.edges;
-        rested = i.ground.rested;
-        events = i.ground.events;
-        in_time = i.ground.in_time;
-        comparator = i.ground.comparator;
+        outside = i.ground.outside;
         line = i.ground.line;
-        small = i.ground.small;
       };
       tie = λ told. (
-        asked_ticks (demand == 0) start (w.bank.time / 2400) w.bank.time ((so_far w).ticks + 1) ticks_now,
+        asked_ticks (demand == 0) start (w.bank.time / control_period) w.bank.time ((so_far w).ticks + 1) ticks_now,
         sym number,
         omega arith,
         asked_duty (demand == 0) start w.bank.duty demand refl,
@@ -319,17 +269,11 @@ asks lost armed_now start w outer marks demand kept i begins none st number = by
       ground = record {
         control = st;
         orders = orders_other w.loaded w.core.orders k w.back refl i.ground.orders;
-        level = i.ground.level;
-        edges = i.ground.edges;
-        rested = i.ground.rested;
-        events = i.ground.events;
-        in_time = i.ground.in_time;
-        comparator = i.ground.comparator;
+        outside = i.ground.outside;
         line = i.ground.line;
-        small = i.ground.small;
       };
       tie = λ told. (
-        asked_ticks (demand == 0) start (w.bank.time / 2400) w.bank.time ((so_far w).ticks + 1) ticks_now,
+        asked_ticks (demand == 0) start (w.bank.time / control_period) w.bank.time ((so_far w).ticks + 1) ticks_now,
         sym number,
         omega arith,
         asked_duty (demand == 0) start w.bank.duty demand refl,
@@ -353,11 +297,11 @@ outcome_number (Some cause) armed_now t n s d back = refl
 outcome_number None true t n s d back = refl
 outcome_number None false t n s d back = refl
 
-reads_as : (n marks : ℕ) (w : World) (outer : List Kind) → IsTick w outer tick.Read → n ≡ w.bank.time / 2400 → marks ≡ marks_at w.back
-    → w.bank.number_read < w.bank.time / 2400 → (so_far w).ticks ≡ 0
+read_number_preserves : (n marks : ℕ) (w : World) (outer : List Kind) → IsTick w outer tick.Read → n ≡ w.bank.time / control_period → marks ≡ marks_at w.back
+    → w.bank.number_read < w.bank.time / control_period → (so_far w).ticks ≡ 0
     → StepKeeps kind.Tick outer w (number_step n marks w.core w.bank)
-reads_as n marks w outer i is marks_are below none = subst (λ (m : ℕ). StepKeeps kind.Tick outer w (number_step m marks w.core w.bank)) (sym is) (
-    let m : ℕ = w.bank.time / 2400 in
+read_number_preserves n marks w outer i is marks_are below none = subst (λ (m : ℕ). StepKeeps kind.Tick outer w (number_step m marks w.core w.bank)) (sym is) (
+    let m : ℕ = w.bank.time / control_period in
     let answer = ticked w.core m marks in
     let less : w.core.control.number < m = (let same = (i.ties kind.Tick).1 in omega arith) in
     let st = tick_stands w.core.control w.back (as_tick w.bank.time) m marks refl less marks_are i.ground.control in
@@ -365,24 +309,25 @@ reads_as n marks w outer i is marks_are below none = subst (λ (m : ℕ). StepKe
     ∙ ap (λ (d : ℕ). nat_lt 0 answer.demand && (d == 0)) i.ground.control.ties.demand_is
     ∙ ap (λ (b : Bool). nat_lt 0 answer.demand && b) (rests_is w.back) in
     if_true (nat_lt w.core.control.number m) kind.Tick outer w _ _ (lt-ltb w.core.control.number m less)
-    (asks answer.lost answer.armed_now answer.start w outer marks answer.demand (after_tick w.core.control m (decide (view_of w.core.control) m marks)) i
+    (ask_control_preserves answer.lost answer.armed_now answer.start w outer marks answer.demand (after_tick w.core.control m (decide (view_of w.core.control) m marks)) i
     begins none
     st (st.ties.number_is ∙ outcome_number answer.lost answer.armed_now w.bank.time m marks answer.demand w.back)))
 
-pub reads : (stuck : Bool) (w : World) (outer : List Kind) → w.bank.stuck ≡ stuck → IsTick w outer tick.Read
+pub tick_read_preserves : (stuck : Bool) (w : World) (outer : List Kind) → w.bank.stuck ≡ stuck → IsTick w outer tick.Read
     → StepKeeps kind.Tick outer w
-    (number_step (number_in (if stuck then w.bank.time / 2400 + 1073741824 else w.bank.time / 2400))
-    (marks_in (if stuck then w.bank.time / 2400 + 1073741824 else w.bank.time / 2400) w.core.line.active) w.core w.bank)
-reads true w outer e i =
+    (number_step (number_in (if stuck then w.bank.time / control_period + 1073741824 else w.bank.time / control_period))
+    (marks_in (if stuck then w.bank.time / control_period + 1073741824 else w.bank.time / control_period) w.core.line.active) w.core w.bank)
+tick_read_preserves true w outer e i =
     let tied = ticks_tie w outer tick.Read i in
-    reads_as (number_in (w.bank.time / 2400 + 1073741824)) (marks_in (w.bank.time / 2400 + 1073741824) w.core.line.active) w outer i
-    (rw (le-ltb (w.bank.time / 2400 + 1073741824) 1073741824 (omega arith)) (back (w.bank.time / 2400)))
-    (rw (le-ltb (w.bank.time / 2400 + 1073741824) 1073741824 (omega arith), mark_is w outer i ∙ e, i.ground.line.session_is) refl) tied.0 tied.1
+    read_number_preserves (number_in (w.bank.time / control_period + 1073741824)) (marks_in (w.bank.time / control_period + 1073741824) w.core.line.active) w outer i
+    (rw (le-ltb (w.bank.time / control_period + 1073741824) 1073741824 (omega arith)) (back (w.bank.time / control_period)))
+    (rw (le-ltb (w.bank.time / control_period + 1073741824) 1073741824 (omega arith), mark_is w outer i ∙ e, i.ground.line.session_is) refl) tied.0 tied.1
   where
     back : (t : ℕ) → (t + 1073741824) - 1073741824 ≡ t
     back t = omega arith
-reads false w outer e i =
+tick_read_preserves false w outer e i =
     let tied = ticks_tie w outer tick.Read i in
-    let small : w.bank.time < 2147483648 = i.ground.small in
-    reads_as (number_in (w.bank.time / 2400)) (marks_in (w.bank.time / 2400) w.core.line.active) w outer i (rw (lt-ltb (w.bank.time / 2400) 1073741824 (omega arith)) refl)
-    (rw (lt-ltb (w.bank.time / 2400) 1073741824 (omega arith), mark_is w outer i ∙ e, i.ground.line.session_is) refl) tied.0 tied.1
+    let small : w.bank.time < 2147483648 = i.ground.outside.small in
+    read_number_preserves (number_in (w.bank.time / control_period)) (marks_in (w.bank.time / control_period) w.core.line.active) w outer i
+    (rw (lt-ltb (w.bank.time / control_period) 1073741824 (omega arith)) refl)
+    (rw (lt-ltb (w.bank.time / control_period) 1073741824 (omega arith), mark_is w outer i ∙ e, i.ground.line.session_is) refl) tied.0 tied.1

@@ -1,416 +1,35 @@
--- TICK's room.
-use Rattle.std.proofs.Common.{◌≡◌, ◌≤◌, ◌<◌, ◌/◌, inl, inr, ℕ, Bool, true, false, ◌||◌, bit_and, if◌then◌else◌, List, Option, refl, sym, ◌∙◌, ap, subst, arith}
-use Rattle.std.specs.Int.Bits.{and_zero_r}
-use Rattle.std.proofs.lemmas.Bool.{lt-ltb, ltb-true}
-use Rattle.esc_base.specs.declared.gate.Leg.{Leg}
-use Rattle.esc_base.specs.declared.kind.Kind.{Kind}
+-- TICK's row of the laws: where it is called and entered, and its tie as time goes on.
+use Rattle.std.proofs.Common.{◌≡◌, ◌≤◌, ◌<◌, ◌/◌, ℕ, Bool, false, ◌||◌, Option, refl, sym, ◌∙◌, ap, subst, arith}
+use Rattle.std.proofs.lemmas.Bool.{ltb-true}
+use Rattle.esc_base.specs.Times.{control_period}
 use Rattle.esc_base.specs.declared.kind.Kind.TheVariants as kind
-use Rattle.esc_base.specs.declared.note.Note.TheVariants as note
-use Rattle.esc_base.specs.Legs.{is_on}
-use Rattle.esc_base.specs.Numbers.{as_tick}
-use Rattle.timer_regs.specs.Bank.{Bank}
-use Rattle.timer_regs.specs.Effects.{written}
 use Rattle.timer_regs.specs.Pwm.{has_edge}
-use Rattle.timer_regs.specs.declared.regs.Reg.TheVariants as reg
-use Rattle.interrupt_machine.specs.Did.{Writes, accessed}
-use Rattle.interrupt_machine.specs.Open.{innermost}
 use Rattle.arming.specs.ControlAt.{demand_at, number_at}
 use Rattle.gate_driver.specs.declared.all_off.AllOff.TheVariants as off
-use Rattle.gate_driver.specs.Gated.{gates_after}
-use Rattle.gate_driver.specs.Acted.{KeepsDeadTime}
-use Rattle.gate_driver.proofs.Bits.{on_and}
-use Rattle.gate_driver.proofs.DeadTime.{high_off_keeps, low_off_keeps}
 use Rattle.esc_core.specs.declared.state.TickAt.{TickAt}
 use Rattle.esc_core.specs.declared.state.TickAt.TheVariants as tick
-use Rattle.esc_core.specs.Tick.{tick_step}
-use Rattle.esc_core.specs.Stepped.{Stepped, goes_on}
 use Rattle.esc_core.specs.Firmware.{tick_left, waits_of}
-use Rattle.esc_laws.specs.Driven.{InPair}
 use Rattle.esc_laws.specs.Calls.{pwm_asked_at, pwm_entered_at}
 use Rattle.esc_rooms.specs.Tied.{TickTied}
 use Rattle.esc_rooms.specs.DriveTied.{LowTied, FlagTied, DutyTied, RestAt, Still}
 use Rattle.esc_rooms.specs.World.{World, so_far}
-use Rattle.esc_rooms.specs.Rooms.{Ties, GatesKeep, StepKeeps, drive_seen, cross_seen}
+use Rattle.esc_rooms.specs.Rooms.{Ties, drive_seen, cross_seen}
 use Rattle.esc_rooms.proofs.shared.Facts.{due_tick, tick_due}
-use Rattle.esc_rooms.proofs.shared.RoomSteps.{quiet_gates, ground_noted, inside, popped}
-use Rattle.esc_rooms.proofs.shared.DriveFacts.{comm_shut, pwm_shut, tick_shut, pair_apart, high_view, with_high}
-use Rattle.esc_rooms.proofs.tick.Facts.{same_flag, none_flag, duty_flag, timer_retimed, retimed, timed, with_low, driven_off}
+use Rattle.esc_rooms.proofs.shared.DriveFacts.{comm_shut, pwm_shut, tick_shut}
+use Rattle.esc_rooms.proofs.tick.Facts.{same_flag, timer_retimed, retimed}
 use Rattle.esc_rooms.specs.CrossTied.{ends_drive}
-use Rattle.esc_rooms.proofs.cmp.CrossFacts.{cmp_shut, cross_retimed, driven_cross}
+use Rattle.esc_rooms.proofs.cmp.CrossFacts.{cmp_shut, cross_retimed}
 use Rattle.esc_rooms.proofs.shared.Law.{HandlerLaw}
-use Rattle.commutation.specs.Drive.{turns_at, rests_at}
-use Rattle.esc_rooms.proofs.cap.Period.{period_retimed, period_off, rests_now}
-use Rattle.esc_rooms.proofs.tick.Control.{IsTick, ticks_tie, duty_tie, rest_tie, low_tie, flag_tie, reads}
-use Rattle.esc_laws.specs.NoteLaw as owed
-
--- ---- all goes off
-
-off_gates : (w : World) (outer : List Kind) (place : TickAt) (s : Stepped) → IsTick w outer place → demand_at w.back ≡ 0
-    → s.core.drive.gates ≡ gates_after w.core.drive.gates w.bank (accessed w.bank s.access)
-    → KeepsDeadTime w.bank s.core.drive.gates (accessed w.bank s.access)
-    → ((x : Leg) → is_on (accessed w.bank s.access).hi x ≡ true → is_on w.bank.hi x ≡ true)
-    → ((x : Leg) → is_on (accessed w.bank s.access).lo x ≡ true → is_on w.bank.lo x ≡ true) → GatesKeep kind.Tick w s
-off_gates w outer place s i zero off_times dead high low = record {
-  off_times = off_times;
-  fits = λ told moved. record {
-    nest = rw (ap innermost i.on) tt;
-    dead_time = dead;
-    driven = (
-      λ z. record { high = rw told.hi_is high; low = rw told.lo_is low },
-      rw (← (i.ties kind.Comm).switches.sector_is) (record {
-        high = λ x on. (i.ties kind.Comm).switches.pair.high x (high x on);
-        low = λ x on. (i.ties kind.Comm).switches.pair.low x (low x on);
-      }),
-    );
-  };
-  drive = record {
-    low = λ o l. absurd (omega arith);
-    high = λ o p l. absurd (omega arith);
-    chops = λ is. cc;
-    back = λ is. cc;
-    silent = λ is. cc;
-  };
-}
-
-high_off : (w : World) (outer : List Kind) → IsTick w outer (tick.Off off.High) → StepKeeps kind.Tick outer w (tick_step (tick.Off off.High) w.core w.bank)
-high_off w outer i =
-    let t = i.ties kind.Comm in
-    let zero : demand_at w.back ≡ 0 = duty_tie w outer (tick.Off off.High) i in
-    let hi : ℕ = bit_and w.bank.hi 0 in
-    let after : Bank = written w.bank reg.GhClr 7 in
-    let pair : InPair w.bank.sector hi w.bank.lo = record { high = λ x on. t.switches.pair.high x (on_and w.bank.hi 0 x on); low = t.switches.pair.low } in
-    record {
-      gates = off_gates w outer (tick.Off off.High) _ i zero refl
-          (high_off_keeps (gates_after w.core.drive.gates w.bank after) w.bank after 0 refl refl
-          (pair_apart w.bank.sector w.bank.hi w.bank.lo t.switches.sectors t.switches.pair))
-          (λ x on. on_and w.bank.hi 0 x on) (λ x on. on);
-      fits = λ told. tt;
-      ground = i.ground;
-      tie = λ told. (
-        ticks_tie w outer (tick.Off off.High) i,
-        (i.ties kind.Tick).1,
-        (i.ties kind.Tick).2,
-        zero,
-        λ z. record { rest = and_zero_r w.bank.hi; pwm_shut = i.pwm_is; comm_shut = i.comm_is },
-      );
-      others = elim [
-        | kind.Tick ↦ λ ne u. absurd (ne refl)
-        | kind.Pwm ↦ λ ne u. (
-          u.0,
-          none_flag (tick.Off off.Low) w.bank.flag (pwm_asked_at w.back) (demand_at w.back) (pwm_entered_at w.back) w.bank.time refl
-              zero u.1.past,
-        )
-        | kind.Comm ↦ λ ne u. retimed (high_view (drive_seen w) hi) (tick.Off off.Low) (λ e l s. tt) (with_high (drive_seen w) hi i.comm_is pair u)
-        | kind.Cap ↦ λ ne u. (u.0, u.1, u.2, period_retimed w (tick.Off off.Low) (sym (ap ends_drive i.place_is)) u.3)
-        | kind.Cmp ↦ λ ne u. cross_retimed (cross_seen w) (tick.Off off.Low) (sym (ap ends_drive i.place_is)) u
-        | j ↦ λ ne u. u
-      ];
-      stack_is = i.on;
-    }
-
-low_off : (w : World) (outer : List Kind) → IsTick w outer (tick.Off off.Low) → StepKeeps kind.Tick outer w (tick_step (tick.Off off.Low) w.core w.bank)
-low_off w outer i =
-    let t = i.ties kind.Comm in
-    let zero : demand_at w.back ≡ 0 = duty_tie w outer (tick.Off off.Low) i in
-    let lo : ℕ = bit_and w.bank.lo 0 in
-    let after : Bank = written w.bank reg.GlClr 7 in
-    record {
-      gates = off_gates w outer (tick.Off off.Low) _ i zero refl
-          (low_off_keeps (gates_after w.core.drive.gates w.bank after) w.bank after 0 refl refl (pair_apart w.bank.sector w.bank.hi w.bank.lo t.switches.sectors t.switches.pair))
-          (λ x on. on) (λ x on. on_and w.bank.lo 0 x on);
-      fits = λ told. tt;
-      ground = i.ground;
-      tie = λ told. (
-        ticks_tie w outer (tick.Off off.Low) i,
-        (i.ties kind.Tick).1,
-        (i.ties kind.Tick).2,
-        zero,
-        λ z. record { rest = (rest_tie w outer (tick.Off off.Low) i zero, and_zero_r w.bank.lo); pwm_shut = i.pwm_is; comm_shut = i.comm_is },
-      );
-      others = elim [
-        | kind.Tick ↦ λ ne u. absurd (ne refl)
-        | kind.Pwm ↦ λ ne u. (
-          u.0,
-          none_flag tick.DutyOff w.bank.flag (pwm_asked_at w.back) (demand_at w.back) (pwm_entered_at w.back) w.bank.time refl zero
-              u.1.past,
-        )
-        | kind.Comm ↦ λ ne u. with_low (drive_seen w) lo tick.DutyOff i.comm_is (rw i.cmp_is refl) zero (λ x on. on_and w.bank.lo 0 x on) u
-        | kind.Cap ↦ λ ne u. (u.0, u.1, u.2, period_retimed w tick.DutyOff (sym (ap ends_drive i.place_is)) u.3)
-        | kind.Cmp ↦ λ ne u. cross_retimed (cross_seen w) tick.DutyOff (sym (ap ends_drive i.place_is)) u
-        | j ↦ λ ne u. u
-      ];
-      stack_is = i.on;
-    }
-
-duty_off : (w : World) (outer : List Kind) → IsTick w outer tick.DutyOff → StepKeeps kind.Tick outer w (tick_step tick.DutyOff w.core w.bank)
-duty_off w outer i =
-    let zero : demand_at w.back ≡ 0 = duty_tie w outer tick.DutyOff i in
-    let rest = rest_tie w outer tick.DutyOff i zero in
-    record {
-      gates = quiet_gates kind.Tick w _ (λ e. cc) refl refl refl;
-      fits = λ told. tt;
-      ground = i.ground;
-      tie = λ told. (
-        ticks_tie w outer tick.DutyOff i,
-        (i.ties kind.Tick).1,
-        (i.ties kind.Tick).2,
-        (zero, sym zero),
-        λ z. record { rest = (rest.0, rest.1, refl); pwm_shut = i.pwm_is; comm_shut = i.comm_is },
-      );
-      others = elim [
-        | kind.Tick ↦ λ ne u. absurd (ne refl)
-        | kind.Pwm ↦ λ ne u. (
-          u.0,
-          none_flag tick.DriveOff false (pwm_asked_at w.back) (demand_at w.back) (pwm_entered_at w.back) w.bank.time refl zero
-              u.1.past,
-        )
-        | kind.Comm ↦ λ ne u. retimed (drive_seen w) tick.DriveOff (λ e l s. tt) u
-        | kind.Cap ↦ λ ne u. (u.0, u.1, u.2, period_retimed w tick.DriveOff (sym (ap ends_drive i.place_is)) u.3)
-        | kind.Cmp ↦ λ ne u. cross_retimed (cross_seen w) tick.DriveOff (sym (ap ends_drive i.place_is)) u
-        | j ↦ λ ne u. u
-      ];
-      stack_is = i.on;
-    }
-
-drive_off : (w : World) (outer : List Kind) → IsTick w outer tick.DriveOff → StepKeeps kind.Tick outer w (tick_step tick.DriveOff w.core w.bank)
-drive_off w outer i =
-    let duty = duty_tie w outer tick.DriveOff i in
-    let rest = rest_tie w outer tick.DriveOff i duty.0 in
-    record {
-      gates = quiet_gates kind.Tick w _ (λ e. cc) refl refl refl;
-      fits = λ told. tt;
-      ground = i.ground;
-      tie = λ told. (
-        ticks_tie w outer tick.DriveOff i,
-        (i.ties kind.Tick).1,
-        (i.ties kind.Tick).2,
-        duty.1,
-        λ z. record {
-          rest = record { high_off = rest.0; low_off = rest.1; no_event = rest.2; disarmed = refl; prompt = refl; no_mark = refl };
-          pwm_shut = i.pwm_is;
-          comm_shut = i.comm_is;
-        },
-      );
-      others = elim [
-        | kind.Tick ↦ λ ne u. absurd (ne refl)
-        | kind.Pwm ↦ λ ne u. (
-          u.0,
-          none_flag tick.Lower w.bank.flag (pwm_asked_at w.back) (demand_at w.back) (pwm_entered_at w.back) w.bank.time refl duty.0 u.1.past,
-        )
-        | kind.Comm ↦ λ ne u. driven_off (drive_seen w) i.comm_is duty.0 u
-        | kind.Cap ↦ λ ne u. (
-          u.0,
-          u.1,
-          u.2,
-          period_off w.core.drive.timing.turns _ _ _ w.bank.sector (turns_at w.back) (rests_at w.back) (rests_now w.back duty.0) u.3,
-        )
-        | kind.Cmp ↦ λ ne u. driven_cross (cross_seen w) (rw i.place_is refl) u
-        | j ↦ λ ne u. u
-      ];
-      stack_is = i.on;
-    }
-
--- ---- the duty, and a start
-
-duty_on : (start : Bool) (w : World) (outer : List Kind) → IsTick w outer (tick.DutyOn start)
-    → StepKeeps kind.Tick outer w (goes_on (record w.core { tick_at = if start then tick.Start else tick.Lower }) (Writes reg.Duty w.core.control.demand))
-duty_on true w outer i =
-    let some : 0 < demand_at w.back = duty_tie w outer (tick.DutyOn true) i in
-    let is : w.core.control.demand ≡ demand_at w.back = i.ground.control.ties.demand_is in
-    record {
-      gates = quiet_gates kind.Tick w _ (λ e. cc) refl refl refl;
-      fits = λ told. tt;
-      ground = i.ground;
-      tie = λ told. (
-        ticks_tie w outer (tick.DutyOn true) i,
-        (i.ties kind.Tick).1,
-        (i.ties kind.Tick).2,
-        (some, is),
-        λ z. absurd (omega arith),
-      );
-      others = elim [
-        | kind.Tick ↦ λ ne u. absurd (ne refl)
-        | kind.Pwm ↦ λ ne u. (
-          u.0,
-          rw (lt-ltb 0 w.core.control.demand (omega arith)) (duty_flag tick.Start true w.bank.flag (pwm_asked_at w.back) (demand_at w.back)
-              (pwm_entered_at w.back) w.bank.time refl (flag_tie w outer (tick.DutyOn true) i)),
-        )
-        | kind.Comm ↦ λ ne u. retimed (drive_seen w) tick.Start (λ e l s. elim (low_tie w outer (tick.DutyOn true) i l) [
-          | inl q ↦ record { started = q.1.started; due = q.1.due }
-          | inr q ↦ (let z : true ≡ false = q.0 in cc)
-        ]) u
-        | kind.Cap ↦ λ ne u. (u.0, u.1, u.2, period_retimed w tick.Start (sym (ap ends_drive i.place_is)) u.3)
-        | kind.Cmp ↦ λ ne u. cross_retimed (cross_seen w) tick.Start (sym (ap ends_drive i.place_is)) u
-        | j ↦ λ ne u. u
-      ];
-      stack_is = i.on;
-    }
-duty_on false w outer i =
-    let some : 0 < demand_at w.back = duty_tie w outer (tick.DutyOn false) i in
-    let is : w.core.control.demand ≡ demand_at w.back = i.ground.control.ties.demand_is in
-    record {
-      gates = quiet_gates kind.Tick w _ (λ e. cc) refl refl refl;
-      fits = λ told. tt;
-      ground = i.ground;
-      tie = λ told. (
-        ticks_tie w outer (tick.DutyOn false) i,
-        (i.ties kind.Tick).1,
-        (i.ties kind.Tick).2,
-        is,
-        λ z. absurd (omega arith),
-      );
-      others = elim [
-        | kind.Tick ↦ λ ne u. absurd (ne refl)
-        | kind.Pwm ↦ λ ne u. (
-          u.0,
-          rw (lt-ltb 0 w.core.control.demand (omega arith)) (duty_flag tick.Lower false w.bank.flag (pwm_asked_at w.back) (demand_at w.back)
-              (pwm_entered_at w.back) w.bank.time refl (flag_tie w outer (tick.DutyOn false) i)),
-        )
-        | kind.Comm ↦ λ ne u. retimed (drive_seen w) tick.Lower (λ e l s. elim (low_tie w outer (tick.DutyOn false) i l) [
-          | inl q ↦ (let z : false ≡ true = q.0 in cc)
-          | inr q ↦ timer_retimed (drive_seen w) tick.Lower q.1
-        ]) u
-        | kind.Cap ↦ λ ne u. (u.0, u.1, u.2, period_retimed w tick.Lower (sym (ap ends_drive i.place_is)) u.3)
-        | kind.Cmp ↦ λ ne u. cross_retimed (cross_seen w) tick.Lower (sym (ap ends_drive i.place_is)) u
-        | j ↦ λ ne u. u
-      ];
-      stack_is = i.on;
-    }
-
-starts : (w : World) (outer : List Kind) → IsTick w outer tick.Start → StepKeeps kind.Tick outer w (tick_step tick.Start w.core w.bank)
-starts w outer i =
-    let duty = duty_tie w outer tick.Start i in
-    record {
-      gates = quiet_gates kind.Tick w _ (λ e. cc) refl refl refl;
-      fits = λ told. tt;
-      ground = i.ground;
-      tie = λ told. (
-        ticks_tie w outer tick.Start i,
-        (i.ties kind.Tick).1,
-        (i.ties kind.Tick).2,
-        duty.1,
-        λ z. absurd (let l = duty.0 in omega arith),
-      );
-      others = elim [
-        | kind.Tick ↦ λ ne u. absurd (ne refl)
-        | kind.Pwm ↦ λ ne u. (
-          u.0,
-          same_flag tick.Start tick.Lower w.bank.flag (pwm_asked_at w.back) (demand_at w.back) (pwm_entered_at w.back) w.bank.time refl
-              (flag_tie w outer tick.Start i),
-        )
-        | kind.Comm ↦ λ ne u. timed (drive_seen w) tick.Lower i.comm_is (λ l. inr (
-          w.bank.time,
-          refl,
-          omega arith,
-          (let q =
-              low_tie w outer tick.Start i l in record { started = q.started; due = q.due }),
-        )) u
-        | kind.Cap ↦ λ ne u. (u.0, u.1, u.2, period_retimed w tick.Lower (sym (ap ends_drive i.place_is)) u.3)
-        | kind.Cmp ↦ λ ne u. cross_retimed (cross_seen w) tick.Lower (sym (ap ends_drive i.place_is)) u
-        | j ↦ λ ne u. u
-      ];
-      stack_is = i.on;
-    }
-
--- ---- all its steps
-
-steps : (place : TickAt) (w : World) (outer : List Kind) → IsTick w outer place → 0 < tick_left place
-    → StepKeeps kind.Tick outer w (tick_step place w.core w.bank)
-steps tick.Shut w outer i left = absurd (omega arith)
-steps tick.Raise w outer i left = record {
-  gates = quiet_gates kind.Tick w _ (λ e. cc) refl refl refl;
-  fits = λ told. tt;
-  ground = i.ground;
-  tie = λ told. (
-    ticks_tie w outer tick.Raise i,
-    (i.ties kind.Tick).1,
-    (i.ties kind.Tick).2,
-    duty_tie w outer tick.Raise i,
-    λ z. record { rest = rest_tie w outer tick.Raise i z; pwm_shut = i.pwm_is; comm_shut = i.comm_is },
-  );
-  others = elim [
-    | kind.Tick ↦ λ ne u. absurd (ne refl)
-    | kind.Pwm ↦ λ ne u. (
-      u.0,
-      same_flag tick.Raise tick.Read w.bank.flag (pwm_asked_at w.back) (demand_at w.back) (pwm_entered_at w.back) w.bank.time refl
-          (flag_tie w outer tick.Raise i),
-    )
-    | kind.Comm ↦ λ ne u. retimed (drive_seen w) tick.Read (λ e l s. timer_retimed (drive_seen w) tick.Read (low_tie w outer tick.Raise i l)) u
-    | kind.Cap ↦ λ ne u. (u.0, u.1, u.2, period_retimed w tick.Read (sym (ap ends_drive i.place_is)) u.3)
-    | kind.Cmp ↦ λ ne u. cross_retimed (cross_seen w) tick.Read (sym (ap ends_drive i.place_is)) u
-    | j ↦ λ ne u. u
-  ];
-  stack_is = i.on;
-}
-steps tick.Read w outer i left = reads w.bank.stuck w outer refl i
-steps (tick.Off off.High) w outer i left = high_off w outer i
-steps (tick.Off off.Low) w outer i left = low_off w outer i
-steps (tick.Off off.Over) w outer i left = absurd (rest_tie w outer (tick.Off off.Over) i (duty_tie w outer (tick.Off off.Over) i))
-steps tick.DutyOff w outer i left = duty_off w outer i
-steps tick.DriveOff w outer i left = drive_off w outer i
-steps (tick.DutyOn start) w outer i left = duty_on start w outer i
-steps tick.Start w outer i left = starts w outer i
-steps tick.Lower w outer i left = record {
-  gates = quiet_gates kind.Tick w _ (λ e. cc) refl refl refl;
-  fits = λ told. tt;
-  ground = i.ground;
-  tie = λ told. (
-    ticks_tie w outer tick.Lower i,
-    (i.ties kind.Tick).1,
-    (i.ties kind.Tick).2,
-    duty_tie w outer tick.Lower i,
-    λ z. record { rest = rest_tie w outer tick.Lower i z; pwm_shut = i.pwm_is; comm_shut = i.comm_is },
-  );
-  others = elim [
-    | kind.Tick ↦ λ ne u. absurd (ne refl)
-    | kind.Pwm ↦ λ ne u. (
-      u.0,
-      same_flag tick.Lower tick.Back w.bank.flag (pwm_asked_at w.back) (demand_at w.back) (pwm_entered_at w.back) w.bank.time refl
-          (flag_tie w outer tick.Lower i),
-    )
-    | kind.Comm ↦ λ ne u. retimed (drive_seen w) tick.Back (λ e l s. timer_retimed (drive_seen w) tick.Back (low_tie w outer tick.Lower i l)) u
-    | kind.Cap ↦ λ ne u. (u.0, u.1, u.2, period_retimed w tick.Back (sym (ap ends_drive i.place_is)) u.3)
-    | kind.Cmp ↦ λ ne u. cross_retimed (cross_seen w) tick.Back (sym (ap ends_drive i.place_is)) u
-    | j ↦ λ ne u. u
-  ];
-  stack_is = i.on;
-}
-steps tick.Back w outer i left = record {
-  gates = quiet_gates kind.Tick w _ (λ e. cc) refl refl refl;
-  fits = λ told. (
-    record { at = refl; owned = refl; keeps = record { laws = elim [ owed.Windows ↦ λ e. cc | owed.Replies ↦ λ e. cc | owed.Drives ↦ λ e z. (told.hi_is ∙ (rest_tie w outer tick.Back i z).high_off, told.lo_is ∙ (rest_tie w outer tick.Back i z).low_off) | owed.Searches ↦ λ e. cc | owed.Nests ↦ (inside (so_far w).stack kind.Tick outer i.on, ticks_tie w outer tick.Back i) | l ↦ tt ]; waits = tt } },
-    tt,
-  );
-  ground = ground_noted w (note.Leave (as_tick w.bank.time) 2) refl refl tt refl i.ground;
-  tie = λ told. (
-    tt,
-    (i.ties kind.Tick).1,
-    (i.ties kind.Tick).2,
-    duty_tie w outer tick.Back i,
-    λ z. record { rest = rest_tie w outer tick.Back i z; pwm_shut = i.pwm_is; comm_shut = i.comm_is },
-  );
-  others = elim [
-    | kind.Tick ↦ λ ne u. absurd (ne refl)
-    | kind.Pwm ↦ λ ne u. (
-      u.0,
-      same_flag tick.Back tick.Shut w.bank.flag (pwm_asked_at w.back) (demand_at w.back) (pwm_entered_at w.back) w.bank.time refl
-          (flag_tie w outer tick.Back i),
-    )
-    | kind.Comm ↦ λ ne u. retimed (drive_seen w) tick.Shut (λ e l s. timer_retimed (drive_seen w) tick.Shut (low_tie w outer tick.Back i l)) u
-    | kind.Cap ↦ λ ne u. (u.0, u.1, u.2, period_retimed w tick.Shut (sym (ap ends_drive i.place_is)) u.3)
-    | kind.Cmp ↦ λ ne u. cross_retimed (cross_seen w) tick.Shut (sym (ap ends_drive i.place_is)) u
-    | j ↦ λ ne u. u
-  ];
-  stack_is = popped (so_far w).stack kind.Tick outer i.on;
-}
+use Rattle.esc_rooms.proofs.cap.Period.{period_retimed}
+use Rattle.esc_rooms.proofs.tick.Steps.{tick_steps_preserve}
 
 -- ---- time
 
-later : (at : TickAt) (read t u ticks : ℕ) → t ≤ u → TickTied at read t ticks → TickTied at read u ticks
-later tick.Shut read t u ticks le i = tt
-later tick.Raise read t u ticks le i = (let a : read < t / 2400 = i.0 in omega arith, i.1)
-later tick.Read read t u ticks le i = (let a : read < t / 2400 = i.0 in omega arith, i.1)
-later at read t u ticks le i = i
+ticks_later : (at : TickAt) (read t u ticks : ℕ) → t ≤ u → TickTied at read t ticks → TickTied at read u ticks
+ticks_later tick.Shut read t u ticks le i = tt
+ticks_later tick.Raise read t u ticks le i = (let a : read < t / control_period = i.0 in omega arith, i.1)
+ticks_later tick.Read read t u ticks le i = (let a : read < t / control_period = i.0 in omega arith, i.1)
+ticks_later at read t u ticks le i = i
 
 -- with the duty at 0 time brings no PWM event
 no_edge : (flag : Bool) (duty t u : ℕ) → duty ≡ 0 → flag ≡ false → (flag || has_edge duty t u) ≡ false
@@ -449,61 +68,65 @@ shut_at w none t = subst (λ (p : TickAt). DutyTied p w.bank.duty (demand_at w.b
 
 pub tick_law : HandlerLaw kind.Tick
 tick_law = record {
-  called = λ w g t told unheld none s.
-      tick_due (waits_of w.core) w.bank (rw ((t kind.Tick).1, g.control.ties.number_is) (ltb-true (number_at w.back) (w.bank.time / 2400) s));
-  asked = λ w g t unheld due. (tt, tt);
-  entered = λ w g t unheld none due past high. (
-    (due_tick (waits_of w.core) w.bank (t kind.Tick).2 due, refl),
-    (t kind.Tick).1,
-    (t kind.Tick).2,
-    shut_at w none t,
+  called = λ w i s.
+      tick_due (waits_of w.core) w.bank
+      (rw ((i.rest.ties kind.Tick).1, i.rest.ground.control.ties.number_is) (ltb-true (number_at w.back) (w.bank.time / control_period) s));
+  asked = λ w i. (
+    tt,
+    rw (sym i.rest.ground.control.ties.number_is, ← (i.rest.ties kind.Tick).1) (due_tick (waits_of w.core) w.bank (i.rest.ties kind.Tick).2 i.due),
+  );
+  entered = λ w i. (
+    (due_tick (waits_of w.core) w.bank (i.rest.ties kind.Tick).2 i.due, refl),
+    (i.rest.ties kind.Tick).1,
+    (i.rest.ties kind.Tick).2,
+    shut_at w i.shut i.rest.ties,
     λ z. record {
       rest = subst (λ (p : TickAt). RestAt p w.bank.hi w.bank.lo w.bank.flag w.bank.comm w.core.drive.postponed w.bank.stuck)
-          (tick_shut w.core.tick_at none) ((t kind.Tick).4 z).rest;
-      pwm_shut = ((t kind.Tick).4 z).pwm_shut;
-      comm_shut = ((t kind.Tick).4 z).comm_shut;
+          (tick_shut w.core.tick_at i.shut) ((i.rest.ties kind.Tick).4 z).rest;
+      pwm_shut = ((i.rest.ties kind.Tick).4 z).pwm_shut;
+      comm_shut = ((i.rest.ties kind.Tick).4 z).comm_shut;
     },
   );
-  beside = λ w g t unheld none due past high. elim [
+  beside = λ w i. elim [
     | kind.Tick ↦ λ ne. absurd (ne refl)
     | kind.Pwm ↦ λ ne. (
-      (t kind.Pwm).0,
+      (i.rest.ties kind.Pwm).0,
       same_flag tick.Shut tick.Raise w.bank.flag (pwm_asked_at w.back) (demand_at w.back) (pwm_entered_at w.back) w.bank.time refl
           (subst (λ (p : TickAt). FlagTied p w.bank.flag (pwm_asked_at w.back) (demand_at w.back) (pwm_entered_at w.back) w.bank.time)
-          (tick_shut w.core.tick_at none) (t kind.Pwm).1),
+          (tick_shut w.core.tick_at i.shut) (i.rest.ties kind.Pwm).1),
     )
     | kind.Comm ↦ λ ne. retimed (drive_seen w) tick.Raise
         (λ e l s. timer_retimed (drive_seen w) tick.Raise
-        (subst (λ (p : TickAt). LowTied p (drive_seen w)) (tick_shut w.core.tick_at none) ((t kind.Comm).low e l s))) (t kind.Comm)
+        (subst (λ (p : TickAt). LowTied p (drive_seen w)) (tick_shut w.core.tick_at i.shut) ((i.rest.ties kind.Comm).low e l s))) (i.rest.ties kind.Comm)
     | kind.Cap ↦ λ ne. (
-      (t kind.Cap).0,
-      (t kind.Cap).1,
-      (t kind.Cap).2,
-      period_retimed w tick.Raise (sym (ap ends_drive (tick_shut w.core.tick_at none))) (t kind.Cap).3,
+      (i.rest.ties kind.Cap).0,
+      (i.rest.ties kind.Cap).1,
+      (i.rest.ties kind.Cap).2,
+      period_retimed w tick.Raise (sym (ap ends_drive (tick_shut w.core.tick_at i.shut))) (i.rest.ties kind.Cap).3,
     )
-    | kind.Cmp ↦ λ ne. cross_retimed (cross_seen w) tick.Raise (sym (ap ends_drive (tick_shut w.core.tick_at none))) (t kind.Cmp)
-    | j ↦ λ ne. t j
+    | kind.Cmp ↦ λ ne. cross_retimed (cross_seen w) tick.Raise (sym (ap ends_drive (tick_shut w.core.tick_at i.shut))) (i.rest.ties kind.Cmp)
+    | j ↦ λ ne. i.rest.ties j
   ];
-  steps = λ w answers outer given g t above alone past on left. steps w.core.tick_at w outer (record {
-    ground = g;
-    ties = t;
-    on = on;
+  steps = λ w answers outer given i. tick_steps_preserve w.core.tick_at w outer (record {
+    ground = i.rest.ground;
+    ties = i.rest.ties;
+    on = i.on;
     place_is = refl;
-    comm_is = comm_shut w.core.comm_at w.core.drive.turn.at (above kind.Comm (omega arith));
-    pwm_is = pwm_shut w.core.pwm_at (above kind.Pwm (omega arith));
-    cmp_is = cmp_shut w.core.cmp_at (above kind.Cmp (omega arith));
-  }) left;
-  later = λ w u from small g t. (
-    later w.core.tick_at w.bank.number_read w.bank.time u (so_far w).ticks from (t kind.Tick).0,
-    (t kind.Tick).1,
-    (let r = (t kind.Tick).2 in omega arith),
-    (t kind.Tick).3,
+    comm_is = comm_shut w.core.comm_at w.core.drive.turn.at (i.above kind.Comm (omega arith));
+    pwm_is = pwm_shut w.core.pwm_at (i.above kind.Pwm (omega arith));
+    cmp_is = cmp_shut w.core.cmp_at (i.above kind.Cmp (omega arith));
+  }) i.left;
+  later = λ w u from small i. (
+    ticks_later w.core.tick_at w.bank.number_read w.bank.time u (so_far w).ticks from (i.ties kind.Tick).0,
+    (i.ties kind.Tick).1,
+    (let r = (i.ties kind.Tick).2 in omega arith),
+    (i.ties kind.Tick).3,
     λ z. record {
       rest = rest_later w.core.tick_at w.bank.hi w.bank.lo w.bank.flag w.bank.comm w.core.drive.postponed w.bank.stuck w.bank.duty (demand_at w.back)
-          w.bank.time u z (t kind.Tick).3 ((t kind.Tick).4 z).rest;
-      pwm_shut = ((t kind.Tick).4 z).pwm_shut;
-      comm_shut = ((t kind.Tick).4 z).comm_shut;
+          w.bank.time u z (i.ties kind.Tick).3 ((i.ties kind.Tick).4 z).rest;
+      pwm_shut = ((i.ties kind.Tick).4 z).pwm_shut;
+      comm_shut = ((i.ties kind.Tick).4 z).comm_shut;
     },
   );
-  outside = λ w e at past g t. (t kind.Tick);
+  outside = λ w e i. (i.rest.ties kind.Tick);
 }

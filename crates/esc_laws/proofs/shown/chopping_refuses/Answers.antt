@@ -1,4 +1,4 @@
-use Rattle.esc_laws.proofs.RefusedChops.{chopping_refuses}
+use Rattle.esc_laws.proofs.refused.Chops.{chopping_refuses}
 use Rattle.esc_laws.proofs.shown.chopping_refuses.Goals as goal
 
 pub returns : goal.returns

@@ -1,4 +1,4 @@
-use Rattle.esc_laws.proofs.Refused.{control_refuses}
+use Rattle.esc_laws.proofs.refused.Control.{control_refuses}
 use Rattle.esc_laws.proofs.shown.control_refuses.Goals as goal
 
 pub returns : goal.returns

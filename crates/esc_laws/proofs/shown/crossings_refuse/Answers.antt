@@ -1,4 +1,4 @@
-use Rattle.esc_laws.proofs.RefusedCrossings.{crossings_refuse}
+use Rattle.esc_laws.proofs.refused.Crossings.{crossings_refuse}
 use Rattle.esc_laws.proofs.shown.crossings_refuse.Goals as goal
 
 pub returns : goal.returns

@@ -1,4 +1,4 @@
-use Rattle.esc_laws.proofs.RefusedDrive.{drive_refuses}
+use Rattle.esc_laws.proofs.refused.Drive.{drive_refuses}
 use Rattle.esc_laws.proofs.shown.drive_refuses.Goals as goal
 
 pub returns : goal.returns

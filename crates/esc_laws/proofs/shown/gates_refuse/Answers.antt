@@ -1,4 +1,4 @@
-use Rattle.esc_laws.proofs.RefusedDrive.{gates_refuse}
+use Rattle.esc_laws.proofs.refused.Drive.{gates_refuse}
 use Rattle.esc_laws.proofs.shown.gates_refuse.Goals as goal
 
 pub returns : goal.returns

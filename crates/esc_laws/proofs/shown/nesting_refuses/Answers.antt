@@ -1,4 +1,4 @@
-use Rattle.esc_laws.proofs.Refused.{nesting_refuses}
+use Rattle.esc_laws.proofs.refused.Nesting.{nesting_refuses}
 use Rattle.esc_laws.proofs.shown.nesting_refuses.Goals as goal
 
 pub returns : goal.returns

@@ -1,4 +1,4 @@
-use Rattle.esc_laws.proofs.RefusedReplies.{replies_refuse}
+use Rattle.esc_laws.proofs.refused.Replies.{replies_refuse}
 use Rattle.esc_laws.proofs.shown.replies_refuse.Goals as goal
 
 pub returns : goal.returns

@@ -1,4 +1,4 @@
-use Rattle.esc_laws.proofs.RefusedReplies.{reply_windows_refuse}
+use Rattle.esc_laws.proofs.refused.Replies.{reply_windows_refuse}
 use Rattle.esc_laws.proofs.shown.reply_windows_refuse.Goals as goal
 
 pub returns : goal.returns

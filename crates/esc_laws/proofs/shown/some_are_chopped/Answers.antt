@@ -1,4 +1,4 @@
-use Rattle.esc_laws.proofs.RefusedChops.{some_are_chopped}
+use Rattle.esc_laws.proofs.refused.Chops.{some_are_chopped}
 use Rattle.esc_laws.proofs.shown.some_are_chopped.Goals as goal
 
 pub returns : goal.returns

@@ -1,4 +1,4 @@
-use Rattle.esc_laws.proofs.RefusedReplies.{some_are_replied}
+use Rattle.esc_laws.proofs.refused.Replies.{some_are_replied}
 use Rattle.esc_laws.proofs.shown.some_are_replied.Goals as goal
 
 pub returns : goal.returns

@@ -1,4 +1,4 @@
-use Rattle.esc_laws.proofs.RefusedSteps.{steps_refuse}
+use Rattle.esc_laws.proofs.refused.Steps.{steps_refuse}
 use Rattle.esc_laws.proofs.shown.steps_refuse.Goals as goal
 
 pub returns : goal.returns

@@ -1,4 +1,4 @@
-use Rattle.esc_laws.proofs.RefusedDrive.{turns_refuse}
+use Rattle.esc_laws.proofs.refused.Drive.{turns_refuse}
 use Rattle.esc_laws.proofs.shown.turns_refuse.Goals as goal
 
 pub returns : goal.returns

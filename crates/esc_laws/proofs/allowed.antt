@@ -1,0 +1,4 @@
+pub mod Journals
+pub mod Calls
+pub mod Flash
+pub mod Windows

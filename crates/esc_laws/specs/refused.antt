@@ -1,0 +1,11 @@
+pub mod Notes
+pub mod Control
+pub mod Windows
+pub mod Drive
+pub mod Nesting
+pub mod Steps
+pub mod Crossings
+pub mod Replies
+pub mod Chops
+pub mod Flash
+pub mod Asked
