@@ -6,6 +6,7 @@
 
 - Each block of text has a row in BLOCKS below, by its file and its first line: what is run, or what it is compared with. A block
   without a row is an error, so that none is forgotten. Rows of Unchecked say why a block can't be checked.
+- A command of a program between backquotes is run too, and each option is one of some program's. UNRUN says which commands aren't run.
 - A line of a journal or a trace between backquotes stands in some sample.
 - Files that are named between backquotes are there, and so are the names of the code.
 
@@ -27,10 +28,7 @@ PAGES = ["README.md", "CONTRIBUTING.md", *sorted(os.path.relpath(it, TOP) for it
 # ---- what a block can be
 
 class Run:
-    """Commands, one a line; each ends well. Those of `unrun` aren't run, each for its reason."""
-
-    def __init__(self, **unrun):
-        self.unrun = {words.replace("_", " "): why for words, why in unrun.items()}
+    """Commands, one a line; each ends well. Those of UNRUN aren't run."""
 
 
 class Part:
@@ -72,7 +70,7 @@ WORKED_EDGES = {
 SIX_ROWS = "".join(f"{row / 1000},{row % 2}\n" for row in range(6))
 
 BLOCKS = {
-    ("README.md", "./am32sim run examples/spin_up.trace | grep"): Run(rt_ci="it is the gate, and runs this program among others"),
+    ("README.md", "./am32sim run examples/spin_up.trace | grep"): Run(),
     ("README.md", "F 2298 D 2"): Part(command="./am32sim run examples/spin_up.trace | grep '^[FAXQZG]\\|^K .* [1-9][0-9]*$'"),
     ("README.md", "./am32sim run examples/throttle_ramp.trace"): Run(),
     ("README.md", "./am32trace < examples/throttle_ramp.script"): Run(),
@@ -117,6 +115,16 @@ BLOCKS = {
     ("docs/WAVE.md", "./am32sim run examples/first_sectors.trace"): Run(),
     ("docs/WAVE.md", "tick              |"): DRAWN,
     ("docs/WAVE.md", "$ am32wave --explain < examples/nested.journal"): Part(exact=True),
+}
+
+# Commands between backquotes, and in blocks, that aren't run, by how they begin, as a regular expression.
+UNRUN = {
+    "rt ": "proving is the gate's, and takes its time",
+    r"\./am32\w+ (prove|install)": "the one proves all crates, and the other copies what is built",
+    "bench/": "these measure, for minutes and more",
+    "docs/": "these need viewers and a browser, and are run by hand",
+    "examples/check": "this is it",
+    "examples/make.sh": "it writes the samples anew",
 }
 
 # Words between backquotes that are names of other projects.
@@ -229,11 +237,15 @@ class Room:
         return out.splitlines()
 
 
+def is_unrun(command):
+    return any(re.match(it, command) for it in UNRUN)
+
+
 def check_block(page, number, block, row, room):
     if isinstance(row, Run):
         for line in block:
             command = line.split("  #")[0].rstrip()
-            if command and not any(command.startswith(it) for it in row.unrun) and room:
+            if command and room and not is_unrun(command):
                 room.lines(page, number, command)
     elif isinstance(row, Part):
         command = row.command
@@ -284,10 +296,22 @@ class Code:
         self.files = [it for it in found.stdout.splitlines() if os.path.exists(f"{TOP}/{it}")]
         code = [it for it in self.files if it.endswith((".rt", ".antt")) or it == "crates.txt"]
         self.words = set(re.findall(r"\w+", " ".join(text_of(it) for it in code)))
+        scripts = [it for it in self.files if re.fullmatch(r"am32\w+|(bench|docs|examples|scripts)/\w+\.(sh|py)", it)]
+        self.options = set(re.findall(r"--[a-z-]+", " ".join(text_of(it) for it in code + scripts)))
 
     def has(self, path):
         path = path.rstrip("/")
         return any(it == path or it.endswith("/" + path) or f"/{path}/" in f"/{it}" for it in self.files)
+
+
+def check_commands(page, text, code, room):
+    for number, quoted in quoted_of(text):
+        if quoted.startswith("./am32") and room and not is_unrun(quoted):
+            room.lines(page, number, quoted)
+        if not quoted.startswith("rt "):
+            for option in re.findall(r"--[a-z][a-z-]*", quoted):
+                if option not in code.options:
+                    fault(page, number, f"no program has this option: {option}")
 
 
 def check_names(page, text, code, notes):
@@ -323,6 +347,7 @@ def main():
         for page in PAGES:
             text = text_of(page)
             check_blocks(page, text, room)
+            check_commands(page, text, code, room)
             check_names(page, text, code, notes)
             check_words(page, text)
     for it in faults:

@@ -8,8 +8,6 @@ mod layout;
 mod replies;
 mod run;
 mod status;
-#[cfg(test)]
-mod tests;
 
 pub use expected::Expected;
 pub use layout::{Clock, Layout, Rate};

@@ -18,8 +18,6 @@ mod script_lines;
 mod serial_line;
 mod signal_line;
 mod status;
-#[cfg(test)]
-mod tests;
 
 pub use expected::Expected;
 pub use grammar::{Grammar, ScriptWords};

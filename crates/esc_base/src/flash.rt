@@ -72,7 +72,7 @@ pub trait FlashDev {
 }
 
 /// A call of a flash, by its kind.
-#[derive(Clone, Copy, Debug, PartialEq, Eq, Drop)]
+#[derive(Clone, Copy, Debug, Drop)]
 pub enum FlashOp {
     Attach,
     Read,

@@ -26,8 +26,10 @@ use Rattle.esc_laws.specs.Saves.{forward_at}
 use Rattle.esc_laws.specs.Crossed.{expects_at}
 use Rattle.esc_laws.specs.Searched.{sight_at, calls_cmp}
 use Rattle.esc_laws.proofs.Comparator.{held_before}
-use Rattle.esc_laws.specs.Place.{Signal, Listens, Rests, place}
+use Rattle.esc_laws.specs.Place.{Signal, Listens, Rests, Place, place}
 use Rattle.esc_laws.specs.Rested.{first_rested}
+use Rattle.interrupt_machine.specs.Open.{kind_of}
+use Rattle.esc_laws.specs.Asked.{IsCapAsked, IsAsked, AskRule}
 use Rattle.esc_laws.specs.Windowed.{Answers, AnswersAt, OpensAt, WindowRule}
 use Rattle.esc_laws.specs.Seen.{calls_cap, sees}
 use Rattle.esc_laws.proofs.Rests.{first_stays, first_before}
@@ -173,3 +175,19 @@ sees_before loaded trace e notes t kind.Cap lt = cap_before trace e (place notes
 sees_before loaded trace e notes t kind.Cmp lt =
     ap (λ (h : Held). calls_cmp h (expects_at (forward_at loaded.settings) (reverse notes)) (sight_at (reverse notes)) t) (held_before trace e t lt)
 sees_before loaded trace e notes t k lt = refl
+
+-- nor of what an activation was entered for
+cap_asked_grows : (trace : List Event) (e : Event) (s : Signal) (t : ℕ) → t < tick_of e → IsCapAsked trace s t → IsCapAsked (trace ++ e ∷ []) s t
+cap_asked_grows trace e (Listens w m) t lt a = cap_before trace e (Listens w m) t lt ∙ a
+cap_asked_grows trace e (Rests from latest r) t lt a = (let g = first_grows trace e from (omega arith) in omega arith)
+cap_asked_grows trace e s t lt a = a
+
+asked_grows : (loaded : Loaded) (trace : List Event) (e : Event) (p : Place) (back : List Note) (t : ℕ) (k : Kind) → t < tick_of e
+    → IsAsked loaded trace p back t k → IsAsked loaded (trace ++ e ∷ []) p back t k
+asked_grows loaded trace e p back t kind.Cap lt a = cap_asked_grows trace e p.signal t lt a
+asked_grows loaded trace e p back t k lt a = a
+
+pub ask_grows : (loaded : Loaded) (trace : List Event) (e : Event) (before : List Note) (n : Note) → time_of n < tick_of e
+    → AskRule loaded trace (place before) (reverse before) n → AskRule loaded (trace ++ e ∷ []) (place before) (reverse before) n
+ask_grows loaded trace e before (note.Enter t k) lt r = asked_grows loaded trace e (place before) (reverse before) t.0 (kind_of k) lt r
+ask_grows loaded trace e before n lt r = r

@@ -17,7 +17,7 @@ use Rattle.esc_laws.specs.Said.{NoteFits}
 use Rattle.esc_laws.specs.Steps.{opening}
 use Rattle.esc_laws.proofs.Pushes.{place-push}
 use Rattle.esc_laws.proofs.Opening.{place-opening}
-use Rattle.esc_laws.proofs.Growth.{window_grows}
+use Rattle.esc_laws.proofs.Growth.{window_grows, ask_grows}
 use Rattle.esc_laws.proofs.ReplyGrowth.{Settled, settled_next, reply_grows}
 use Rattle.esc_laws.proofs.CrossGrowth.{EntersBelow, sight_below, cross_rule_grows, search_rule_grows}
 
@@ -41,6 +41,7 @@ rule_grows law.Windows loaded nest trace e before n lt s r = window_grows loaded
 rule_grows law.Replies loaded nest trace e before n lt s r = reply_grows trace e before n s.signal r
 rule_grows law.Crosses loaded nest trace e before n lt s r = cross_rule_grows trace e (forward_at loaded.settings) (reverse before) n lt r
 rule_grows law.Searches loaded nest trace e before n lt s r = search_rule_grows trace e (forward_at loaded.settings) (reverse before) n lt s.sight r
+rule_grows law.Asks loaded nest trace e before n lt s r = ask_grows loaded trace e before n lt r
 rule_grows l loaded nest trace e before n lt s r = r
 
 keeps_from : (loaded : Loaded) (nest : Nest) (trace : List Event) (e : Event) (before notes : List Note) → All (λ n. time_of n < tick_of e) notes

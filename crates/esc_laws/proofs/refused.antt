@@ -7,3 +7,4 @@ pub mod Crossings
 pub mod Replies
 pub mod Chops
 pub mod Flash
+pub mod Asked

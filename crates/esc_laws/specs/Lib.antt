@@ -16,6 +16,7 @@ pub mod Nested
 pub mod Seen
 pub mod Steps
 pub mod Chopped
+pub mod Asked
 pub mod NoteLaw
 pub mod Said
 pub mod Legal

@@ -11,7 +11,7 @@ use Rattle.interrupt_machine.specs.declared.nest.Nest.{Nest}
 use Rattle.interrupt_machine.specs.declared.nest.Nest.TheVariants.{One, Full}
 use Rattle.interrupt_machine.specs.Open.{kind_of, innermost}
 use Rattle.esc_laws.specs.Place.{Place, place}
-use Rattle.esc_laws.specs.Calls.{calls_pwm, HasTurned, HasCaughtUp}
+use Rattle.esc_laws.specs.Calls.{HasTurned, HasCaughtUp}
 
 -- an entered kind has a higher number than each open one; with nest 1 none above MAIN is open
 abbrev pub IsAboveAll : Nest → List Kind → ℕ → Type 0
@@ -27,12 +27,6 @@ IsIn k p = innermost p.stack ≡ Some k
 abbrev pub IsBuilt : Kind → Type 0
 IsBuilt kind.Uart = ⊥
 IsBuilt k = Unit {0}
-
--- PWM is entered at t only where it is called: between two neighbouring I of it a K with a demand stands, or an edge of the
--- newest K's demand
-abbrev pub IsAsked : Kind → List Note → ℕ → Type 0
-IsAsked kind.Pwm back t = calls_pwm back t ≡ true
-IsAsked k back t = Unit {0}
 
 -- a TICK that returns has one K; a CAP that returns has one F, or one W without an F; a MAIN that returns has one P; a COMM
 -- that returns has one Q, or has turned a postponed low switch on. What a CMP owes, `Searched` says, which knows the comparator.
@@ -58,7 +52,7 @@ SwitchesIn (Some k) = Switches k
 
 -- the rule of a note at a place, after these notes with the newest first; for this advance of the settings
 abbrev pub NestRuleAt : ℕ → Nest → Place → List Note → Note → Type 0
-NestRuleAt advance nest p back (note.Enter t k) = IsBuilt (kind_of k) × IsAboveAll nest p.stack k × IsAsked (kind_of k) back t.0
+NestRuleAt advance nest p back (note.Enter t k) = IsBuilt (kind_of k) × IsAboveAll nest p.stack k
 NestRuleAt advance nest p back (note.Leave t k) = IsIn (kind_of k) p × HasDone advance (kind_of k) p back
 NestRuleAt advance nest p back (note.Gate t hi lo) = SwitchesIn (innermost p.stack)
 NestRuleAt advance nest p back (note.Step t s) = IsIn kind.Comm p

@@ -17,6 +17,7 @@ use Rattle.esc_laws.specs.Crossed.{CrossRule}
 use Rattle.esc_laws.specs.Searched.{SearchRule}
 use Rattle.esc_laws.specs.Saves.{advance_of, forward_at}
 use Rattle.esc_laws.specs.Nested.{NestRuleAt}
+use Rattle.esc_laws.specs.Asked.{AskRule}
 use Rattle.esc_laws.specs.Steps.{opening}
 
 pub data NoteLaw : Type 0 where
@@ -35,6 +36,8 @@ pub data NoteLaw : Type 0 where
   Searches : NoteLaw
   -- which activation a note belongs to, and how they nest
   Nests : NoteLaw
+  -- what an activation is entered for
+  Asks : NoteLaw
 
 -- what each law asks of a note at a place, after these notes with the newest first
 abbrev pub rule : NoteLaw → Loaded → Nest → List Event → Place → List Note → Note → Type 0
@@ -46,6 +49,7 @@ rule Turns loaded nest trace p back n = TurnRule (advance_of loaded.settings) (f
 rule Crosses loaded nest trace p back n = CrossRule trace (forward_at loaded.settings) back n
 rule Searches loaded nest trace p back n = SearchRule trace (forward_at loaded.settings) back n
 rule Nests loaded nest trace p back n = NestRuleAt (advance_of loaded.settings) nest p back n
+rule Asks loaded nest trace p back n = AskRule loaded trace p back n
 
 -- a note keeps all of them
 abbrev pub IsLawful : Loaded → Nest → List Event → Place → List Note → Note → Type 0

@@ -4,6 +4,7 @@ ghost use Rattle.esc_laws.specs.allowed.Calls.{CallsBegin};
 ghost use Rattle.esc_laws.specs.allowed.Flash.{SomeFlashesFit};
 ghost use Rattle.esc_laws.specs.allowed.Windows.{SomeWindowsOpen};
 ghost use Rattle.esc_laws.specs.refused.Flash.{FlashRefuses};
+ghost use Rattle.esc_laws.specs.refused.Asked.{EntriesRefuse};
 ghost use Rattle.esc_laws.specs.refused.Control.{ControlRefuses};
 ghost use Rattle.esc_laws.specs.refused.Drive.{DriveRefuses, GatesRefuse, TurnsRefuse};
 ghost use Rattle.esc_laws.specs.refused.Nesting.{NestingRefuses};
@@ -116,4 +117,9 @@ pub fn some_flashes_fit()
 /// The rules of windows allow a window at the first tick at which one may open.
 pub fn some_windows_open()
     ensures { SomeWindowsOpen }
+{}
+
+/// The law of entries refuses each of these: no handler above MAIN is entered that isn't called.
+pub fn entries_refuse()
+    ensures { EntriesRefuse }
 {}

@@ -4,3 +4,4 @@ pub mod JudgedTies
 pub mod Judgements
 pub mod Steps
 pub mod Room
+pub mod Asked

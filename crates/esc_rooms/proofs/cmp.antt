@@ -7,3 +7,4 @@ pub mod Preserves
 pub mod Looks
 pub mod Steps
 pub mod Room
+pub mod Asked

@@ -4,3 +4,4 @@ pub mod Turns
 pub mod Switches
 pub mod Steps
 pub mod Room
+pub mod Asked

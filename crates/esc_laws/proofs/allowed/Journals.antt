@@ -1,5 +1,5 @@
 -- The small legal journals: the first by what a run that has made no step carries, the others step by step.
-use Rattle.std.proofs.Common.{◌≡◌, ◌<◌, ◌≤◌, ◌+◌, ◌*◌, ◌/◌, inl, ℕ, true, false, nat_lt, nat_le, List, [], ◌∷◌, ◌++◌, refl, sym, ◌∙◌, subst, arith, lit<, All}
+use Rattle.std.proofs.Common.{◌≡◌, ◌<◌, ◌≤◌, ◌+◌, ◌*◌, ◌/◌, inl, ℕ, true, false, nat_lt, nat_le, List, [], ◌∷◌, ◌++◌, reverse, refl, sym, ◌∙◌, subst, arith, lit<, All}
 use Rattle.std.proofs.lemmas.Bool.{le-ltb}
 use Rattle.std.proofs.lemmas.Bool.Decides.{nat_tests}
 use Rattle.std.proofs.lemmas.List.Elements.{All-nil, All-cons, All-push}
@@ -27,6 +27,7 @@ use Rattle.esc_laws.specs.Seen.{sees}
 use Rattle.esc_laws.specs.Windowed.{verdict_note, Answers, WindowRule}
 use Rattle.esc_laws.specs.Replied.{HasReplied}
 use Rattle.esc_laws.specs.Saves.{advance_of}
+use Rattle.esc_laws.specs.Asked.{AskRule}
 use Rattle.esc_laws.specs.Nested.{IsAboveAll, NestRule}
 use Rattle.esc_laws.specs.Steps.{Turned, opening, load_number, journal, open_in, free, after, uses, own_steps, steps_since, entered_at, called, is_entry, is_gate, StepFits, OpenFew}
 use Rattle.esc_laws.specs.Legal.{Legal}
@@ -338,7 +339,7 @@ answers loaded = record {
 rules_1 : (loaded : Loaded) (nest : Nest)
     → WindowRule loaded two_edges (opening loaded ++ ([])) (enters 2400 2) × NestRule (advance_of loaded.settings) nest (opening loaded ++ ([])) (enters 2400 2)
 unfolding place
-rules_1 loaded nest = (tt, (tt, above_none nest 2, tt))
+rules_1 loaded nest = (tt, (tt, above_none nest 2))
 
 rules_2 : (loaded : Loaded) (nest : Nest)
     → WindowRule loaded two_edges (opening loaded ++ (enters 2400 2 ∷ [])) (ticks 2402 1 0 0)
@@ -356,7 +357,7 @@ rules_4 : (loaded : Loaded) (nest : Nest)
     → WindowRule loaded two_edges (opening loaded ++ (enters 2400 2 ∷ ticks 2402 1 0 0 ∷ leaves 2402 2 ∷ [])) (enters 4200 3)
     × NestRule (advance_of loaded.settings) nest (opening loaded ++ (enters 2400 2 ∷ ticks 2402 1 0 0 ∷ leaves 2402 2 ∷ [])) (enters 4200 3)
 unfolding place
-rules_4 loaded nest = (tt, (tt, above_none nest 3, tt))
+rules_4 loaded nest = (tt, (tt, above_none nest 3))
 
 rules_5 : (loaded : Loaded) (nest : Nest)
     → WindowRule loaded two_edges (opening loaded ++ (enters 2400 2 ∷ ticks 2402 1 0 0 ∷ leaves 2402 2 ∷ enters 4200 3 ∷ [])) (nothing 4202)
@@ -371,6 +372,12 @@ rules_6 : (loaded : Loaded) (nest : Nest)
 unfolding place
 rules_6 loaded nest = (λ e. refl, (refl, inl refl))
 
+asks_cap : (loaded : Loaded)
+    → AskRule loaded two_edges (place (opening loaded ++ (enters 2400 2 ∷ ticks 2402 1 0 0 ∷ leaves 2402 2 ∷ [])))
+    (reverse (opening loaded ++ (enters 2400 2 ∷ ticks 2402 1 0 0 ∷ leaves 2402 2 ∷ []))) (enters 4200 3)
+unfolding place line burst
+asks_cap loaded = refl
+
 none_owed : (loaded : Loaded)
     → HasReplied (place (opening loaded ++ (enters 2400 2 ∷ ticks 2402 1 0 0 ∷ leaves 2402 2 ∷ enters 4200 3 ∷ nothing 4202 ∷ []))).signal
 unfolding place
@@ -378,7 +385,7 @@ none_owed loaded = tt
 
 one_said : (loaded : Loaded) (nest : Nest) → Said loaded nest two_edges 2400 (enters 2400 2 ∷ [])
 one_said loaded nest =
-    said_push loaded nest two_edges 2400 [] (enters 2400 2) (start_said loaded nest two_edges 2400) refl (record { laws = elim [ owed.Windows ↦ (rules_1 loaded nest).0 | owed.Searches ↦ λ e. cc | owed.Nests ↦ (rules_1 loaded nest).1 | l ↦ tt ]; waits = tt })
+    said_push loaded nest two_edges 2400 [] (enters 2400 2) (start_said loaded nest two_edges 2400) refl (record { laws = elim [ owed.Windows ↦ (rules_1 loaded nest).0 | owed.Searches ↦ λ e. cc | owed.Nests ↦ (rules_1 loaded nest).1 | owed.Asks ↦ lit< tt | l ↦ tt ]; waits = tt })
 
 all_said : (loaded : Loaded) (nest : Nest) → Said loaded nest two_edges 4202 tick_and_verdict
 all_said loaded nest =
@@ -387,7 +394,7 @@ all_said loaded nest =
     let s3 = said_push loaded nest two_edges 2402 (enters 2400 2 ∷ ticks 2402 1 0 0 ∷ []) (leaves 2402 2) s2 refl
     (record { laws = elim [ owed.Windows ↦ (rules_3 loaded nest).0 | owed.Replies ↦ λ e. cc | owed.Drives ↦ λ e d. (refl, refl) | owed.Searches ↦ λ e. cc | owed.Nests ↦ (rules_3 loaded nest).1 | l ↦ tt ]; waits = tt }) in
     let s4 = said_push loaded nest two_edges 4200 (enters 2400 2 ∷ ticks 2402 1 0 0 ∷ leaves 2402 2 ∷ []) (enters 4200 3)
-    (said_at loaded nest 2402 4200 (enters 2400 2 ∷ ticks 2402 1 0 0 ∷ leaves 2402 2 ∷ []) (omega arith) s3) refl (record { laws = elim [ owed.Windows ↦ (rules_4 loaded nest).0 | owed.Searches ↦ λ e. cc | owed.Nests ↦ (rules_4 loaded nest).1 | l ↦ tt ]; waits = tt }) in
+    (said_at loaded nest 2402 4200 (enters 2400 2 ∷ ticks 2402 1 0 0 ∷ leaves 2402 2 ∷ []) (omega arith) s3) refl (record { laws = elim [ owed.Windows ↦ (rules_4 loaded nest).0 | owed.Searches ↦ λ e. cc | owed.Nests ↦ (rules_4 loaded nest).1 | owed.Asks ↦ asks_cap loaded | l ↦ tt ]; waits = tt }) in
     let s5 = said_push loaded nest two_edges 4202 (enters 2400 2 ∷ ticks 2402 1 0 0 ∷ leaves 2402 2 ∷ enters 4200 3 ∷ []) (nothing 4202)
     (said_at loaded nest 4200 4202 (enters 2400 2 ∷ ticks 2402 1 0 0 ∷ leaves 2402 2 ∷ enters 4200 3 ∷ []) (omega arith) s4) refl
     (record { laws = elim [ owed.Windows ↦ (rules_5 loaded nest).0 | owed.Nests ↦ (rules_5 loaded nest).1 | l ↦ tt ]; waits = tt }) in

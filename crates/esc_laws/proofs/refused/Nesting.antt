@@ -127,7 +127,4 @@ nesting_refuses = record {
       (reverse (opening loaded ++ started (enters 2410 6 ∷ turns 2420 1 ∷ switches 2422 0 2 ∷ leaves 2430 6 ∷ enters 2440 6 ∷ []))) (λ e. absurd (omega arith))
       (λ e. inr (inl refl))
       (nest_fits nest loaded (started (enters 2410 6 ∷ turns 2420 1 ∷ switches 2422 0 2 ∷ leaves 2430 6 ∷ enters 2440 6 ∷ [])) after (leaves 2444 6) h).1;
-  pwm_without_a_demand = λ nest loaded after h. (let e : false ≡ true = (nest_fits nest loaded [] after (enters 4000 5) h).2 in absurd (cc));
-  pwm_for_no_edge = λ nest loaded after h. (let e : false ≡ true = (nest_fits nest loaded (started (enters 4000 5 ∷ leaves 4012 5 ∷ [])) after
-      (enters 4019 5) h).2 in absurd (cc));
 }

@@ -70,6 +70,3 @@ pub record NestingRefuses : Type 0 where
       → Unnested nest (late_low (enters 2470 6 ∷ switches 2475 0 2 ∷ leaves 2480 6 ∷ enters 2490 6 ∷ leaves 2494 6 ∷ []))
   pub low_switch_that_was_on : (nest : Nest)
       → Unnested nest (started (enters 2410 6 ∷ turns 2420 1 ∷ switches 2422 0 2 ∷ leaves 2430 6 ∷ enters 2440 6 ∷ leaves 2444 6 ∷ []))
-  -- PWM is entered for a K with a demand, or for the start of a period or the end of the demand in one since its last entry
-  pub pwm_without_a_demand : (nest : Nest) → Unnested nest (enters 4000 5 ∷ [])
-  pub pwm_for_no_edge : (nest : Nest) → Unnested nest (started (enters 4000 5 ∷ leaves 4012 5 ∷ enters 4019 5 ∷ []))

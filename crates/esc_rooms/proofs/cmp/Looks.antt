@@ -1,6 +1,7 @@
 -- CMP's steps that look at the comparator.
 use Rattle.std.proofs.Common.{◌≡◌, ◌≤◌, ◌<◌, ◌+◌, ◌-◌, inl, inr, ℕ, Bool, true, false, not, ◌&&◌, ◌||◌, nat_le, List, ◌∷◌, refl, sym, ◌∙◌, ap, subst, arith}
 use Rattle.std.proofs.lemmas.Bool.{cases_lt, le-leb, leb-true, not-true}
+use Rattle.esc_base.specs.Times.{filter_time, rejected_blanking}
 use Rattle.esc_base.specs.declared.kind.Kind.{Kind}
 use Rattle.esc_base.specs.declared.kind.Kind.TheVariants as kind
 use Rattle.esc_base.specs.declared.event.Event.{Event}
@@ -70,7 +71,8 @@ look_watch_preserves w outer e i = cmp_wait_preserves w outer cmp.Look cmp.Ack p
 look_blanked_preserves : (end : Tick) (w : World) (outer : List Kind) → w.core.drive.crossing.phase ≡ phase.Blank end → nat_le end.0 w.bank.time ≡ true
     → IsCmp w outer cmp.Look → StepKeeps kind.Cmp outer w (blank_step true w.core w.bank)
 look_blanked_preserves end w outer e over i =
-    cmp_step_preserves w outer cmp.Look cmp.Read (phase.Blank end) w.core.drive.crossing w.core.hold (w.bank.comp_changed && false) (w.bank.comp_enabled || true)
+    cmp_step_preserves w outer cmp.Look cmp.Read (phase.Blank end) w.core.drive.crossing w.core.hold (w.bank.comp_changed && false)
+    (w.bank.comp_enabled || true)
     w.bank.crossing (Writes reg.CmpEn 1) i refl refl refl refl e refl
     (looked_blanked (cross_seen w) end.0 over (free_of w outer cmp.Look i) (stands_at w outer cmp.Look (phase.Blank end) i e))
 
@@ -79,7 +81,7 @@ judge_rejected_preserves : (end : Tick) (w : World) (outer : List Kind) → w.co
     → is_clean w.core.drive.crossing w.bank.comp w.bank.comp_changed ≡ false → IsCmp w outer cmp.Look
     → StepKeeps kind.Cmp outer w (judged_step false w.core w.bank)
 judge_rejected_preserves end w outer e over ill i =
-    let anew : Phase = phase.Blank (as_tick (w.bank.time + 400)) in
+    let anew : Phase = phase.Blank (as_tick (w.bank.time + rejected_blanking)) in
     cmp_step_preserves w outer cmp.Look cmp.Arm anew (record w.core.drive.crossing { phase = anew }) w.core.hold w.bank.comp_changed w.bank.comp_enabled
     w.bank.crossing (Reads reg.CmpState) i refl refl refl refl refl refl
     (looked_reject (cross_seen w) end.0 over ill (free_of w outer cmp.Look i) (i.ties kind.Cmp) (stands_at w outer cmp.Look (phase.Filter end) i e))
@@ -116,15 +118,15 @@ is_crossing w outer end i e over well =
     subst (λ (x : Bool). differ x (cross_seen w).expects ≡ false) u.level_is
     (subst (λ (x : Bool). differ w.bank.comp x ≡ false) u.expects_is (not-true (differ w.bank.comp w.core.drive.crossing.expects) two.0)) in
     record {
-      steady = steady_of w.trace (cross_seen w).expects (w.bank.time - 24) w.bank.time (omega arith) i.ground.outside.in_time
-          (bit_steady h (cross_seen w).expects w.bank.comp_changed f.begun (w.bank.time - 24) f.bit (let a = f.end_is in omega arith) two.1 level);
+      steady = steady_of w.trace (cross_seen w).expects (w.bank.time - filter_time) w.bank.time (omega arith) i.ground.outside.in_time
+          (bit_steady h (cross_seen w).expects w.bank.comp_changed f.begun (w.bank.time - filter_time) f.bit (let a = f.end_is in omega arith) two.1 level);
       blanked_before = (let a = f.end_is in let b = f.after in omega arith);
     }
 
 -- where COMM wasn't late, the low switch is on
 low_up : (v : DriveView) → HasQ v.turn → v.drive.postponed ≡ false → TimerKept v → (low_on v ≡ true) × (v.drive.postponed ≡ false)
 low_up v q prompt (inl (e, inl on)) = on
-low_up v q prompt (inl (e, inr late)) = absurd (let z : false ≡ true = sym prompt ∙ late in cc)
+low_up v q prompt (inl (e, inr late)) = absurd (let z : false ≡ true = sym prompt ∙ late.0 in cc)
 low_up v q prompt (inr (at, e, l, c)) = absurd (subst (λ (x : Turn). HasQ x) c.started q)
 
 crossed_change : (turn : Turn) (wait z at time : ℕ) → HasQ turn → at ≡ z + wait → ChangeTied wait (crossed_by turn z) at time
@@ -157,8 +159,19 @@ crossed_drive v wait shut q on prompt same t =
     record {
       switches = t.switches;
       newest = t.newest;
-      next = record { idle = λ z. absurd (let l = q_drives v.turn v.demand q t.next.idle in omega arith); due = λ l. crossed_change v.turn wait v.time _ v.time q (ap (λ (x : ℕ). v.time + x) same); first = λ z l. absurd (omega arith) };
-      row = record { turned = λ l. unforced_now v.turn v.time q; forced = refl; unforced = λ x. refl; rest_unmarked = t.row.rest_unmarked; stuck = λ l. told_mark v.told_stuck v.stuck (is_stuck v.drive) (t.row.stuck l) (t.row.marked l (rw shut refl)); marked = λ l m x. cc };
+      next = record {
+        idle = λ z. absurd (let l = q_drives v.turn v.demand q t.next.idle in omega arith);
+        due = λ l. crossed_change v.turn wait v.time _ v.time q (ap (λ (x : ℕ). v.time + x) same);
+        first = λ z l. absurd (omega arith);
+      };
+      row = record {
+        turned = λ l. unforced_now v.turn v.time q;
+        forced = refl;
+        unforced = λ x. refl;
+        rest_unmarked = t.row.rest_unmarked;
+        stuck = λ l. told_mark v.told_stuck v.stuck (is_stuck v.drive) (t.row.stuck l) (t.row.marked l (rw shut refl));
+        marked = λ l m x. cc;
+      };
       place = subst (λ (x : CommAt). CommTied x (crossed_drive_view v (crossed v.drive v.time) wait)) (sym shut) tt;
       low = λ e l x. cc;
       crossed = λ e. (on, prompt);

@@ -1,6 +1,7 @@
 -- What the drive's tie becomes at a step of COMM.
 use Rattle.std.proofs.Common.{◌≡◌, ◌≤◌, ◌<◌, ◌+◌, ◌⊎◌, inl, inr, ℕ, Bool, true, false, ◌||◌, nat_lt, if◌then◌else◌, List, ◌∷◌, Option, Some, None, refl, sym, ◌∙◌, ap, subst, arith}
 use Rattle.std.proofs.lemmas.Bool.Decides.{nat_tests}
+use Rattle.esc_base.specs.Times.{dead_time}
 use Rattle.esc_base.specs.declared.gate.Leg.{Leg}
 use Rattle.esc_base.specs.declared.kind.Kind.{Kind}
 use Rattle.esc_base.specs.declared.kind.Kind.TheVariants as kind
@@ -85,7 +86,14 @@ comm_moves v since d place timer stuck postponed hi lo none t m = record {
   switches = m.words;
   newest = record { since = λ s. (let a = m.before s in let b = m.since_is in omega arith); to_is = m.to_is; at_low = m.at_low };
   next = rw m.change_is t.next;
-  row = record { turned = rw m.turned_is t.row.turned; forced = rw m.forced_is t.row.forced; unforced = t.row.unforced; rest_unmarked = t.row.rest_unmarked; stuck = m.stuck_is; marked = m.marked };
+  row = record {
+    turned = rw m.turned_is t.row.turned;
+    forced = rw m.forced_is t.row.forced;
+    unforced = t.row.unforced;
+    rest_unmarked = t.row.rest_unmarked;
+    stuck = m.stuck_is;
+    marked = m.marked;
+  };
   place = m.place_is;
   low = λ e l c. m.low e l;
   crossed = λ e. absurd (let z : false ≡ true = sym none ∙ e in cc);
@@ -143,7 +151,7 @@ comm_gates w outer place at s i off_times dead pair = record {
 -- ---- waiting
 
 wait_at : (v : Bool) (other free : ℕ) (x : Leg) (t until : ℕ) → is_on other x ≡ false → nat_lt t free ≡ v
-    → (if false then Some (t + 48) else if v then Some free else None) ≡ Some until → t < free
+    → (if false then Some (t + dead_time) else if v then Some free else None) ≡ Some until → t < free
 wait_at true other free x t until off e f = grind (arith, nat_tests)
 wait_at false other free x t until off e f = absurd (let z : None ≡ Some until = f in cc)
 

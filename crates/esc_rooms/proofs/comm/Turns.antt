@@ -2,6 +2,7 @@
 use Rattle.std.proofs.Common.{◌≡◌, ◌≤◌, ◌<◌, ◌+◌, ◌-◌, inl, inr, ℕ, zero, suc, min, Bool, true, false, ◌&&◌, ◌||◌, ◌==◌, nat_le, bit_and, if◌then◌else◌, List, ◌∷◌, take, refl, sym, ◌∙◌, ap, subst, arith}
 use Rattle.std.proofs.lemmas.Bool.{cases_lt, leb-true, leb-false, le-leb}
 use Rattle.std.proofs.lemmas.Bool.Decides.{nat_tests}
+use Rattle.esc_base.specs.Times.{forced_limit, stuck_changes, dead_time}
 use Rattle.esc_base.specs.declared.kind.Kind.{Kind}
 use Rattle.esc_base.specs.declared.kind.Kind.TheVariants as kind
 use Rattle.esc_base.specs.declared.note.Note.{Note}
@@ -77,14 +78,15 @@ direction_is w g =
     ap (λ (s : Settings). s.direction == w.core.orders.spin) g.orders.settings_are
     ∙ ap (λ (n : ℕ). (settings_at w.loaded.settings w.back).direction == n) g.orders.spin_is
 
-begins_turn : (w : World) (outer : List Kind) → w.core.drive.change ≤ w.bank.time → IsComm w outer comm.Decide w.core.drive.turn.at
+decide_turn_preserves : (w : World) (outer : List Kind) → w.core.drive.change ≤ w.bank.time → IsComm w outer comm.Decide w.core.drive.turn.at
     → StepKeeps kind.Comm outer w (begins w.core w.bank)
-begins_turn w outer due i =
+decide_turn_preserves w outer due i =
     let t = i.ties kind.Comm in
     let to : ℕ = next_sector w.bank.sector (is_forward w.core.orders) in
     let d : Drive = record w.core.drive { turn = change_to to; postponed = false } in
     let tied : Decides (drive_seen w) = place_tie w outer comm.Decide w.core.drive.turn.at i in
-    comm_step_preserves w outer comm.Decide comm.Turn w.core.drive.turn.at d.gates d.turn d.postponed w.bank.comm w.bank.stuck w.bank.hi w.bank.lo _ i refl (λ f. cc) (omega arith) refl refl (record {
+    comm_step_preserves w outer comm.Decide comm.Turn w.core.drive.turn.at d.gates d.turn d.postponed w.bank.comm w.bank.stuck w.bank.hi w.bank.lo _ i refl
+    (λ f. cc) (omega arith) refl refl (record {
       gates = quiet_gates kind.Comm w _ (λ e. cc) refl refl refl;
       words = same_words (drive_seen w) d refl t;
       to_is = λ e. cc;
@@ -102,16 +104,17 @@ begins_turn w outer due i =
     })
 
 -- where no change is due, the low switch is postponed
-resumes : (late : Bool) (w : World) (outer : List Kind) → w.core.drive.postponed ≡ late → w.bank.time < w.core.drive.change
+decide_low_preserves : (late : Bool) (w : World) (outer : List Kind) → w.core.drive.postponed ≡ late → w.bank.time < w.core.drive.change
     → IsComm w outer comm.Decide w.core.drive.turn.at
     → StepKeeps kind.Comm outer w (goes_on (record w.core { comm_at = waits_for late }) NoAccess)
-resumes false w outer e early i =
+decide_low_preserves false w outer e early i =
     let tied : Decides (drive_seen w) = place_tie w outer comm.Decide w.core.drive.turn.at i in
     absurd (elim tied.due [ inl l ↦ (let x = l in omega arith) | inr p ↦ (let z : true ≡ false = sym p.0 ∙ e in cc) ])
-resumes true w outer e early i =
+decide_low_preserves true w outer e early i =
     let t = i.ties kind.Comm in
     let tied : Decides (drive_seen w) = place_tie w outer comm.Decide w.core.drive.turn.at i in
-    comm_step_preserves w outer comm.Decide comm.Low w.core.drive.turn.at w.core.drive.gates w.core.drive.turn w.core.drive.postponed w.bank.comm w.bank.stuck w.bank.hi w.bank.lo _ i refl (λ f. cc) (omega arith) refl refl (record {
+    comm_step_preserves w outer comm.Decide comm.Low w.core.drive.turn.at w.core.drive.gates w.core.drive.turn w.core.drive.postponed w.bank.comm w.bank.stuck
+    w.bank.hi w.bank.lo _ i refl (λ f. cc) (omega arith) refl refl (record {
       gates = quiet_gates kind.Comm w _ (λ e. cc) refl refl refl;
       words = same_words (drive_seen w) w.core.drive refl t;
       to_is = λ f. same_to w outer comm.Decide w.core.drive.turn.at i refl;
@@ -133,10 +136,11 @@ resumes true w outer e early i =
     some zero z = absurd (let first = (i.ties kind.Comm).next.first z i.drives in omega arith)
     some (suc n) z = omega arith
 
-pub comm_decide_preserves : (v : Bool) (w : World) (outer : List Kind) → nat_le w.core.drive.change w.bank.time ≡ v → IsComm w outer comm.Decide w.core.drive.turn.at
+pub comm_decide_preserves : (v : Bool) (w : World) (outer : List Kind) → nat_le w.core.drive.change w.bank.time ≡ v
+    → IsComm w outer comm.Decide w.core.drive.turn.at
     → StepKeeps kind.Comm outer w (decided v w.core w.bank)
-comm_decide_preserves true w outer e i = begins_turn w outer (leb-true w.core.drive.change w.bank.time e) i
-comm_decide_preserves false w outer e i = resumes w.core.drive.postponed w outer refl (leb-false w.core.drive.change w.bank.time e) i
+comm_decide_preserves true w outer e i = decide_turn_preserves w outer (leb-true w.core.drive.change w.bank.time e) i
+comm_decide_preserves false w outer e i = decide_low_preserves w.core.drive.postponed w outer refl (leb-false w.core.drive.change w.bank.time e) i
 
 -- ---- the change of sector
 
@@ -155,9 +159,11 @@ clear_high_preserves w outer i =
     let d : Drive = record w.core.drive { gates = gates_after g w.bank after; turn = record { to = to; at = change.ClearLow } } in
     let tied : Turns (drive_seen w) = turn_tie w outer change.ClearHigh i in
     let pair : InPair w.bank.sector hi w.bank.lo = record { high = λ x on. t.switches.pair.high x (on_and w.bank.hi mask x on); low = t.switches.pair.low } in
-    comm_step_preserves w outer comm.Turn comm.Turn change.ClearHigh d.gates d.turn d.postponed w.bank.comm w.bank.stuck hi w.bank.lo _ i refl (λ f. cc) (omega arith) refl refl (record {
+    comm_step_preserves w outer comm.Turn comm.Turn change.ClearHigh d.gates d.turn d.postponed w.bank.comm w.bank.stuck hi w.bank.lo _ i refl (λ f. cc)
+    (omega arith) refl refl (record {
       gates = comm_gates w outer comm.Turn change.ClearHigh _ i refl
-          (high_off_keeps (gates_after g w.bank after) w.bank after mask refl refl (pair_apart w.bank.sector w.bank.hi w.bank.lo t.switches.sectors t.switches.pair)) pair;
+          (high_off_keeps (gates_after g w.bank after) w.bank after mask refl refl
+          (pair_apart w.bank.sector w.bank.hi w.bank.lo t.switches.sectors t.switches.pair)) pair;
       words = high_words (drive_seen w) d hi refl pair t;
       to_is = λ e. cc;
       at_low = λ e. (let z : true ≡ false = sym e ∙ tied.prompt in cc);
@@ -179,9 +185,11 @@ clear_low_preserves w outer i =
     let d : Drive = record w.core.drive { gates = gates_after g w.bank after; turn = record { to = to; at = change.SetSector } } in
     let tied = turn_tie w outer change.ClearLow i in
     let pair : InPair w.bank.sector w.bank.hi lo = record { high = t.switches.pair.high; low = λ x on. t.switches.pair.low x (on_and w.bank.lo mask x on) } in
-    comm_step_preserves w outer comm.Turn comm.Turn change.ClearLow d.gates d.turn d.postponed w.bank.comm w.bank.stuck w.bank.hi lo _ i refl (λ f. cc) (omega arith) refl refl (record {
+    comm_step_preserves w outer comm.Turn comm.Turn change.ClearLow d.gates d.turn d.postponed w.bank.comm w.bank.stuck w.bank.hi lo _ i refl (λ f. cc)
+    (omega arith) refl refl (record {
       gates = comm_gates w outer comm.Turn change.ClearLow _ i refl
-          (low_off_keeps (gates_after g w.bank after) w.bank after mask refl refl (pair_apart w.bank.sector w.bank.hi w.bank.lo t.switches.sectors t.switches.pair)) pair;
+          (low_off_keeps (gates_after g w.bank after) w.bank after mask refl refl
+          (pair_apart w.bank.sector w.bank.hi w.bank.lo t.switches.sectors t.switches.pair)) pair;
       words = low_words (drive_seen w) d lo refl pair (λ x on. inl (on_and w.bank.lo mask x on)) t;
       to_is = λ e. cc;
       at_low = λ e. (let z : true ≡ false = sym e ∙ tied.0.prompt in cc);
@@ -201,12 +209,13 @@ may_turn : (turn : Turn) (advance interval change time : ℕ) → ChangeTied (wa
     → MayTurn advance interval turn time
 may_turn Idle advance interval change time c l = absurd c
 may_turn Started advance interval change time c l = tt
-may_turn (Turned q) advance interval change time c l = (let e : change ≡ q + 240000 = c in omega arith)
+may_turn (Turned q) advance interval change time c l = (let e : change ≡ q + forced_limit = c in omega arith)
 may_turn (Crossed q z) advance interval change time c l = (let e : change ≡ z + wait_of advance interval = c in omega arith)
 
-forced_next : (turn : Turn) (turned : Bool) (forced f wait change time : ℕ) → ChangeTied wait turn change time → turned ≡ is_forced turn → forced ≡ min 60 f
+forced_next : (turn : Turn) (turned : Bool) (forced f wait change time : ℕ) → ChangeTied wait turn change time → turned ≡ is_forced turn
+    → forced ≡ min stuck_changes f
     → (IsUnforced turn → f ≡ 0)
-    → (if turned then min 60 (forced + 1) else forced) ≡ min 60 (if is_forced turn then f + 1 else 0)
+    → (if turned then min stuck_changes (forced + 1) else forced) ≡ min stuck_changes (if is_forced turn then f + 1 else 0)
 forced_next Idle turned forced f wait change time c e g z = absurd c
 forced_next Started turned forced f wait change time c e g z = rw (e, g, z tt) refl
 forced_next (Turned q) turned forced f wait change time c e g z = rw (e, g) (omega arith)
@@ -223,29 +232,29 @@ no_more false true = refl
 no_more false false = refl
 
 stuck_next : (turn : Turn) (turned told stuck : Bool) (forced f wait change time : ℕ) → ChangeTied wait turn change time → turned ≡ is_forced turn
-    → forced ≡ min 60 f
-    → told ≡ (stuck || nat_le 60 forced) → (nat_le 60 forced ≡ true → stuck ≡ true)
-    → (told || (is_forced turn && nat_le 59 f)) ≡ (stuck || nat_le 60 (if turned then min 60 (forced + 1) else forced))
+    → forced ≡ min stuck_changes f
+    → told ≡ (stuck || nat_le stuck_changes forced) → (nat_le stuck_changes forced ≡ true → stuck ≡ true)
+    → (told || (is_forced turn && nat_le (stuck_changes - 1) f)) ≡ (stuck || nat_le stuck_changes (if turned then min stuck_changes (forced + 1) else forced))
 stuck_next Idle turned told stuck forced f wait change time c e g s m = absurd c
-stuck_next Started turned told stuck forced f wait change time c e g s m = rw (e, s) (no_more stuck (nat_le 60 forced))
+stuck_next Started turned told stuck forced f wait change time c e g s m = rw (e, s) (no_more stuck (nat_le stuck_changes forced))
 stuck_next (Turned q) turned told stuck forced f wait change time c e g s m =
-    rw (e, ← full f) (same_told told stuck (nat_le 60 forced) (nat_le 60 (min 60 (min 60 f + 1))) s m ∙ rw g refl)
+    rw (e, ← full f) (same_told told stuck (nat_le stuck_changes forced) (nat_le stuck_changes (min stuck_changes (min stuck_changes f + 1))) s m ∙ rw g refl)
   where
-    full : (f : ℕ) → nat_le 60 (min 60 (min 60 f + 1)) ≡ nat_le 59 f
-    full f = elim (cases_lt f 59) [
+    full : (f : ℕ) → nat_le stuck_changes (min stuck_changes (min stuck_changes f + 1)) ≡ nat_le (stuck_changes - 1) f
+    full f = elim (cases_lt f (stuck_changes - 1)) [
       | inl l ↦ rw (below f l, below_60 f l) refl
-      | inr g ↦ rw (le-leb 59 f g, le-leb 60 (min 60 (min 60 f + 1)) (omega arith)) refl
+      | inr g ↦ rw (le-leb (stuck_changes - 1) f g, le-leb stuck_changes (min stuck_changes (min stuck_changes f + 1)) (omega arith)) refl
     ]
       where
-        below : (f : ℕ) → f < 59 → nat_le 59 f ≡ false
+        below : (f : ℕ) → f < (stuck_changes - 1) → nat_le (stuck_changes - 1) f ≡ false
         below f l = grind (arith, nat_tests)
 
         not_le : (m n : ℕ) → n < m → nat_le m n ≡ false
         not_le m n l = grind (arith, nat_tests)
 
-        below_60 : (f : ℕ) → f < 59 → nat_le 60 (min 60 (min 60 f + 1)) ≡ false
-        below_60 f l = not_le 60 (min 60 (min 60 f + 1)) (omega arith)
-stuck_next (Crossed q x) turned told stuck forced f wait change time c e g s m = rw (e, s) (no_more stuck (nat_le 60 forced))
+        below_60 : (f : ℕ) → f < (stuck_changes - 1) → nat_le stuck_changes (min stuck_changes (min stuck_changes f + 1)) ≡ false
+        below_60 f l = not_le stuck_changes (min stuck_changes (min stuck_changes f + 1)) (omega arith)
+stuck_next (Crossed q x) turned told stuck forced f wait change time c e g s m = rw (e, s) (no_more stuck (nat_le stuck_changes forced))
 
 -- PWM has been interrupted where it has read nothing that it will use
 resumes_pwm : (at : PwmAt) (own sampled demand sector sector' : ℕ) → 8 < pwm_need at → PwmTied at own sampled demand sector
@@ -262,10 +271,10 @@ resumes_pwm (pwm.Run chop.Lower) own sampled demand sector sector' l t = absurd 
 
 -- at a Q the high switch of the new pair's low leg has been off for 8 ticks
 long_off : (w : World) (outer : List Kind) → IsComm w outer comm.Turn change.SetSector
-    → at_leg w.core.drive.gates.hi_free (low_of w.core.drive.turn.to) ≤ w.bank.time + 40
+    → at_leg w.core.drive.gates.hi_free (low_of w.core.drive.turn.to) ≤ w.bank.time + (dead_time - 8)
 long_off w outer i = by_sector w.bank.sector refl
   where
-    by_sector : (s : ℕ) → w.bank.sector ≡ s → at_leg w.core.drive.gates.hi_free (low_of w.core.drive.turn.to) ≤ w.bank.time + 40
+    by_sector : (s : ℕ) → w.bank.sector ≡ s → at_leg w.core.drive.gates.hi_free (low_of w.core.drive.turn.to) ≤ w.bank.time + (dead_time - 8)
     by_sector zero z = (let e = (i.ties kind.Comm).switches.unused z (low_of w.core.drive.turn.to) in omega arith)
     by_sector (suc n) z =
         let t = i.ties kind.Comm in
@@ -325,7 +334,16 @@ set_sector_preserves w outer i =
       );
       ground = ground_noted w n refl refl tt refl i.ground;
       tie = λ told. record {
-        switches = record { sector_is = refl; sectors = most; pair = pair; held = t.switches.held; soon = t.switches.soon; outer = λ s x ne. t.switches.soon x; unused = λ z x. absurd (omega arith); past = omega arith };
+        switches = record {
+          sector_is = refl;
+          sectors = most;
+          pair = pair;
+          held = t.switches.held;
+          soon = t.switches.soon;
+          outer = λ s x ne. t.switches.soon x;
+          unused = λ z x. absurd (omega arith);
+          past = omega arith;
+        };
         newest = record { since = λ s. omega arith; to_is = λ e s. refl; at_low = λ e. refl };
         next = record { idle = λ z. absurd (let l = i.drives in omega arith); due = λ l. refl; first = λ z l. absurd (omega arith) };
         row = record {

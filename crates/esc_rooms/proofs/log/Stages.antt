@@ -2,7 +2,7 @@
 use Rattle.std.proofs.Common.{◌≡◌, ◌≢◌, ◌<◌, ℕ, Bool, true, false, ◌&&◌, ◌==◌, if◌then◌else◌, List, [], ◌∷◌, ◌++◌, reverse, Some, None, ◌⊎◌, refl, sym, ◌∙◌, ap, subst, arith, All, inl, inr, append-nil, append_assoc}
 use Rattle.std.proofs.lemmas.Bool.{cases_Bool}
 use Rattle.std.proofs.lemmas.Bool.Decides.{nat_tests}
-use Rattle.std.proofs.lemmas.List.Elements.{All-nil, All-cons, All-tail, All-push}
+use Rattle.std.proofs.lemmas.List.Elements.{All-nil, All-cons, All-tail}
 use Rattle.esc_base.specs.declared.kind.Kind.{Kind}
 use Rattle.esc_base.specs.declared.kind.Kind.TheVariants as kind
 use Rattle.esc_base.specs.declared.event.Event.{Event}
@@ -27,7 +27,8 @@ use Rattle.esc_laws.specs.Place.{Place, next, place}
 use Rattle.gate_driver.specs.DeadSafe.{high_at, low_at, IsSafe, IsTied}
 use Rattle.gate_driver.proofs.OffTimes.{gates_same}
 use Rattle.gate_driver.proofs.DeadTime.{said_after}
-use Rattle.esc_laws.specs.Nested.{IsAboveAll, IsBuilt, IsAsked}
+use Rattle.esc_laws.specs.Asked.{IsAsked}
+use Rattle.esc_laws.specs.Nested.{IsAboveAll, IsBuilt}
 use Rattle.esc_laws.specs.Steps.{opening, is_entry, is_gate, ReturnsLast, GateFirst}
 use Rattle.esc_laws.specs.Saves.{is_save}
 use Rattle.esc_rooms.specs.Tied.{WordTold}
@@ -295,7 +296,8 @@ enter_stack k p t = refl
 
 -- an I fits where the kind is asked for and above all open ones
 enter_fits : (k : Kind) (w : World) (before : List Note) (stack : List Kind) → Tie kind.Cmp w → reverse before ≡ w.back → (place before).stack ≡ stack
-    → IsBuilt k × IsAsked k w.back w.bank.time → IsAboveAll w.nest stack (kind_number k) → NoteFits w.loaded w.nest w.trace before (enters k w.bank.time)
+    → IsBuilt k × IsAsked w.loaded w.trace (so_far w) w.back w.bank.time k → IsAboveAll w.nest stack (kind_number k)
+    → NoteFits w.loaded w.nest w.trace before (enters k w.bank.time)
 enter_fits k w before stack few e open_is asked above =
     note_fits w before (enters k w.bank.time) e (record {
       laws = elim [
@@ -304,8 +306,8 @@ enter_fits k w before stack few e open_is asked above =
           rw (kind_of-number k) asked.0,
           subst (λ (st : List Kind). IsAboveAll w.nest st (kind_number k))
               (sym (ap (λ (p : Place). p.stack) (ap placed (sym e) ∙ placed-is before) ∙ open_is)) above,
-          rw (kind_of-number k) asked.1,
         )
+        | owed.Asks ↦ rw (kind_of-number k) asked.1
         | l ↦ tt
       ];
       waits = tt;

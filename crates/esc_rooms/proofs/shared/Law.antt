@@ -9,7 +9,8 @@ use Rattle.esc_base.specs.Flash.{Told}
 use Rattle.esc_core.specs.Brain.{Brain}
 use Rattle.esc_core.specs.Calls.{Answer, DeviceDid}
 use Rattle.esc_core.specs.Firmware.{left_of, kind_step, kind_asked, waits_of}
-use Rattle.esc_laws.specs.Nested.{IsBuilt, IsAsked}
+use Rattle.esc_laws.specs.Nested.{IsBuilt}
+use Rattle.esc_laws.specs.Asked.{IsAsked}
 use Rattle.esc_laws.specs.Seen.{sees_at}
 use Rattle.esc_rooms.specs.Tied.{WordTold}
 use Rattle.esc_rooms.specs.World.{World, so_far, after_enter, at_time, after_outside}
@@ -68,8 +69,8 @@ pub record AtEvent (e : Event) (w : World) : Type 0 where
 pub record HandlerLaw (k : Kind) : Type 0 where
   -- where the notes call for it, it is due
   pub called : (w : World) → AtShut k w → sees_at w.loaded w.trace (so_far w) w.back w.bank.time k ≡ true → due_now (waits_of w.core) w.bank k ≡ true
-  -- only a handler that is built comes due, and PWM only where it is called
-  pub asked : (w : World) → AtEntry k w → IsBuilt k × IsAsked k w.back w.bank.time
+  -- only a handler that is built comes due, and it does where it is called
+  pub asked : (w : World) → AtEntry k w → IsBuilt k × IsAsked w.loaded w.trace (so_far w) w.back w.bank.time k
   -- its entry ties it, and leaves the ties of the others
   pub entered : (w : World) → AtEntry k w → Tie k (after_enter k w)
   pub beside : (w : World) → AtEntry k w → (j : Kind) → j ≢ k → Tie j (after_enter k w)
