@@ -1,3 +1,4 @@
+pub mod Seldom
 pub mod CrossFacts
 pub mod BesideComm
 pub mod Facts

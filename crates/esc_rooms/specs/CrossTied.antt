@@ -1,6 +1,6 @@
 -- What ties the search for a crossing to what the notes and the comparator say, by where CMP, COMM and TICK stand. Each fact
 -- holds between any two steps, whatever is open.
-use Rattle.std.specs.Prelude.{◌≡◌, ◌<◌, ◌≤◌, ◌+◌, ◌⊎◌, ℕ, Bool, true, false, not, ◌||◌, if◌then◌else◌, nat_le, Option, Some, None}
+use Rattle.std.specs.Prelude.{◌≡◌, ◌<◌, ◌≤◌, ◌+◌, ◌⊎◌, ℕ, Bool, true, false, not, ◌||◌, if◌then◌else◌, nat_le, List, Option, Some, None}
 use Rattle.esc_base.specs.Numbers.{as_tick}
 use Rattle.zero_cross.specs.declared.phase.Phase.{Phase}
 use Rattle.zero_cross.specs.declared.phase.Phase.TheVariants as phase
@@ -17,6 +17,7 @@ use Rattle.esc_core.specs.declared.state.TickAt.{TickAt}
 use Rattle.esc_core.specs.declared.state.TickAt.TheVariants as tick
 use Rattle.esc_laws.specs.Searched.{Sight, Away, Begun, Awaits, First, Settles, Second}
 use Rattle.esc_rooms.specs.DriveTied.{turn_ends}
+use Rattle.esc_rooms.specs.SeldomTied.{SeldomTied}
 
 pub record CrossView : Type 0 where
   -- what the core keeps of the search, of the interval and of a postponed low switch
@@ -48,6 +49,9 @@ pub record CrossView : Type 0 where
   pub sight : Sight
   pub told_open : Bool
   pub quiet : ℕ → ℕ
+  -- the ticks of CMP's entries, all of them and those since the newest Q
+  pub entries : List ℕ
+  pub looks : List ℕ
 
 -- ---- the phase of the search, by the notes
 
@@ -263,3 +267,5 @@ pub record CrossTied (v : CrossView) : Type 0 where
   pub seen : SightTied v.sight v.cmp_at v.search.phase v.held v.expects v.blanked v.time v.past
   pub begun : v.comm_at ≡ comm.Shut → is_begun v.sight ≡ false
   pub late : LateTied v.cmp_at v.search.phase v.postponed
+  -- and how seldom they come
+  pub seldom : SeldomTied v.cmp_at v.search.phase v.time v.entries v.looks

@@ -1,5 +1,6 @@
 pub mod Tied
 pub mod DriveTied
+pub mod SeldomTied
 pub mod CrossTied
 pub mod PeriodTied
 pub mod World

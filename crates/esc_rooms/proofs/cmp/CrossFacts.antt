@@ -14,6 +14,7 @@ use Rattle.esc_core.specs.Drive.{search_after}
 use Rattle.esc_core.specs.Firmware.{cmp_left, cmp_need, tick_need}
 use Rattle.esc_laws.specs.Searched.{Away}
 use Rattle.esc_rooms.specs.DriveTied.{commutes}
+use Rattle.esc_rooms.proofs.cmp.Seldom.{seldom_off}
 use Rattle.esc_rooms.specs.CrossTied.{CrossView, CrossTied, PhaseTied, RegsTied, LateTied, HasNoQ, future, is_some, begins_search, ends_drive}
 
 -- ---- places outside of the mask
@@ -80,6 +81,7 @@ cross_retimed v place same t = record {
   seen = t.seen;
   begun = t.begun;
   late = t.late;
+  seldom = t.seldom;
 }
 
 -- a K, by whether its demand is 0, whether the one before was, and whether it starts a drive
@@ -141,6 +143,7 @@ asked_cross true was some start v pace shut closed no_search goes none e p t =
       seen = tt;
       begun = λ c. refl;
       late = late_shut v.cmp_at phase.Off v.postponed shut;
+      seldom = seldom_off v.cmp_at v.search.phase v.time v.entries v.looks shut t.seldom;
     })
 asked_cross false true some start v pace shut closed no_search goes none e p t =
     let off : v.search.phase ≡ phase.Off = off_phase v.search.phase v.turn v.changed v.held.since v.blanked v.time v.past (none refl) t.phase_is in
@@ -159,6 +162,7 @@ asked_cross false true some start v pace shut closed no_search goes none e p t =
       seen = t.seen;
       begun = t.begun;
       late = t.late;
+      seldom = t.seldom;
     })
 asked_cross false false some start v pace shut closed no_search goes none e p t =
     subst (λ (s : Bool). CrossTied (cross_asked v false false s start pace)) (sym e) (record {
@@ -176,6 +180,7 @@ asked_cross false false some start v pace shut closed no_search goes none e p t 
       seen = t.seen;
       begun = t.begun;
       late = t.late;
+      seldom = t.seldom;
     })
 
 -- the drive is off
@@ -211,4 +216,5 @@ driven_cross v is t =
       seen = t.seen;
       begun = t.begun;
       late = late_shut v.cmp_at v.search.phase false ends.shut;
+      seldom = t.seldom;
     }

@@ -10,6 +10,7 @@ use Rattle.esc_core.specs.declared.state.CmpAt.{CmpAt}
 use Rattle.esc_core.specs.declared.state.CmpAt.TheVariants as cmp
 use Rattle.esc_core.specs.declared.state.CommAt.TheVariants as comm
 use Rattle.esc_laws.specs.Searched.{Sight, Away, Begun, Awaits, First, Settles, Second}
+use Rattle.esc_rooms.specs.SeldomTied.{SeldomTied}
 use Rattle.esc_rooms.specs.CrossTied.{CrossView, CrossTied, PhaseTied, RegsTied, FirstTied, SecondTied, SightTied, Passes, LateTied, future, is_some, is_shut, begins_search, ends_drive}
 use Rattle.esc_rooms.proofs.cmp.CrossFacts.{is_false}
 
@@ -21,6 +22,7 @@ pub record Stands (v : CrossView) (at : CmpAt) (p : Phase) : Type 0 where
   pub few : v.quiet v.held.since + future at p (is_some v.timer) v.changed (is_expected v.search v.level) ≤ 3
   pub seen : SightTied v.sight at p v.held v.expects v.blanked v.time v.past
   pub late : LateTied at p v.postponed
+  pub seldom : SeldomTied at p v.time v.entries v.looks
 
 -- and that COMM is shut, and TICK doesn't end the drive
 pub record Free (v : CrossView) : Type 0 where
@@ -38,6 +40,7 @@ stands v at p e f free t =
       few = t.few;
       seen = t.seen;
       late = t.late;
+      seldom = t.seldom;
     }))
 
 -- what a step leaves: another place, and what it has changed of the search and of the registers
@@ -53,6 +56,7 @@ pub record Moves (v : CrossView) (at : CmpAt) (search : Kept) (changed enabled :
   pub few : v.quiet v.held.since + future at search.phase (is_some timer) changed (is_expected search v.level) ≤ 3
   pub seen : SightTied v.sight at search.phase v.held v.expects v.blanked v.time (v.time + 1)
   pub late : LateTied at search.phase v.postponed
+  pub seldom : SeldomTied at search.phase v.time v.entries v.looks
 
 pub cmp_moves : (v : CrossView) (at : CmpAt) (search : Kept) (changed enabled : Bool) (timer : Option ℕ) → is_shut v.cmp_at ≡ false → Free v → CrossTied v
     → Moves v at search changed enabled timer → CrossTied (cmp_view v at search changed enabled timer)
@@ -71,6 +75,7 @@ cmp_moves v at search changed enabled timer was free t m = record {
   seen = m.seen;
   begun = t.begun;
   late = m.late;
+  seldom = m.seldom;
 }
 
 -- ---- what goes on as it is
@@ -120,6 +125,7 @@ pub record Goes (v : CrossView) (at : CmpAt) (p : Phase) (changed enabled : Bool
   pub few : v.quiet v.held.since + future at p (is_some timer) changed (is_expected v.search v.level) ≤ 3
   pub seen : SightTied v.sight at p v.held v.expects v.blanked v.time (v.time + 1)
   pub late : LateTied at p v.postponed
+  pub seldom : SeldomTied at p v.time v.entries v.looks
 
 pub goes : (v : CrossView) (at : CmpAt) (p : Phase) (search : Kept) (changed enabled : Bool) (timer : Option ℕ) → search.phase ≡ p
     → search.expects ≡ v.search.expects → Goes v at p changed enabled timer → Moves v at search changed enabled timer
@@ -132,4 +138,5 @@ goes v at p search changed enabled timer e f g = record {
       (subst (λ (x : Bool). v.quiet v.held.since + future at p (is_some timer) changed (not (differ v.level x)) ≤ 3) (sym f) g.few);
   seen = subst (λ (x : Phase). SightTied v.sight at x v.held v.expects v.blanked v.time (v.time + 1)) (sym e) g.seen;
   late = subst (λ (x : Phase). LateTied at x v.postponed) (sym e) g.late;
+  seldom = subst (λ (x : Phase). SeldomTied at x v.time v.entries v.looks) (sym e) g.seldom;
 }

@@ -13,6 +13,7 @@ use Rattle.commutation.specs.Pace.{Pace}
 use Rattle.esc_core.specs.declared.state.CmpAt.{CmpAt}
 use Rattle.esc_core.specs.declared.state.CmpAt.TheVariants as cmp
 use Rattle.esc_laws.specs.Searched.{Sight, Away, Begun, Awaits, First, Settles, Second, sight_left, sight_crossed}
+use Rattle.esc_rooms.proofs.cmp.Seldom.{seldom_moves, pace_early, pace_blanked, pace_read, pace_rejected, pace_filters}
 use Rattle.esc_rooms.specs.CrossTied.{CrossView, CrossTied, PhaseTied, Armed, Filters, SightTied, IsBlanked, LateTied, HasQ, HasZ, to_come, is_some, is_shut, is_begun}
 use Rattle.esc_laws.proofs.Comparator.{bit_acked}
 use Rattle.std.proofs.lemmas.Bool.{leb-true, leb-false}
@@ -31,6 +32,7 @@ raised v p free s = record {
   seen = seen_moves v.sight cmp.Raise cmp.Look p p v.held v.expects v.blanked v.time v.past (v.time + 1) (let l = free.past in omega arith) refl
       (λ i l f. f) (λ i z l f. f) s.seen;
   late = late_same p v.postponed s.late;
+  seldom = seldom_moves cmp.Raise cmp.Look p p v.time v.entries v.looks (λ gap l le o h. h) s.seldom;
 }
   where
     late_same : (p : Phase) (postponed : Bool) → LateTied cmp.Raise p postponed → LateTied cmp.Look p postponed
@@ -80,6 +82,7 @@ looked_off v free s = record {
   seen = seen_moves v.sight cmp.Look cmp.Lower phase.Off phase.Off v.held v.expects v.blanked v.time v.past (v.time + 1) (let l = free.past in omega arith) refl
       (λ i l f. absurd f) (λ i z l f e. absurd (f e)) s.seen;
   late = tt;
+  seldom = seldom_moves cmp.Look cmp.Lower phase.Off phase.Off v.time v.entries v.looks (λ gap l le o h. tt) s.seldom;
 }
 
 pub looked_done : (v : CrossView) → Free v → Stands v cmp.Look phase.Done → Goes v cmp.Lower phase.Done v.changed v.enabled v.timer
@@ -92,6 +95,7 @@ looked_done v free s = record {
       (let l = free.past in omega arith) refl
       (λ i l f. absurd f) (λ i z l f e. absurd (f e)) s.seen;
   late = tt;
+  seldom = seldom_moves cmp.Look cmp.Lower phase.Done phase.Done v.time v.entries v.looks (λ gap l le o h. tt) s.seldom;
 }
 
 -- blanking isn't over: a Q came since the entry
@@ -106,6 +110,7 @@ looked_early v end early free s = record {
       (let l = free.past in omega arith) refl
       (λ i l f. absurd (let a = leb-false end v.time early in let b : end ≤ v.time = f in omega arith)) (λ i z l f e. absurd (f e)) s.seen;
   late = tt;
+  seldom = seldom_moves cmp.Look cmp.Lower (phase.Blank (as_tick end)) (phase.Blank (as_tick end)) v.time v.entries v.looks (λ gap l le o h. pace_early gap end v.time l (leb-false end v.time early) h) s.seldom;
 }
   where
     waits : (v.timer ≡ Some end) ⊎ ((v.timer ≡ None) × (end ≤ v.time)) → v.enabled ≡ false → (v.timer ≡ Some end) × (v.enabled ≡ false)
@@ -128,6 +133,7 @@ looked_blanked v end over free s = record {
   seen = seen_moves v.sight cmp.Look cmp.Read (phase.Blank (as_tick end)) (phase.Blank (as_tick end)) v.held v.expects v.blanked v.time v.past (v.time + 1)
       (let l = free.past in omega arith) refl (λ i l f. tt) (λ i z l f e. absurd (f e)) s.seen;
   late = tt;
+  seldom = seldom_moves cmp.Look cmp.Read (phase.Blank (as_tick end)) (phase.Blank (as_tick end)) v.time v.entries v.looks (λ gap l le o h. pace_blanked gap end v.time l o (leb-true end v.time over) h) s.seldom;
 }
 
 -- ---- it reads the comparator
@@ -142,6 +148,7 @@ read_ready v p over well free s = record {
   seen = seen_moves v.sight cmp.Read cmp.Ack p p v.held v.expects v.blanked v.time v.past (v.time + 1)
       (let l = free.past in omega arith) refl (λ i l f. tt) (λ i z l f. f) s.seen;
   late = tt;
+  seldom = seldom_moves cmp.Read cmp.Ack p p v.time v.entries v.looks (λ gap l le o h. pace_read gap v.time l o h) s.seldom;
 }
   where
     may_begin : (p : Phase) → IsBlanked p v.time → MayFilter p v.time
@@ -165,6 +172,7 @@ read_unready v p over ill free t s = record {
   seen = seen_moves v.sight cmp.Read cmp.Lower p phase.Watch v.held v.expects v.blanked v.time v.past (v.time + 1) (let l = free.past in omega arith) refl
       (λ i l f e. absurd (is_false _ (unsteady v.held v.level v.search.expects v.expects i t.level_is t.expects_is ill) e)) (λ i z l f. f) s.seen;
   late = tt;
+  seldom = seldom_moves cmp.Read cmp.Lower p phase.Watch v.time v.entries v.looks (λ gap l le o h. h) s.seldom;
 }
   where
     watches : (p : Phase) → IsBlanked p v.time → PhaseTied p v.turn v.changed v.held.since v.blanked v.time v.past → HasQ v.turn × (v.blanked ≤ v.time)
@@ -183,6 +191,7 @@ looked_watch v free s = record {
   seen = seen_moves v.sight cmp.Look cmp.Ack phase.Watch phase.Watch v.held v.expects v.blanked v.time v.past (v.time + 1)
       (let l = free.past in omega arith) refl (λ i l f. tt) (λ i z l f e. absurd (f e)) s.seen;
   late = tt;
+  seldom = seldom_moves cmp.Look cmp.Ack phase.Watch phase.Watch v.time v.entries v.looks (λ gap l le o h. h) s.seldom;
 }
 
 steady_good : (h : Held) (level told expects : Bool) (i : ℕ) → level ≡ h.level → told ≡ expects → is_steady h expects i ≡ true → not (differ level told) ≡ true
@@ -217,6 +226,7 @@ looked_reject v end over ill free t s =
           both (is_expected v.search v.level) v.changed (steady_good v.held v.level v.search.expects v.expects i t.level_is t.expects_is y)
           (steady_clean v.held v.expects v.changed i f.begun y f.bit (omega arith)) ill)) s.seen;
       late = tt;
+      seldom = seldom_moves cmp.Look cmp.Arm (phase.Filter (as_tick end)) (phase.Blank (as_tick (v.time + 400))) v.time v.entries v.looks (λ gap l le o h. pace_rejected gap v.time l le o) s.seldom;
     }
 
 -- ---- a filter begins
@@ -230,6 +240,7 @@ acked v p free s = record {
   seen = seen_moves v.sight cmp.Ack cmp.Arm p (phase.Filter (as_tick (v.time + 24))) v.held v.expects v.blanked v.time v.past (v.time + 1)
       (let l = free.past in omega arith) refl (λ i l f e. (let a = free.past in omega arith, let a = free.past in omega arith)) (λ i z l f. f) s.seen;
   late = tt;
+  seldom = seldom_moves cmp.Ack cmp.Arm p (phase.Filter (as_tick (v.time + 24))) v.time v.entries v.looks (λ gap l le o h. pace_filters gap v.time l h) s.seldom;
 }
   where
     begins : v.blanked ≤ v.time → Filters false (v.time + 24) v.held.since v.blanked (v.time + 1)
@@ -255,6 +266,7 @@ armed v p end which free s = record {
   seen = seen_moves v.sight cmp.Arm cmp.Lower p p v.held v.expects v.blanked v.time v.past (v.time + 1) (let l = free.past in omega arith) refl
       (λ i l f e. passes_more p i (v.past + 24) ((v.time + 1) + 24) (let a = free.past in omega arith) (f e)) (λ i z l f. f) s.seen;
   late = tt;
+  seldom = seldom_moves cmp.Arm cmp.Lower p p v.time v.entries v.looks (λ gap l le o h. h) s.seldom;
 }
   where
     regs : (p : Phase) → (p ≡ phase.Blank (as_tick end)) ⊎ (p ≡ phase.Filter (as_tick end)) → Armed p (Some end) false
@@ -282,6 +294,7 @@ commuted v free s = record {
   seen = seen_moves v.sight cmp.Commute cmp.Lower phase.Done phase.Done v.held v.expects v.blanked v.time v.past (v.time + 1)
       (let l = free.past in omega arith) refl (λ i l f e. absurd (is_false _ f e)) (λ i z l f. f) s.seen;
   late = tt;
+  seldom = seldom_moves cmp.Commute cmp.Lower phase.Done phase.Done v.time v.entries v.looks (λ gap l le o h. h) s.seldom;
 }
 
 pub lowered : (v : CrossView) (p : Phase) → Free v → Stands v cmp.Lower p → Goes v cmp.Back p v.changed v.enabled v.timer
@@ -293,6 +306,7 @@ lowered v p free s = record {
   seen = seen_moves v.sight cmp.Lower cmp.Back p p v.held v.expects v.blanked v.time v.past (v.time + 1) (let l = free.past in omega arith) refl
       (λ i l f e. passes_more p i (v.past + 24) ((v.time + 1) + 24) (let a = free.past in omega arith) (f e)) (λ i z l f. f) s.seen;
   late = tt;
+  seldom = seldom_moves cmp.Lower cmp.Back p p v.time v.entries v.looks (λ gap l le o h. h) s.seldom;
 }
 
 -- ---- it returns
@@ -316,6 +330,7 @@ returned v free t s = record {
   seen = returns v.sight s.seen;
   begun = λ e. not_begun v.sight (t.begun e);
   late = tt;
+  seldom = seldom_moves cmp.Back cmp.Shut v.search.phase v.search.phase v.time v.entries v.looks (λ gap l le o h. h) s.seldom;
 }
   where
     returns : (s : Sight) → SightTied s cmp.Back v.search.phase v.held v.expects v.blanked v.time v.past
@@ -376,6 +391,7 @@ accepted v end pace told same at free t s = record {
   seen = accepts v.sight s.seen;
   begun = λ e. not_begun v.sight (t.begun e);
   late = tt;
+  seldom = seldom_moves cmp.Look cmp.Commute (phase.Filter (as_tick end)) phase.Done v.time v.entries v.looks (λ gap l le o h. tt) s.seldom;
 }
   where
     accepts : (s : Sight) → SightTied s cmp.Look (phase.Filter (as_tick end)) v.held v.expects v.blanked v.time v.past

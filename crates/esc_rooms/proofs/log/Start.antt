@@ -153,6 +153,7 @@ start_ties loaded packets nest kind.Cmp = record {
   seen = tt;
   begun = λ e. refl;
   late = tt;
+  seldom = record { ordered = tt; ordered_since = tt; all = tt; since_turn = tt };
 }
 start_ties loaded packets nest kind.Uart = (refl, refl, refl)
 
