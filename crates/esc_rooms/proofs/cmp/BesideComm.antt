@@ -1,5 +1,5 @@
 -- The search for a crossing beside a step of COMM.
-use Rattle.std.proofs.Common.{◌≡◌, ◌≢◌, ◌≤◌, inl, ℕ, Bool, true, false, not, if◌then◌else◌, Some, refl, sym, ◌∙◌, arith, ◌+◌, List, []}
+use Rattle.std.proofs.Common.{◌≡◌, ◌≢◌, ◌≤◌, inl, ℕ, Bool, true, false, not, if◌then◌else◌, Some, refl, sym, ◌∙◌, arith, ◌+◌, List, [], None}
 use Rattle.esc_base.specs.Numbers.{as_tick}
 use Rattle.zero_cross.specs.declared.phase.Phase.{Phase}
 use Rattle.zero_cross.specs.declared.phase.Phase.TheVariants as phase
@@ -13,6 +13,7 @@ use Rattle.esc_core.specs.declared.state.CommAt.{CommAt}
 use Rattle.esc_core.specs.declared.state.CommAt.TheVariants as comm
 use Rattle.esc_laws.specs.Searched.{Sight, Away, Begun, Awaits, First, Settles, Second, sight_begun}
 use Rattle.esc_base.specs.Times.{least_blanking, rejected_blanking}
+use Rattle.esc_rooms.specs.WatchTied.{WatchAt, WatchTied}
 use Rattle.esc_rooms.specs.SeldomTied.{Newest, PaceTied, SeldomTied}
 use Rattle.esc_rooms.proofs.cmp.Seldom.{past_all}
 use Rattle.esc_rooms.specs.CrossTied.{CrossView, CrossTied, PhaseTied, RegsTied, IsEarly, SightTied, LateTied, future, is_some, is_shut, is_begun, begins_search, ends_drive}
@@ -41,6 +42,7 @@ moved_cross v place at postponed same stays late t = record {
   begun = λ e. absurd (stays e);
   late = late;
   seldom = t.seldom;
+  watch = t.watch;
 }
 
 pub prompt_late : (at : CmpAt) (p : Phase) → LateTied at p false
@@ -95,6 +97,8 @@ cross_turned v place at search q blanked expects quiet = record v {
   sight = if v.told_open then Away else Begun;
   quiet = quiet;
   looks = [];
+  looking = false;
+  looked = None;
 }
 
 shut_by : (at : CmpAt) → false ≡ not (is_shut at) → at ≡ cmp.Shut
@@ -132,6 +136,17 @@ phase_new (phase.Blank end) q changed since blanked time past e = (tt, end_of en
     end_of end e = (let s : end ≡ as_tick blanked = cc in rw s (omega arith))
 phase_new p q changed since blanked time past e = cc
 
+-- no activation was entered since the Q
+watch_turned : (at : CmpAt) (p : Phase) (changed expected : Bool) (time past blanked : ℕ) → cmp_masks at ≡ false → p ≡ phase.Blank (as_tick blanked)
+    → WatchTied at p changed expected false None time past
+watch_turned at p changed expected time past blanked free e = record { heard = by_place at free; none = λ o l. refl }
+  where
+    by_place : (at : CmpAt) → cmp_masks at ≡ false → WatchAt at p changed expected false None time past
+    by_place cmp.Shut free = λ o l. cc
+    by_place cmp.Back free = λ l. cc
+    by_place cmp.Raise free = λ l. cc
+    by_place at free = cc
+
 -- how seldom CMP comes: no entry stands since the Q
 seldom_turned : (at : CmpAt) (p p' : Phase) (now blanked : ℕ) (entries looks : List ℕ) → cmp_masks at ≡ false → p' ≡ phase.Blank (as_tick blanked)
     → now + least_blanking ≤ blanked → SeldomTied at p now entries looks → SeldomTied at p' now entries []
@@ -166,7 +181,7 @@ turned_cross v place at search q blanked expects quiet is stays free goes blank 
   level_is = t.level_is;
   open_is = t.open_is;
   phase_is = phase_new search.phase q v.changed v.held.since blanked v.time v.past blank;
-  begins = λ e. record { blank = blank; early = early_new v.told_open; none = none };
+  begins = λ e. record { blank = blank; early = early_new v.told_open; none = none; unlooked = refl };
   ends = λ e. absurd (is_false _ goes e);
   regs = λ b e. absurd (is_false _ b is);
   below = λ since l. none since;
@@ -179,6 +194,7 @@ turned_cross v place at search q blanked expects quiet is stays free goes blank 
   begun = λ e. absurd (stays e);
   late = late_blank v.cmp_at search.phase v.postponed blanked blank;
   seldom = seldom_turned v.cmp_at v.search.phase search.phase v.time blanked v.entries v.looks free blank long t.seldom;
+  watch = watch_turned v.cmp_at search.phase v.changed _ v.time v.past blanked free blank;
 }
 
 -- ---- the crossing timer is armed for the end of blanking
@@ -219,6 +235,7 @@ armed_cross v place was is stays free t =
       begun = λ e. absurd (stays e);
       late = t.late;
       seldom = t.seldom;
+      watch = t.watch;
     }
 
 -- ---- COMM returns
@@ -260,4 +277,5 @@ left_cross v was goes t = record {
   begun = λ e. begun_left v.sight v.blanked v.time;
   late = t.late;
   seldom = t.seldom;
+  watch = t.watch;
 }

@@ -14,6 +14,8 @@ use Rattle.esc_core.specs.declared.state.CmpAt.{CmpAt}
 use Rattle.esc_core.specs.declared.state.CmpAt.TheVariants as cmp
 use Rattle.esc_laws.specs.Searched.{Sight, Away, Begun, Awaits, First, Settles, Second, sight_entered, calls_cmp}
 use Rattle.esc_rooms.proofs.cmp.Seldom.{seldom_later, seldom_entered}
+use Rattle.esc_rooms.specs.WatchTied.{IsLate}
+use Rattle.esc_rooms.proofs.cmp.Watch.{watch_later, watch_changes}
 use Rattle.esc_rooms.specs.CrossTied.{CrossView, CrossTied, PhaseTied, RegsTied, Armed, Called, FirstTied, SecondTied, SightTied, Passes, IsBlanked, LateTied, future, to_come, to_come_after, is_some, is_begun}
 use Rattle.esc_rooms.proofs.cmp.Facts.{Stands, Free, phase_more, passes_more}
 use Rattle.std.proofs.lemmas.Bool.{leb-true}
@@ -110,6 +112,7 @@ cross_later v u l t = record {
   seen = seen_later v.sight v.cmp_at v.search.phase v.held v.expects v.blanked v.time u v.past l t.seen;
   begun = t.begun;
   late = t.late;
+  watch = watch_later v.cmp_at v.search.phase v.changed (is_expected v.search v.level) v.looking v.looked v.time u v.past l t.watch;
   seldom = seldom_later v.cmp_at v.search.phase v.time u v.entries v.looks l t.seldom;
 }
 
@@ -236,6 +239,7 @@ cross_changes v level l t = record {
   seen = seen_event v.sight v.cmp_at v.search.phase v.held level v.expects v.blanked v.time v.past l t.seen;
   begun = t.begun;
   late = t.late;
+  watch = watch_changes v.cmp_at v.search.phase v.changed (is_expected v.search v.level) (is_expected v.search level) v.looking v.looked v.time v.past t.watch;
   seldom = t.seldom;
 }
 
@@ -353,7 +357,16 @@ entered_view v quiet = record v {
   quiet = quiet;
   entries = v.time ∷ v.entries;
   looks = v.time ∷ v.looks;
+  looking = true;
 }
+
+blank_late : (p : Phase) (time : ℕ) → Called p None time → IsLate p time
+blank_late phase.Off time c = tt
+blank_late (phase.Blank end) time (inl c) = cc
+blank_late (phase.Blank end) time (inr c) = c.1
+blank_late phase.Watch time c = tt
+blank_late (phase.Filter end) time c = tt
+blank_late phase.Done time c = tt
 
 pub cross_entered : (v : CrossView) (quiet : ℕ → ℕ) → Free v → CrossTied v → Stands v cmp.Shut v.search.phase
     → (is_reached v.timer v.time || (v.enabled && v.changed)) ≡ true → LateTied cmp.Raise v.search.phase v.postponed
@@ -376,5 +389,6 @@ cross_entered v quiet free t s due late none one =
       seen = seen_enter v.sight v.search.phase v.held v.expects v.blanked v.time v.past free.past c (t.begun free.closed) s.seen;
       begun = λ e. not_begun v.sight v.time (t.begun free.closed);
       late = late;
+      watch = record { heard = λ e. blank_late v.search.phase v.time c; none = λ o e. cc };
       seldom = seldom_entered v.search.phase v.timer v.enabled v.changed v.time v.entries v.looks s.regs due c s.seldom;
     }
