@@ -28,7 +28,7 @@ use Rattle.esc_laws.specs.Saves.{is_save}
 use Rattle.esc_rooms.proofs.main.Saves.{first_unsaved, fits_start}
 use Rattle.esc_laws.proofs.Notes.{all_front}
 use Rattle.trace_runner.specs.declared.state.Runner.{Runner}
-use Rattle.trace_runner.proofs.Written.{append_known-twice}
+use Rattle.esc_base.proofs.OutsideLaws.{append_known-twice}
 use Rattle.trace_runner.specs.Lines.{BrokeLines}
 use Rattle.trace_runner.specs.Run.{Outset, StandsFor, LeftBelow, GoesOn, BreaksOff, nest_of, cost_of, newest}
 use Rattle.am32sim.specs.Run.{last_tick_from, last_tick, Reads, Wrote, IsLegalFront, IsDone, IsRefused, IsReadFault, IsWriteFault}

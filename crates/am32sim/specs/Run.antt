@@ -37,12 +37,13 @@ abbrev pub Reads : Option (List ℕ) → Reading → Type 0
 Reads None r = Unit {0}
 Reads (Some bytes) r = Read bytes ≡ r
 
--- A run sets out with the settings that were loaded from the flash as it was attached. Without an image that is the flash as
--- it was before.
-pub record IsOutset (image : Option (List ℕ)) (before : Told) (o : Outset) : Type 0 where
+-- A run sets out with the settings that were loaded from the flash as it was attached: with the bytes that it holds once it has
+-- bound the image. Without an image they are its bytes before. Neither the binding nor the load has failed.
+pub record IsOutset (image bound : Option (List ℕ)) (before : Told) (o : Outset) : Type 0 where
+  pub holds : o.flash.bytes ≡ bound
   pub as_before : image ≡ None → o.flash.bytes ≡ before.bytes
   pub loaded : IsLoaded o.flash.bytes o.loaded
-  pub no_fewer : before.faults ≤ o.flash.faults
+  pub faults : o.flash.faults ≡ before.faults
 
 -- The text of a journal that is legal for a nesting, a step cost and a trace up to a tick was appended, where the sink tells its bytes; and the flash
 -- is now what that journal says.
@@ -111,42 +112,44 @@ RanFrom cfg o now status.ReadFault left_before left_after before after = IsReadF
 RanFrom cfg o now status.WriteFault left_before left_after before after = IsWriteFault cfg o now left_before left_after before after
 RanFrom cfg o now s left_before left_after before after = ⊥
 
-pub record HasRun (cfg : RunConfig) (image : Option (List ℕ)) (flash now : Told) (s : Status)
+pub record HasRun (cfg : RunConfig) (image bound : Option (List ℕ)) (flash now : Told) (s : Status)
     (left_before left_after before after : Option (List ℕ)) : Type 0 where
   pub outset : Outset
-  pub begins : IsOutset image flash outset
+  pub begins : IsOutset image bound flash outset
   pub ran : RanFrom cfg outset now s left_before left_after before after
 
 -- how the words ask for a run to be made
 abbrev pub config_of : Asked → RunConfig
 config_of a = record { cost = cost_of a; nest = nest_of a }
 
--- Where the flash failed at the start, nothing was written, and without an image its bytes are as before.
-pub record IsUnattached (image : Option (List ℕ)) (flash now : Told) (before after : Option (List ℕ)) : Type 0 where
+-- Where the flash failed at the start, nothing was written, and its bytes are as before or as bound; without an image as before.
+pub record IsUnattached (image bound : Option (List ℕ)) (flash now : Told) (before after : Option (List ℕ)) : Type 0 where
   pub unwritten : after ≡ before
+  pub bytes : (now.bytes ≡ flash.bytes) ⊎ (now.bytes ≡ bound)
   pub bytes_same : image ≡ None → now.bytes ≡ flash.bytes
 
--- what `run` has done, from what the flash told before, what the source had left before and after, and what the sink was
--- given before and after
-abbrev pub Ran : Asked → Status → Told → Told → Option (List ℕ) → Option (List ℕ) → Option (List ℕ) → Option (List ℕ) → Type 0
-Ran a status.AttachFault flash now left_before left_after before after = IsUnattached (image_of a) flash now before after
-Ran a s flash now left_before left_after before after = HasRun (config_of a) (image_of a) flash now s left_before left_after before after
+-- what `run` has done, from the bytes that the flash holds once it has bound the image, what it told before and tells now, what the
+-- source had left before and after, and what the sink was given before and after
+abbrev pub Ran : Asked → Status → Option (List ℕ) → Told → Told → Option (List ℕ) → Option (List ℕ) → Option (List ℕ) → Option (List ℕ) → Type 0
+Ran a status.AttachFault bound flash now left_before left_after before after = IsUnattached (image_of a) bound flash now before after
+Ran a s bound flash now left_before left_after before after = HasRun (config_of a) (image_of a) bound flash now s left_before left_after before after
 
 -- ---- show
 
--- the settings were loaded from the flash as it was attached, and a text of them was written, whole or a front of it
-pub record HasShown (image : Option (List ℕ)) (flash now : Told) (Wrote : List ℕ → Type 0) : Type 0 where
+-- The settings were loaded from the flash as it was attached, it tells the same since, and a text of them was written, whole or a
+-- front of it.
+pub record HasShown (image bound : Option (List ℕ)) (flash now : Told) (Wrote : List ℕ → Type 0) : Type 0 where
   pub outset : Outset
-  pub begins : IsOutset image flash outset
+  pub begins : IsOutset image bound flash outset
   pub same : now ≡ outset.flash
   pub wrote : Wrote (show_text outset.loaded)
 
 -- what `show` has done
-abbrev pub Shown : Asked → Status → Told → Told → Option (List ℕ) → Option (List ℕ) → Type 0
-Shown a status.Done flash now before after = HasShown (image_of a) flash now (λ text. after ≡ append_known before text)
-Shown a status.WriteFault flash now before after = HasShown (image_of a) flash now (λ text. AppendsFront before text after)
-Shown a status.AttachFault flash now before after = IsUnattached (image_of a) flash now before after
-Shown a s flash now before after = ⊥
+abbrev pub Shown : Asked → Status → Option (List ℕ) → Told → Told → Option (List ℕ) → Option (List ℕ) → Type 0
+Shown a status.Done bound flash now before after = HasShown (image_of a) bound flash now (λ text. after ≡ append_known before text)
+Shown a status.WriteFault bound flash now before after = HasShown (image_of a) bound flash now (λ text. AppendsFront before text after)
+Shown a status.AttachFault bound flash now before after = IsUnattached (image_of a) bound flash now before after
+Shown a s bound flash now before after = ⊥
 
 -- a fact where a command went on with the flash that it found
 abbrev pub OnAttached : Status → Type 0 → Type 0

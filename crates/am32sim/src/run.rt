@@ -60,11 +60,13 @@ fn run<S: Source, K: Sink, F: FlashDev>(
 
 /// Attaches the flash and loads the settings from it. `None` where either failed, and then it goes no further.
 fn attach_and_load<F: FlashDev>(flash: &mut F, image: Option<&str>) -> Option<Loaded>
-    ensures loaded { IfSome result (λ loaded. IsOutset (option_map (λ path. path.now) image.entry) (F.told flash.old)
-        (record { loaded = loaded; flash = F.told flash.new })) }
+    ensures loaded { IfSome result (λ loaded. IsOutset (option_map (λ path. path.now) image.entry) (F.image flash.old (option_map (λ path. path.now) image.entry))
+        (F.told flash.old) (record { loaded = loaded; flash = F.told flash.new })) }
     ensures bound { IfSome result (λ _. F.binds flash.old (option_map (λ path. path.now) image.entry)) }
     ensures failed { IsNone result → Rose (F.told flash.old).faults (F.told flash.new).faults }
     ensures kept { IsNone result → IsNone image.entry → (F.told flash.new).bytes ≡ (F.told flash.old).bytes }
+    ensures only { IsNone result → ((F.told flash.new).bytes ≡ (F.told flash.old).bytes)
+        ⊎ ((F.told flash.new).bytes ≡ F.image flash.old (option_map (λ path. path.now) image.entry)) }
 {
     if flash.attach(image).is_err() {
         return None;
@@ -91,11 +93,11 @@ pub fn sim_main<S: Source, K: Sink, F: FlashDev>(
 
     // What was read and written, by the status, and what the flash holds then, where source, sink and flash tell their
     // bytes. At a read and a write fault the events read are those of the whole lines among the bytes that were taken. Nothing
-    // goes on where the flash didn't bind the image.
+    // goes on where the flash didn't bind the image, and what goes on begins with the bytes that the flash holds once it has.
     ensures ran { (a : Wanted) → asked words.now ≡ Some a → a.command ≡ IsRun
-        → Ran a result (F.told flash.old) (F.told flash.new) (S.left src.old) (S.left src.new) (K.given out.old) (K.given out.new) }
+        → Ran a result (F.image flash.old (image_of a)) (F.told flash.old) (F.told flash.new) (S.left src.old) (S.left src.new) (K.given out.old) (K.given out.new) }
     ensures shown { (a : Wanted) → asked words.now ≡ Some a → a.command ≡ IsShow
-        → Shown a result (F.told flash.old) (F.told flash.new) (K.given out.old) (K.given out.new) }
+        → Shown a result (F.image flash.old (image_of a)) (F.told flash.old) (F.told flash.new) (K.given out.old) (K.given out.new) }
     ensures attached { (a : Wanted) → asked words.now ≡ Some a → OnAttached result (F.binds flash.old (image_of a)) }
     ensures show_reads_nothing { (a : Wanted) → asked words.now ≡ Some a → a.command ≡ IsShow → src.new ≡ src.old }
 

@@ -9,9 +9,9 @@ use Rattle.esc_base.specs.declared.signal.Frame.{Frame}
 use Rattle.esc_base.specs.declared.signal.Mode.{Mode}
 use Rattle.esc_base.specs.declared.signal.Verdict.TheVariants.{Good}
 use Rattle.edge_capture.specs.Modes.{numbers}
-use Rattle.dshot_frame.specs.Bits.{low_bits}
 use Rattle.dshot_frame.specs.Sent.{active_width, edges_from, sent}
 use Rattle.dshot_frame.specs.Verdict.{verdict_of}
+use Rattle.esc_base.specs.Bits.{low_bits}
 use Rattle.am32trace.specs.Frames.{is_wide, width_of, edges_left, IsSent, IsBefore}
 
 -- with no pulse too wide they are those that the frame's sender makes

@@ -17,8 +17,6 @@ mod run;
 mod sentence;
 mod status;
 mod tally;
-#[cfg(test)]
-mod tests;
 mod traced;
 mod wire;
 

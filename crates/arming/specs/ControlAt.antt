@@ -3,7 +3,7 @@
 use Rattle.std.specs.Prelude.{ℕ, ◌+◌, Bool, true, false, ◌==◌, ◌&&◌, ◌||◌, nat_le, min, max, if◌then◌else◌, List, [], ◌∷◌}
 use Rattle.esc_base.specs.declared.note.Note.{Note}
 use Rattle.esc_base.specs.declared.note.Note.TheVariants as note
-use Rattle.esc_base.specs.Times.{arming_frames}
+use Rattle.esc_base.specs.Times.{arming_frames, least_throttle}
 use Rattle.dshot_commands.specs.Repeats.{is_command}
 use Rattle.commutation.specs.Commutated.{stuck_at}
 use Rattle.arming.specs.Decide.{View}
@@ -37,7 +37,7 @@ number_at (n ∷ back) = number_at back
 -- the newest good frame's value, where it is throttle and no X stands after it; else 0
 abbrev pub wanted_at : List Note → ℕ
 wanted_at [] = 0
-wanted_at (note.Good t v q ∷ back) = if nat_le 48 v then v else 0
+wanted_at (note.Good t v q ∷ back) = if nat_le least_throttle v then v else 0
 wanted_at (note.Lost t c ∷ back) = 0
 wanted_at (n ∷ back) = wanted_at back
 

@@ -4,7 +4,7 @@ use Rattle.esc_base.specs.declared.signal.Mode.{Mode}
 use Rattle.esc_base.specs.declared.signal.Mode.TheVariants.{Unknown}
 use Rattle.esc_base.specs.declared.note.Cause.{Cause}
 use Rattle.esc_base.specs.declared.note.Cause.TheVariants as cause
-use Rattle.esc_base.specs.Times.{arming_frames}
+use Rattle.esc_base.specs.Times.{arming_frames, least_throttle}
 use Rattle.dshot_commands.specs.Repeats.{no_run, run_after, Run}
 use Rattle.arming.specs.declared.decision.Decision.{Decision}
 use Rattle.arming.specs.declared.decision.Decision.TheVariants.{Loses, Arms, Drives}
@@ -41,7 +41,7 @@ after_found c mode = record c { mode = mode }
 -- a good frame with this value comes
 abbrev pub after_frame : Kept → ℕ → Kept
 after_frame c value = record c {
-  wanted = if nat_le 48 value then value else 0;
+  wanted = if nat_le least_throttle value then value else 0;
   zero_run = if value == 0 then min arming_frames (c.zero_run + 1) else 0;
   newest = c.number;
   run = run_after c.run value (is_still c);

@@ -3,7 +3,7 @@ use Rattle.std.specs.Prelude.{◌≡◌, ◌≢◌, ◌≤◌, ◌<◌, ℕ, ◌
 use Rattle.esc_base.specs.declared.tick.Tick.{Tick}
 use Rattle.esc_base.specs.declared.note.Note.{Note}
 use Rattle.esc_base.specs.declared.note.Note.TheVariants as note
-use Rattle.esc_base.specs.Times.{timeout}
+use Rattle.esc_base.specs.Times.{timeout, least_throttle}
 use Rattle.arming.specs.Throttle.{on_of}
 use Rattle.arming.specs.ControlAt.{armed_at, newest_at}
 use Rattle.arming.specs.Controlled.{owed, Lost, Controlled}
@@ -11,7 +11,7 @@ use Rattle.arming.specs.Controlled.{owed, Lost, Controlled}
 -- the newest good frame is throttle, stands after an A with no X since, and asks for at least this demand
 abbrev pub IsAskedFor : ℕ → List Note → Type 0
 IsAskedFor demand [] = ⊥
-IsAskedFor demand (note.Good t v q ∷ back) = (48 ≤ v) × ((armed_at back ≡ true) × (demand ≤ on_of v))
+IsAskedFor demand (note.Good t v q ∷ back) = (least_throttle ≤ v) × ((armed_at back ≡ true) × (demand ≤ on_of v))
 IsAskedFor demand (note.Lost t c ∷ back) = ⊥
 IsAskedFor demand (n ∷ back) = IsAskedFor demand back
 

@@ -36,7 +36,7 @@ const LEAST_THROTTLE: u16 = 48;
 /// Whether the motor is armed, what is demanded of it, and in which mode the signal is.
 ///
 /// Contracts see what is kept, and say that it is what the notes of a journal so far tell (`Stands`).
-#[derive(Debug, Drop)]
+#[derive(Drop)]
 pub struct Control {
     mode: Mode,
     armed: bool,

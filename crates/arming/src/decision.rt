@@ -4,7 +4,7 @@ ghost use Rattle.arming.specs.Decide.{answer_of};
 use esc_base::Cause;
 
 /// What a control tick decides.
-#[derive(Clone, Copy, Debug, PartialEq, Eq, Drop)]
+#[derive(Clone, Copy, Drop)]
 pub(crate) enum Decision {
     /// Control is lost.
     Loses(Cause),
@@ -15,7 +15,7 @@ pub(crate) enum Decision {
 }
 
 /// What a control tick answers.
-#[derive(Clone, Copy, Debug, PartialEq, Eq, Drop)]
+#[derive(Clone, Copy, Drop)]
 pub struct Ticked {
     /// How long the high switch is on in each PWM period, in ticks of 48 MHz: 0 to 1900.
     pub demand: u16,

@@ -9,8 +9,6 @@ mod control;
 mod decision;
 mod laws;
 mod marks;
-#[cfg(test)]
-mod tests;
 mod throttle;
 
 pub use control::Control;

@@ -1,4 +1,3 @@
 pub mod TurnList
 pub mod TimedNotes
-pub mod Limits
 pub mod Order

@@ -1,9 +1,10 @@
 -- When a sector may change, and to which one. In a journal's lines Q is a sector change, Z an accepted zero crossing and K a control
 -- tick with its demand.
-use Rattle.std.specs.Prelude.{◌≡◌, ◌≤◌, ℕ, ◌+◌, Bool, true, false, not, ◌&&◌, ◌||◌, ◌==◌, nat_le, if◌then◌else◌, List, [], ◌∷◌, reverse}
+use Rattle.std.specs.Prelude.{◌≡◌, ◌≤◌, ℕ, ◌+◌, ◌-◌, Bool, true, false, not, ◌&&◌, ◌||◌, ◌==◌, nat_le, if◌then◌else◌, List, [], ◌∷◌, reverse}
 use Rattle.esc_base.specs.declared.note.Note.{Note}
 use Rattle.esc_base.specs.declared.note.Note.TheVariants as note
 use Rattle.esc_base.specs.Journal.{Each}
+use Rattle.esc_base.specs.Times.{forced_limit, stuck_changes}
 use Rattle.commutation.specs.Sectors.{next_sector}
 use Rattle.commutation.specs.Pace.{wait_of}
 use Rattle.commutation.specs.Drive.{interval_at, rests_at, starts}
@@ -34,11 +35,11 @@ turn_at (note.Cross t ∷ back) = crossed_by (turn_at back) t.0
 turn_at (n ∷ back) = turn_at back
 
 -- a Q may come at t: at any tick as the first one of a drive; else no earlier than the wait after the Z since the Q before, or by
--- force 240,000 ticks after that Q, where there is no such Z
+-- force `forced_limit` after that Q, where there is no such Z
 abbrev pub MayTurn : ℕ → ℕ → Turn → ℕ → Type 0
 MayTurn advance interval Idle t = ⊥
 MayTurn advance interval Started t = Unit {0}
-MayTurn advance interval (Turned q) t = q + 240000 ≤ t
+MayTurn advance interval (Turned q) t = q + forced_limit ≤ t
 MayTurn advance interval (Crossed q z) t = z + wait_of advance interval ≤ t
 
 -- a Q fits the notes before it, with the direction at its place: its sector is the next one, and its time has come
@@ -67,9 +68,9 @@ forced_at (note.Cross t ∷ back) = 0
 forced_at (note.Step t s ∷ back) = if is_forced (turn_at back) then forced_at back + 1 else 0
 forced_at (n ∷ back) = forced_at back
 
--- sixty forced Q stood in a row since the newest K with demand 0, which a later Z doesn't take back
+-- `stuck_changes` forced Q stood in a row since the newest K with demand 0, which a later Z doesn't take back
 abbrev pub stuck_at : List Note → Bool
 stuck_at [] = false
 stuck_at (note.Control t n s d ∷ back) = not (d == 0) && stuck_at back
-stuck_at (note.Step t s ∷ back) = stuck_at back || (is_forced (turn_at back) && nat_le 59 (forced_at back))
+stuck_at (note.Step t s ∷ back) = stuck_at back || (is_forced (turn_at back) && nat_le (stuck_changes - 1) (forced_at back))
 stuck_at (n ∷ back) = stuck_at back

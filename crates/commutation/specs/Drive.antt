@@ -1,6 +1,6 @@
 -- A drive at a place of a journal, from the notes before that place, the newest first. Nothing is kept: each definition looks
 -- back. In a journal's lines K is a control tick with its demand, Q a sector change and Z an accepted zero crossing.
-use Rattle.std.specs.Prelude.{◌≡◌, ℕ, Bool, true, false, ◌&&◌, ◌==◌, nat_lt, if◌then◌else◌, List, [], ◌∷◌, take, Option, None}
+use Rattle.std.specs.Prelude.{◌≡◌, ℕ, Bool, true, ◌&&◌, ◌==◌, nat_lt, if◌then◌else◌, List, [], ◌∷◌, take, Option, None}
 use Rattle.esc_base.specs.declared.note.Note.{Note}
 use Rattle.esc_base.specs.declared.note.Note.TheVariants as note
 use Rattle.commutation.specs.Pace.{first_pace, paced, wait_of, Pace}
@@ -46,10 +46,3 @@ period_at back = if rests_at back then None else period_of (turns_at back)
 pub record Timed (c : Kept) (back : List Note) : Type 0 where
   pub pace_is : c.pace ≡ pace_at back
   pub turns_are : c.turns ≡ take 7 (turns_at back)
-
--- a note of which a timing has to be told
-abbrev pub changes_timing : Note → List Note → Bool
-changes_timing (note.Control t n s d) back = starts d back
-changes_timing (note.Cross t) back = true
-changes_timing (note.Step t s) back = true
-changes_timing n back = false

@@ -1,5 +1,6 @@
 -- The ticks of sector changes, the newest first, and the electrical period that they make.
 use Rattle.std.specs.Prelude.{◌≤◌, ℕ, ◌-◌, ◌/◌, nat_le, if◌then◌else◌, List, [], ◌∷◌, length, slice_index, Option, Some, None}
+use Rattle.esc_base.specs.Times.{microsecond}
 
 -- the ticks of the newest six gaps together, which seven changes bound, or 0 with fewer changes
 abbrev pub six_of : List ℕ → ℕ
@@ -7,7 +8,7 @@ six_of turns = if nat_le 7 (length turns) then slice_index turns 0 - slice_index
 
 -- the electrical period, which is that time in whole microseconds; none with fewer changes
 abbrev pub period_of : List ℕ → Option ℕ
-period_of turns = if nat_le 7 (length turns) then Some (six_of turns / 48) else None
+period_of turns = if nat_le 7 (length turns) then Some (six_of turns / microsecond) else None
 
 -- the gaps between neighbouring changes, the newest first
 abbrev pub gaps_of : List ℕ → List ℕ

@@ -5,8 +5,6 @@
 #![tactic(auto)]
 
 mod sectors;
-#[cfg(test)]
-mod tests;
 mod timing;
 
 pub use sectors::{pair, sector_next};

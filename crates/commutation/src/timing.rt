@@ -31,7 +31,7 @@ const TICKS_PER_US: u32 = 48;
 ///
 /// Contracts see the advance, the interval with the newest crossing, and the ticks of the newest sector changes since
 /// the restart, seven at most and the newest first; and say that these are what a journal's notes tell (`Timed`).
-#[derive(Debug, Drop)]
+#[derive(Drop)]
 pub struct Timing {
     advance: u8,
     interval: u32,

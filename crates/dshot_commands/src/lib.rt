@@ -6,8 +6,6 @@
 
 mod act;
 mod repeats;
-#[cfg(test)]
-mod tests;
 
 pub use act::Act;
 pub use repeats::Repeats;

@@ -11,7 +11,7 @@ use std::marker::Model;
 /// A frame is *still* where the motor is armed and its demand is 0. Only still frames with a command
 /// count, and any other frame ends the run. Runs of more than six frames behave alike, and are kept
 /// as seven.
-#[derive(Debug, Drop)]
+#[derive(Drop)]
 pub struct Repeats {
     command: u16,
     frames: u8,

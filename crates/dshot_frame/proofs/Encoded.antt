@@ -6,7 +6,8 @@ use Rattle.std.proofs.lemmas.Grind.{or_after_shift}
 use Rattle.esc_base.specs.declared.signal.Mode.{Mode}
 use Rattle.esc_base.specs.declared.signal.Verdict.TheVariants.{Good}
 use Rattle.edge_capture.specs.Modes.{numbers}
-use Rattle.dshot_frame.specs.Bits.{digit, number, low_bits, checksum_of, reading}
+use Rattle.esc_base.specs.Bits.{digit, low_bits}
+use Rattle.dshot_frame.specs.Bits.{number, checksum_of, reading}
 use Rattle.dshot_frame.specs.Verdict.{verdict_of}
 use Rattle.dshot_frame.specs.Sent.{sent, HasFrames}
 use Rattle.dshot_frame.proofs.Moved.{length-low_bits, verdict_of-sent}

@@ -7,7 +7,8 @@ use Rattle.esc_base.specs.declared.signal.Mode.{Mode}
 use Rattle.esc_base.specs.declared.signal.Mode.TheVariants.{Unknown, D300, D600, D300Inv, D600Inv, Servo}
 use Rattle.edge_capture.specs.Edges.{edge_at}
 use Rattle.edge_capture.specs.Modes.{numbers}
-use Rattle.dshot_frame.specs.Bits.{reading, xor, low_bits}
+use Rattle.esc_base.specs.Bits.{xor, low_bits}
+use Rattle.dshot_frame.specs.Bits.{reading}
 use Rattle.dshot_frame.specs.Verdict.{starts, widths, steps, is_within, is_span, is_width, is_step, is_one, is_polar, is_timely, span, bits_of, verdict_with, verdict_of}
 use Rattle.dshot_frame.specs.Sent.{active_width, edges_from, sent, IsNear, IsMoved, HasFrames}
 use Rattle.dshot_frame.proofs.Words.{is_both}

@@ -6,7 +6,8 @@ use Rattle.std.proofs.Math.Nat.{pow-suc, pow-le-pow_right}
 use Rattle.std.proofs.lemmas.List.{length_push, length-take-le}
 use Rattle.std.proofs.lemmas.Nat.{pow-add, xor_block}
 use Rattle.std.proofs.lemmas.Grind.{or_after_shift}
-use Rattle.dshot_frame.specs.Bits.{digit, number, xor, each_xor, is_same}
+use Rattle.esc_base.specs.Bits.{digit, xor}
+use Rattle.dshot_frame.specs.Bits.{number, each_xor, is_same}
 
 pub number-lt : (bits : List Bool) → number bits < 2 ^ length bits
 unfolding number

@@ -5,7 +5,8 @@ use Rattle.std.specs.Int.Bits.{xor_assoc}
 use Rattle.std.proofs.lemmas.Nat.{and_mask, xor_mod, xor_comm}
 use Rattle.esc_base.specs.declared.signal.Verdict.TheVariants.{Good, Bad}
 use Rattle.esc_base.specs.declared.signal.Why.TheVariants.{Check}
-use Rattle.dshot_frame.specs.Bits.{digit, number, xor, each_xor, is_same, sum_of, checksum_of, frame_of, reading}
+use Rattle.esc_base.specs.Bits.{digit, xor}
+use Rattle.dshot_frame.specs.Bits.{number, each_xor, is_same, sum_of, checksum_of, frame_of, reading}
 use Rattle.dshot_frame.proofs.Numbers.{number-lt, number-push, number-append, number-each_xor, same-number, number-same}
 
 -- the exclusive or of a number's three groups of four bits

@@ -7,7 +7,8 @@ use Rattle.std.proofs.lemmas.Bool.Decides.{nat_tests}
 use Rattle.std.proofs.Math.Seq.{take-length}
 use Rattle.esc_base.specs.declared.signal.Edge.{Edge}
 use Rattle.esc_base.specs.declared.signal.Verdict.{Verdict}
-use Rattle.dshot_frame.specs.Bits.{digit, number, reading}
+use Rattle.esc_base.specs.Bits.{digit}
+use Rattle.dshot_frame.specs.Bits.{number, reading}
 use Rattle.dshot_frame.specs.Verdict.{starts, widths, steps, is_width, is_step, is_one, is_timely, is_timely_at, is_polar, is_span, span, bits_of, verdict_with}
 use Rattle.dshot_frame.proofs.Bursts.{length-widths, length-starts, length-steps}
 use Rattle.dshot_frame.proofs.Numbers.{number-push, few_bits}

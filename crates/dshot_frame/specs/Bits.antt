@@ -1,27 +1,15 @@
 -- The sixteen bits of a DShot frame, the most significant first: eleven of value, the telemetry bit, four of checksum.
-use Rattle.std.specs.Prelude.{ℕ, ◌+◌, ◌*◌, ◌/◌, ◌%◌, ◌^◌, zero, suc, Bool, true, false, not, ◌&&◌, ◌==◌, if◌then◌else◌, List, [], ◌∷◌, length, take, drop, map, slice_index_or}
+use Rattle.std.specs.Prelude.{ℕ, ◌+◌, ◌*◌, ◌^◌, Bool, true, false, not, ◌&&◌, if◌then◌else◌, List, [], ◌∷◌, length, take, drop, map, slice_index_or}
 use Rattle.esc_base.specs.declared.signal.Frame.{Frame}
 use Rattle.esc_base.specs.declared.signal.Verdict.{Verdict}
 use Rattle.esc_base.specs.declared.signal.Verdict.TheVariants.{Good, Bad}
 use Rattle.esc_base.specs.declared.signal.Why.TheVariants.{Check}
-
-abbrev pub digit : Bool → ℕ
-digit true = 1
-digit false = 0
+use Rattle.esc_base.specs.Bits.{digit, xor}
 
 -- the number that bits stand for
 unfoldable pub number : List Bool → ℕ
 number [] = 0
 number (b ∷ bits) = digit b * 2 ^ length bits + number bits
-
--- the lowest k bits of a number, the most significant first
-unfoldable pub low_bits : ℕ → ℕ → List Bool
-low_bits zero n = []
-low_bits (suc k) n = (n / 2 ^ k % 2 == 1) ∷ low_bits k n
-
-abbrev pub xor : Bool → Bool → Bool
-xor true b = not b
-xor false b = b
 
 -- the exclusive or of two lists of bits, bit by bit
 abbrev pub each_xor : List Bool → List Bool → List Bool

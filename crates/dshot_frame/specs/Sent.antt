@@ -4,7 +4,7 @@ use Rattle.std.specs.List.{AllZip}
 use Rattle.esc_base.specs.declared.signal.Edge.{Edge}
 use Rattle.esc_base.specs.declared.signal.Mode.{Mode}
 use Rattle.edge_capture.specs.Modes.{numbers}
-use Rattle.dshot_frame.specs.Bits.{low_bits}
+use Rattle.esc_base.specs.Bits.{low_bits}
 
 -- how long a bit is active: three eighths of it for a zero, three quarters for a one
 abbrev pub active_width : ℕ → Bool → ℕ

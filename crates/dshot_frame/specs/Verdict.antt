@@ -9,7 +9,8 @@ use Rattle.esc_base.specs.declared.signal.Verdict.TheVariants.{Bad}
 use Rattle.esc_base.specs.declared.signal.Why.TheVariants.{Count, Polarity, Span, Width}
 use Rattle.edge_capture.specs.Edges.{edge_at}
 use Rattle.edge_capture.specs.Modes.{numbers}
-use Rattle.dshot_frame.specs.Bits.{reading, xor}
+use Rattle.esc_base.specs.Bits.{xor}
+use Rattle.dshot_frame.specs.Bits.{reading}
 
 -- where each bit starts
 abbrev pub starts : List Edge → List ℕ

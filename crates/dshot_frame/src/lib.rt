@@ -7,8 +7,6 @@
 
 mod checksum;
 mod judge;
-#[cfg(test)]
-mod tests;
 mod word;
 
 pub use judge::verdict;

@@ -1,5 +1,5 @@
 -- Over a trace: once a window is closed, an event at or after the close changes nothing of its burst.
-use Rattle.std.proofs.Common.{◌≡◌, ◌≤◌, ℕ, Bool, true, false, if◌then◌else◌, List, [], ◌∷◌, ◌++◌, take, Some, refl}
+use Rattle.std.proofs.Common.{◌≡◌, ◌≤◌, ℕ, Bool, true, false, if◌then◌else◌, List, [], ◌∷◌, ◌++◌, Some, refl}
 use Rattle.esc_base.specs.declared.signal.Edge.{Edge}
 use Rattle.esc_base.specs.declared.signal.Mode.{Mode}
 use Rattle.esc_base.specs.declared.event.Event.{Event}
@@ -21,8 +21,3 @@ burst_grows trace (event.Edge t level) w c m h le =
 burst_grows trace (event.Comp t level) w c m h le = rw (line-push trace (event.Comp t level)) refl
 burst_grows trace (event.Serial t byte) w c m h le = rw (line-push trace (event.Serial t byte)) refl
 burst_grows trace (event.Stall t n) w c m h le = rw (line-push trace (event.Stall t n)) refl
-
--- a copy of the front of a closed burst stays a copy
-pub copied_grows : (copied : List Edge) (k : ℕ) (trace : List Event) (e : Event) (w c : ℕ) (m : Mode) → close (line trace).edges w m ≡ Some c → c ≤ tick_of e
-    → copied ≡ take k (burst (line trace).edges w m) → copied ≡ take k (burst (line (trace ++ e ∷ [])).edges w m)
-copied_grows copied k trace e w c m h le is = rw (burst_grows trace e w c m h le) is

@@ -6,7 +6,7 @@ use esc_base::Edge;
 use std::marker::Model;
 
 /// The edges that a window has heard, in their order: at most 32, and their ticks don't fall.
-#[derive(Debug, Drop)]
+#[derive(Drop)]
 pub struct Burst {
     edges: ArrayVec<Edge, 32>,
 }

@@ -22,7 +22,7 @@ pub enum Heard {
 }
 
 /// One window on the signal line: it opens in a mode at a tick, hears edges, and closes.
-#[derive(Debug, Drop)]
+#[derive(Drop)]
 pub struct Capture {
     armed: bool,
     mode: Mode,

@@ -4,8 +4,6 @@
 mod burst;
 mod capture;
 mod modes;
-#[cfg(test)]
-mod tests;
 
 pub use burst::Burst;
 pub use capture::{Capture, Heard};

@@ -4,7 +4,7 @@ ghost use Rattle.edge_capture.specs.Modes.{numbers, dshot as dshot_numbers};
 use esc_base::Mode;
 
 /// What sets a signal mode apart. Times are ticks of 48 MHz.
-#[derive(Clone, Copy, Debug, PartialEq, Eq, Drop)]
+#[derive(Clone, Copy, Drop)]
 pub struct ModeNumbers {
     /// The length of a frame's bit, 160 or 80; 0 in a mode without frames.
     pub bit: u32,

@@ -1,3 +1,4 @@
 pub mod TraceLaws
+pub mod OutsideLaws
 pub mod FlashLaws
 pub mod PeriodLaws

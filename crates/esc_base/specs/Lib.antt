@@ -1,6 +1,7 @@
 pub mod Outside
 pub mod Memory
 pub mod Numbers
+pub mod Bits
 pub mod Times
 pub mod Journal
 pub mod Range

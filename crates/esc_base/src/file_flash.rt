@@ -1,5 +1,5 @@
 //! A flash over an image file.
-ghost use Rattle.std.specs.Prelude.{◌≡◌, ◌≤◌, ◌<◌, ◌+◌, ◌^◌, ℕ, List, Option, None, OnErr, length};
+ghost use Rattle.std.specs.Prelude.{◌≡◌, ◌≤◌, ◌<◌, ◌+◌, ◌^◌, ℕ, List, Option, None, OnOk, OnErr, length};
 ghost use Rattle.esc_base.specs.Flash.{Told};
 ghost use Rattle.esc_base.specs.Outside.{Rose};
 
@@ -73,6 +73,7 @@ impl<'a, R: Files> FileFlash<'a, R> {
 
     /// Counts a failure.
     fn judged(&mut self, answer: Result<(), Failed>) -> Result<(), Failed>
+        ensures fine { OnOk result (self.new.faults ≡ self.old.faults) }
         ensures no_fewer { self.old.faults ≤ self.new.faults }
         ensures failed { OnErr result (Rose self.old.faults self.new.faults) }
     {
@@ -88,10 +89,12 @@ impl<'a, R: Files> FlashDev for FileFlash<'a, R> {
 
     ghost binds = { λ _ _. Unit {0} };
 
+    ghost image = { λ _ _. None };
+
     ghost whole = { λ _. tt };
 
-    fn attach(&mut self, image: Option<&str>) -> Result<(), Failed> {
-        match image {
+    fn attach(&mut self, path: Option<&str>) -> Result<(), Failed> {
+        match path {
             Some(path) => {
                 let answer = self.open(path);
                 self.judged(answer)
@@ -113,10 +116,10 @@ impl<'a, R: Files> FlashDev for FileFlash<'a, R> {
         self.judged(answer)
     }
 
-    fn program(&mut self, at: u16, image: &[u8]) -> Result<(), Failed> {
+    fn program(&mut self, at: u16, bytes: &[u8]) -> Result<(), Failed> {
         let at = at as usize;
-        program_cells(self.cells.as_mut_slice(), at, image);
-        let answer = self.write_back(at, image.len());
+        program_cells(self.cells.as_mut_slice(), at, bytes);
+        let answer = self.write_back(at, bytes.len());
         self.judged(answer)
     }
 }

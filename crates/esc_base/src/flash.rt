@@ -25,11 +25,16 @@ pub trait FlashDev {
     /// Whether it would bind the image at a path, or go on without one.
     ghost binds: { Self → Option (List ℕ) → Type 0 };
 
+    /// Its 32768 bytes once it has bound the image at a path, or goes on without one; where it tells them.
+    ghost image: { Self → Option (List ℕ) → Option (List ℕ) };
+
     /// Binds the image at a path, or leaves the device as it is.
-    fn attach(&mut self, image: Option<&str>) -> Result<(), Failed>
-        ensures bound { OnOk result (binds self.old (option_map (λ path. path.now) image.entry)) }
-        ensures none { IsNone image.entry → (told self.new).bytes ≡ (told self.old).bytes }
+    fn attach(&mut self, path: Option<&str>) -> Result<(), Failed>
+        ensures bound { OnOk result (binds self.old (option_map (λ path. path.now) path.entry)) }
+        ensures image { OnOk result ((told self.new).bytes ≡ image self.old (option_map (λ path. path.now) path.entry)) }
+        ensures none { IsNone path.entry → (told self.new).bytes ≡ (told self.old).bytes }
         ensures unchanged { OnErr result ((told self.new).bytes ≡ (told self.old).bytes) }
+        ensures fine { OnOk result ((told self.new).faults ≡ (told self.old).faults) }
         ensures no_fewer { (told self.old).faults ≤ (told self.new).faults }
         ensures counted { (told self.new).faults < 2 ^ 64 }
         ensures failed { OnErr result (Rose (told self.old).faults (told self.new).faults) };
@@ -39,6 +44,7 @@ pub trait FlashDev {
         requires { at + length buf.old ≤ 32768 }
         ensures read { OnOk result (IsRead (told self.old).bytes at buf.new) }
         ensures unchanged { (told self.new).bytes ≡ (told self.old).bytes }
+        ensures fine { OnOk result ((told self.new).faults ≡ (told self.old).faults) }
         ensures no_fewer { (told self.old).faults ≤ (told self.new).faults }
         ensures counted { (told self.new).faults < 2 ^ 64 }
         ensures failed { OnErr result (Rose (told self.old).faults (told self.new).faults) };
@@ -54,10 +60,10 @@ pub trait FlashDev {
 
     /// Programs the bytes from `at` on: each becomes the bitwise and of the old and the new one. After a
     /// failure they may be any.
-    fn program(&mut self, at: u16, image: &[u8]) -> Result<(), Failed>
-        requires { at + length image.now ≤ 32768 }
-        ensures programmed { OnOk result ((told self.new).bytes ≡ option_map (λ cells. programmed cells at image.now) (told self.old).bytes) }
-        ensures within { OnErr result (ChangesWithin at (length image.now) (told self.old).bytes (told self.new).bytes) }
+    fn program(&mut self, at: u16, bytes: &[u8]) -> Result<(), Failed>
+        requires { at + length bytes.now ≤ 32768 }
+        ensures programmed { OnOk result ((told self.new).bytes ≡ option_map (λ cells. programmed cells at bytes.now) (told self.old).bytes) }
+        ensures within { OnErr result (ChangesWithin at (length bytes.now) (told self.old).bytes (told self.new).bytes) }
         ensures no_fewer { (told self.old).faults ≤ (told self.new).faults }
         ensures counted { (told self.new).faults < 2 ^ 64 }
         ensures failed { OnErr result (Rose (told self.old).faults (told self.new).faults) };
@@ -66,7 +72,7 @@ pub trait FlashDev {
 }
 
 /// A call of a flash, by its kind.
-#[derive(Clone, Copy, Debug, PartialEq, Eq, Drop)]
+#[derive(Clone, Copy, Debug, Drop)]
 pub enum FlashOp {
     Attach,
     Read,
@@ -145,6 +151,7 @@ impl MemFlash {
     /// Counts a failure where the call is to fail.
     fn judged(&mut self, is_to_fail: bool) -> Result<(), Failed>
         ensures fine { OnOk result (is_to_fail ≡ false) }
+        ensures none { OnOk result (self.new.faults ≡ self.old.faults) }
         ensures cells { self.new.cells ≡ self.old.cells }
         ensures no_fewer { self.old.faults ≤ self.new.faults }
         ensures failed { OnErr result (Rose self.old.faults self.new.faults) }
@@ -164,9 +171,11 @@ impl FlashDev for MemFlash {
 
     ghost binds = { λ flash _. SucceedsNext flash FlashOp.Attach };
 
+    ghost image = { λ flash _. Some flash.cells.items };
+
     ghost whole = { λ flash. flash.whole };
 
-    fn attach(&mut self, _image: Option<&str>) -> Result<(), Failed> {
+    fn attach(&mut self, _path: Option<&str>) -> Result<(), Failed> {
         let is_to_fail = self.attach.is_to_fail();
         self.judged(is_to_fail)
     }
@@ -186,10 +195,10 @@ impl FlashDev for MemFlash {
         Ok(())
     }
 
-    fn program(&mut self, at: u16, image: &[u8]) -> Result<(), Failed> {
+    fn program(&mut self, at: u16, bytes: &[u8]) -> Result<(), Failed> {
         let is_to_fail = self.program.is_to_fail();
         self.judged(is_to_fail)?;
-        program_cells(self.cells.as_mut_slice(), at as usize, image);
+        program_cells(self.cells.as_mut_slice(), at as usize, bytes);
         Ok(())
     }
 }

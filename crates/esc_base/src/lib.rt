@@ -6,17 +6,14 @@ mod cells;
 mod event;
 mod file_flash;
 mod flash;
-#[cfg(test)]
-mod flash_tests;
 mod gate;
 mod kind;
 mod memory;
 mod note;
 mod outside;
+mod periods;
 mod signal;
 mod stdio;
-#[cfg(test)]
-mod tests;
 mod tick;
 
 pub use event::{Arrived, Event, Received};
@@ -27,6 +24,7 @@ pub use kind::Kind;
 pub use memory::{MemSink, MemSource};
 pub use note::{Cause, Note};
 pub use outside::{Failed, NoMemory, Sink, Source, raised};
+pub use periods::edges_are_counted;
 pub use signal::{Edge, Frame, Mode, Verdict, Why};
 pub use stdio::{InSource, OutSink};
 pub use tick::Tick;

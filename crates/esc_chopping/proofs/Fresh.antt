@@ -3,6 +3,7 @@ use Rattle.std.proofs.Common.{◌≡◌, ◌≤◌, ◌<◌, ◌+◌, ◌-◌, �
 use Rattle.std.proofs.lemmas.Nat.{mul-le}
 use Rattle.std.proofs.lemmas.Bool.{cases_lt, not-false}
 use Rattle.std.proofs.lemmas.Bool.Decides.{nat_tests}
+use Rattle.esc_base.specs.Times.{most_duty, pwm_period}
 use Rattle.esc_base.specs.Legs.{is_on}
 use Rattle.commutation.specs.Sectors.{high_of}
 use Rattle.esc_chopping.specs.View.{By, View, moved_by, pwm_called, wait_next, is_comm}
@@ -18,11 +19,11 @@ use Rattle.std.proofs.lemmas.Bool.{or_right}
 
 -- ---- an edge calls PWM
 
-edge_counts : (m d edge u t : ℕ) → d ≤ 1900 → IsEdge m d edge → u < edge → edge ≤ t → edges d u < edges d t
+edge_counts : (m d edge u t : ℕ) → d ≤ most_duty → IsEdge m d edge → u < edge → edge ≤ t → edges d u < edges d t
 edge_counts m d edge u t small (inl e) l le = omega arith
 edge_counts m d edge u t small (inr e) l le = omega arith
 
-pub edge_calls : (m d edge t : ℕ) (v : View) → 0 < d → d ≤ 1900 → IsEdge m d edge → v.demand ≡ d → v.pwm ≡ false → v.entered < edge → edge ≤ t
+pub edge_calls : (m d edge t : ℕ) (v : View) → 0 < d → d ≤ most_duty → IsEdge m d edge → v.demand ≡ d → v.pwm ≡ false → v.entered < edge → edge ≤ t
     → pwm_called v t ≡ true
 edge_calls m d edge t v some small is e shut l le =
     let g : edges v.demand v.entered < edges v.demand t = rw e (edge_counts m d edge v.entered t small is l le) in
@@ -63,7 +64,7 @@ left_some cost edge x y v p s = by_open v.pwm refl
     ]
 
 -- what isn't written yet calls PWM, or one of the two is open
-pub not_resting : (cost m d edge x t : ℕ) (v : View) → 0 < d → d ≤ 1900 → IsEdge m d edge → v.demand ≡ d → Stale cost edge x v → edge ≤ t → BothIdle v t → ⊥
+pub not_resting : (cost m d edge x t : ℕ) (v : View) → 0 < d → d ≤ most_duty → IsEdge m d edge → v.demand ≡ d → Stale cost edge x v → edge ≤ t → BothIdle v t → ⊥
 not_resting cost m d edge x t v some small is e s le r =
     let c = edge_calls m d edge t v some small is e r.pwm (s.entered r.pwm) le in
     let f = r.pwm_called in cc
@@ -75,7 +76,7 @@ pub record Within (cost x x' m d s t : ℕ) (v : View) (by : By) (tick : ℕ) (w
   pub next : x' ≡ tick + cost
   pub later : x ≤ tick
   pub by_t : tick ≤ t
-  pub in_period : t < 2000 * m + 2000
+  pub in_period : t < pwm_period * m + pwm_period
   pub demand : v.demand ≡ d
   pub demand_after : w.demand ≡ d
   pub sector : v.sector ≡ s
@@ -89,14 +90,14 @@ pub record Within (cost x x' m d s t : ℕ) (v : View) (by : By) (tick : ℕ) (w
   pub chops : (returns : Bool) → by ≡ PwmSteps returns → v.pwm_own ≡ 4 → Chops v tick w
 
 -- what the write leaves
-rest_is : (m t : ℕ) → 2000 * m ≤ t → t < 2000 * m + 2000 → t % 2000 ≡ t - 2000 * m
+rest_is : (m t : ℕ) → pwm_period * m ≤ t → t < pwm_period * m + pwm_period → t % pwm_period ≡ t - pwm_period * m
 rest_is m t a b = omega arith
 
 chop_level : (cost x x' m d s t edge tick : ℕ) (v w : View) (l : Bool) → IsEdge m d edge → Within cost x x' m d s t v (PwmSteps l) tick w → v.pwm_own ≡ 4
     → edge ≤ v.sampled → v.sampled < t → w.wrote ≡ v.sampled → w.comm ≡ false → Fresh edge m d s t w
 chop_level cost x x' m d s t edge tick v w l is i four ge lt e shut =
     let c = i.chops l refl four in
-    let front : 2000 * m ≤ v.sampled = edge_front is in
+    let front : pwm_period * m ≤ v.sampled = edge_front is in
     let r = rest_is m v.sampled front (let a = i.in_period in omega arith) in
     let dm = i.demand in
     record {
@@ -107,7 +108,7 @@ chop_level cost x x' m d s t edge tick v w l is i four ge lt e shut =
       off = λ h. c.off (omega arith);
     }
   where
-    edge_front : IsEdge m d edge → 2000 * m ≤ v.sampled
+    edge_front : IsEdge m d edge → pwm_period * m ≤ v.sampled
     edge_front (inl f) = omega arith
     edge_front (inr f) = omega arith
 
@@ -148,7 +149,7 @@ abbrev Next : ℕ → ℕ → ℕ → ℕ → ℕ → ℕ → ℕ → View → T
 Next cost edge x' m d s t w = Stale cost edge x' w ⊎ Fresh edge m d s t w
 
 -- one step of COMM less
-comm_on : (cost x x' m d s t edge tick : ℕ) (v w : View) (l : Bool) → 0 < d → d ≤ 1900 → IsEdge m d edge → edge ≤ tick → (tick ≤ x) ⊎ (tick ≤ edge)
+comm_on : (cost x x' m d s t edge tick : ℕ) (v w : View) (l : Bool) → 0 < d → d ≤ most_duty → IsEdge m d edge → edge ≤ tick → (tick ≤ x) ⊎ (tick ≤ edge)
     → Within cost x x' m d s t v (CommSteps l) tick w → Stale cost edge x v → Stale cost edge x' w
 comm_on cost x x' m d s t edge tick v w l some small is ge at i st =
     let o = i.turn.is_open in let few = i.turn.few in
@@ -201,7 +202,7 @@ enter_on cost x x' m d s t edge tick v w at p i st =
     }
 
 -- a step of a lower kind
-lower_on : (cost x x' m d s t edge tick : ℕ) (v w : View) → 0 < d → d ≤ 1900 → IsEdge m d edge → edge ≤ tick → (tick ≤ x) ⊎ (tick ≤ edge) → Placed cost x v
+lower_on : (cost x x' m d s t edge tick : ℕ) (v w : View) → 0 < d → d ≤ most_duty → IsEdge m d edge → edge ≤ tick → (tick ≤ x) ⊎ (tick ≤ edge) → Placed cost x v
     → Within cost x x' m d s t v Lower tick w → Stale cost edge x v → Stale cost edge x' w
 lower_on cost x x' m d s t edge tick v w some small is ge at p i st =
     let z = i.turn.pwm in
@@ -302,7 +303,7 @@ own_on cost x x' m d s t edge tick v w l is one ge at p i st (inr (inr h)) =
       ]
     ]
 
-pub stale_on : (cost x x' m d s t edge tick : ℕ) (v w : View) (by : By) → 0 < d → d ≤ 1900 → IsEdge m d edge → 1 ≤ cost → edge ≤ tick → (tick ≤ x)
+pub stale_on : (cost x x' m d s t edge tick : ℕ) (v w : View) (by : By) → 0 < d → d ≤ most_duty → IsEdge m d edge → 1 ≤ cost → edge ≤ tick → (tick ≤ x)
     ⊎ (tick ≤ edge) → Placed cost x v → Within cost x x' m d s t v by tick w → Stale cost edge x v
     → Next cost edge x' m d s t w
 stale_on cost x x' m d s t edge tick v w CommEnters some small is one ge at p i st = absurd (i.none_enters refl)

@@ -2,6 +2,7 @@
 use Rattle.std.proofs.Common.{◌≡◌, ◌≤◌, ◌<◌, ◌+◌, ◌-◌, ◌*◌, ◌⊎◌, inl, inr, ℕ, Bool, true, false, not, if◌then◌else◌, ◌==◌, List, [], ◌∷◌, ◌++◌, refl, sym, ◌∙◌, ap, subst, arith, append_assoc, append-nil}
 use Rattle.std.proofs.lemmas.Nat.{mul-le}
 use Rattle.std.proofs.lemmas.Bool.{cases_lt}
+use Rattle.esc_base.specs.Times.{chopping_steps, most_duty, pwm_period}
 use Rattle.esc_base.specs.declared.event.Event.{Event}
 use Rattle.esc_laws.specs.Steps.{free, Turned, after, EachStep}
 use Rattle.esc_chopping.specs.View.{By, View, view, moved_by, by_of, pwm_called, wait_next, is_comm}
@@ -75,18 +76,18 @@ moved_early v t edge (PwmSteps l) a b c = (a, test (v.pwm_own == 1))
 moved_early v t edge Lower a b c = (a, b)
 
 module _ (cost : ℕ) (trace : List Event) (log : List Turned) (m d s until t edge : ℕ) (one : 1 ≤ cost) (few : cost ≤ 16) (u : Calm cost trace log m d s)
-    (is : IsEdge m d edge) (in_period : t < 2000 * m + 2000) (below : t < until) (late : edge + 48 * cost ≤ t) where
-  edge_in : IsEdge m d edge → (2000 * m ≤ edge) × (edge ≤ 2000 * m + d)
+    (is : IsEdge m d edge) (in_period : t < pwm_period * m + pwm_period) (below : t < until) (late : edge + chopping_steps * cost ≤ t) where
+  edge_in : IsEdge m d edge → (pwm_period * m ≤ edge) × (edge ≤ pwm_period * m + d)
   edge_in (inl e) = (omega arith, omega arith)
   edge_in (inr e) = (omega arith, omega arith)
 
-  free_in : (y : ℕ) → 2000 * m ≤ y → y < 2000 * m + 2000 → free trace y ≡ y
-  free_in y a b = free_same trace (2000 * m - 48 * cost) (2000 * m + 1999) y u.stalls (omega arith) (omega arith)
+  free_in : (y : ℕ) → pwm_period * m ≤ y → y < pwm_period * m + pwm_period → free trace y ≡ y
+  free_in y a b = free_same trace (pwm_period * m - chopping_steps * cost) (pwm_period * m + (pwm_period - 1)) y u.stalls (omega arith) (omega arith)
 
   -- the tick of the next step, as far as the period reaches
   pub record Clock (before : List Turned) (x : ℕ) : Type 0 where
     pub le : x ≤ after cost trace before
-    pub same : x < 2000 * m + 2000 → after cost trace before ≡ x
+    pub same : x < pwm_period * m + pwm_period → after cost trace before ≡ x
 
   pub record IsStale (before : List Turned) : Type 0 where
     pub x : ℕ
@@ -110,7 +111,7 @@ module _ (cost : ℕ) (trace : List Event) (log : List Turned) (m d s until t ed
 
   -- while it isn't written no tick is passed over
   not_passed : (before : List Turned) (z y : ℕ) → NonePassed cost trace before z → (view before).demand ≡ d → (i : IsStale before) → i.x ≤ y → edge ≤ y
-      → y < z → y < 2000 * m + 2000 → ⊥
+      → y < z → y < pwm_period * m + pwm_period → ⊥
   not_passed before z y none dem i a b c f =
       let p = edge_in is in
       let same : after cost trace before ≡ i.x = i.clock.same (omega arith) in
@@ -143,16 +144,16 @@ module _ (cost : ℕ) (trace : List Event) (log : List Turned) (m d s until t ed
 
   -- ---- what the period says at a step
 
-  demand_at : (w : ℕ) (before rest : List Turned) → log ≡ before ++ rest → AllBy w before → FirstAbove w rest → 2000 * m ≤ w + 48 * cost → w < 2000 * m + 2000
+  demand_at : (w : ℕ) (before rest : List Turned) → log ≡ before ++ rest → AllBy w before → FirstAbove w rest → pwm_period * m ≤ w + chopping_steps * cost → w < pwm_period * m + pwm_period
       → (view before).demand ≡ d
   demand_at w before rest e b f lo hi = subst (λ (v : View). v.demand ≡ d) (at_split w log before rest e b f) (u.demand w lo hi)
 
   within : (before rest : List Turned) (e : Turned) → log ≡ before ++ (e ∷ rest) → EachStep (StepMade cost trace) before (e ∷ rest) → DriveFits before e
-      → NoComm (2000 * m) before e → Past cost trace before → edge ≤ e.tick → e.tick ≤ t
+      → NoComm (pwm_period * m) before e → Past cost trace before → edge ≤ e.tick → e.tick ≤ t
       → Within cost (after cost trace before) (e.tick + cost) m d s t (view before) (by_of e) e.tick (view (before ++ e ∷ []))
   within before rest e h f g none past ge le =
       let q = edge_in is in
-      let front : 2000 * m ≤ e.tick = (let a = q.0 in omega arith) in
+      let front : pwm_period * m ≤ e.tick = (let a = q.0 in omega arith) in
       let later = f.0.later in
       let w : ℕ = e.tick - 1 in
       let up : w + 1 ≡ e.tick = (let a = u.later in omega arith) in
@@ -193,11 +194,11 @@ module _ (cost : ℕ) (trace : List Event) (log : List Turned) (m d s until t ed
       record {
         entered = rw (same.entered) mv.0;
         sampled = rw (same.sampled) mv.1;
-        soon = rw (after-push cost trace before e) (elim (cases_lt (e.tick + cost) (2000 * m - 48 * cost)) [
-          | inl l ↦ (let a : free trace (e.tick + cost) ≤ 2000 * m - 48 * cost =
-              free_low trace (2000 * m - 48 * cost) (2000 * m + 1999) (e.tick + cost) u.stalls (omega arith) (omega arith) in let b = q.0 in omega arith)
-          | inr g ↦ (let b : edge ≤ 2000 * m + d = q.1 in let c : d ≤ 1900 = u.duty in let a : free trace (e.tick + cost) ≡ e.tick + cost =
-              free_same trace (2000 * m - 48 * cost) (2000 * m + 1999) (e.tick + cost) u.stalls g (omega arith) in omega arith)
+        soon = rw (after-push cost trace before e) (elim (cases_lt (e.tick + cost) (pwm_period * m - chopping_steps * cost)) [
+          | inl l ↦ (let a : free trace (e.tick + cost) ≤ pwm_period * m - chopping_steps * cost =
+              free_low trace (pwm_period * m - chopping_steps * cost) (pwm_period * m + (pwm_period - 1)) (e.tick + cost) u.stalls (omega arith) (omega arith) in let b = q.0 in omega arith)
+          | inr g ↦ (let b : edge ≤ pwm_period * m + d = q.1 in let c : d ≤ most_duty = u.duty in let a : free trace (e.tick + cost) ≡ e.tick + cost =
+              free_same trace (pwm_period * m - chopping_steps * cost) (pwm_period * m + (pwm_period - 1)) (e.tick + cost) u.stalls g (omega arith) in omega arith)
         ]);
       }
 
@@ -205,19 +206,19 @@ module _ (cost : ℕ) (trace : List Event) (log : List Turned) (m d s until t ed
   clock_on : (before : List Turned) (e : Turned) → edge ≤ e.tick → Clock (before ++ e ∷ []) (e.tick + cost)
   clock_on before e ge =
       let q = edge_in is in
-      let a : 2000 * m ≤ edge = q.0 in
+      let a : pwm_period * m ≤ edge = q.0 in
       record {
         le = rw (after-push cost trace before e) (free_later trace (e.tick + cost));
         same = λ l. rw (after-push cost trace before e) (free_in (e.tick + cost) (omega arith) l);
       }
 
   stale_step : (before rest : List Turned) (e : Turned) → log ≡ before ++ (e ∷ rest) → EachStep (StepMade cost trace) before (e ∷ rest) → DriveFits before e
-      → NoComm (2000 * m) before e → Past cost trace before
+      → NoComm (pwm_period * m) before e → Past cost trace before
       → Placed cost (after cost trace before) (view before) → edge ≤ e.tick → e.tick ≤ t → IsStale before → IsStale (before ++ e ∷ [])
       ⊎ Written (before ++ e ∷ [])
   stale_step before rest e h f g none past p ge le i =
       let q = edge_in is in
-      let a : 2000 * m ≤ edge = q.0 in
+      let a : pwm_period * m ≤ edge = q.0 in
       let w = within before rest e h f g none past ge le in
       let later : after cost trace before ≤ e.tick = f.0.later in
       let lex = i.clock.le in
@@ -232,7 +233,7 @@ module _ (cost : ℕ) (trace : List Event) (log : List Turned) (m d s until t ed
       ]
 
   pub run : (before rest : List Turned) → log ≡ before ++ rest → EachStep (StepMade cost trace) before rest → EachStep DriveFits before rest
-      → EachStep (NoComm (2000 * m)) before rest → NonePassed cost trace log until → Past cost trace before
+      → EachStep (NoComm (pwm_period * m)) before rest → NonePassed cost trace log until → Past cost trace before
       → Placed cost (after cost trace before) (view before) → AllBy t before → State before → Fresh edge m d s t (at_tick t log)
   run before [] h f g none all_made past p all st = subst (λ (v : View). Fresh edge m d s t v) (sym (at_split t log before [] h all tt)) (ends st)
     where
@@ -240,7 +241,7 @@ module _ (cost : ℕ) (trace : List Event) (log : List Turned) (m d s until t ed
       whole = h ∙ append-nil before
 
       dem : (view before).demand ≡ d
-      dem = let q = edge_in is in let a : 2000 * m ≤ edge = q.0 in demand_at t before [] h all tt (omega arith) in_period
+      dem = let q = edge_in is in let a : pwm_period * m ≤ edge = q.0 in demand_at t before [] h all tt (omega arith) in_period
 
       ends : State before → Fresh edge m d s t (view before)
       ends (inl y) =
@@ -254,7 +255,7 @@ module _ (cost : ℕ) (trace : List Event) (log : List Turned) (m d s until t ed
   ]
     where
       dem : t < e.tick → (view before).demand ≡ d
-      dem lt = let q = edge_in is in let a : 2000 * m ≤ edge = q.0 in demand_at t before (e ∷ rest) h all lt (omega arith) in_period
+      dem lt = let q = edge_in is in let a : pwm_period * m ≤ edge = q.0 in demand_at t before (e ∷ rest) h all lt (omega arith) in_period
 
       ends : t < e.tick → State before → Fresh edge m d s t (view before)
       ends lt (inl y) = absurd (stale_ends before e.tick f.0.none_passed (dem lt) p lt (early_is before p y))

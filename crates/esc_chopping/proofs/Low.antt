@@ -2,6 +2,7 @@
 use Rattle.std.proofs.Common.{◌≡◌, ◌≤◌, ◌<◌, ◌+◌, ◌-◌, ◌*◌, ◌⊎◌, inl, inr, ℕ, Bool, true, false, List, [], ◌∷◌, ◌++◌, refl, sym, ◌∙◌, subst, arith, append-nil}
 use Rattle.std.proofs.lemmas.Nat.{mul-le}
 use Rattle.std.proofs.lemmas.Bool.{cases_lt}
+use Rattle.esc_base.specs.Times.{chopping_steps, pwm_period}
 use Rattle.esc_base.specs.Legs.{is_on}
 use Rattle.commutation.specs.Sectors.{low_of}
 use Rattle.esc_base.specs.declared.event.Event.{Event}
@@ -56,25 +57,25 @@ not_comm v (PwmSteps l) turn e = refl
 not_comm v Lower turn e = refl
 
 module _ (cost : ℕ) (trace : List Event) (log : List Turned) (m d s until t : ℕ) (one : 1 ≤ cost) (few : cost ≤ 16) (u : Calm cost trace log m d s)
-    (in_period : t < 2000 * m + 2000) (below : t < until) (late : 2000 * m + 48 * cost ≤ t) where
-  free_in : (y : ℕ) → 2000 * m ≤ y → y < 2000 * m + 2000 → free trace y ≡ y
-  free_in y a b = free_same trace (2000 * m - 48 * cost) (2000 * m + 1999) y u.stalls (omega arith) (omega arith)
+    (in_period : t < pwm_period * m + pwm_period) (below : t < until) (late : pwm_period * m + chopping_steps * cost ≤ t) where
+  free_in : (y : ℕ) → pwm_period * m ≤ y → y < pwm_period * m + pwm_period → free trace y ≡ y
+  free_in y a b = free_same trace (pwm_period * m - chopping_steps * cost) (pwm_period * m + (pwm_period - 1)) y u.stalls (omega arith) (omega arith)
 
   -- an open COMM returns within 24 steps
   pub record Before (before : List Turned) : Type 0 where
     pub c : ℕ
-    pub left : (view before).comm ≡ true → (24 ≤ (view before).comm_own + c) × (after cost trace before + c * cost < 2000 * m + 25 * cost)
+    pub left : (view before).comm ≡ true → (24 ≤ (view before).comm_own + c) × (after cost trace before + c * cost < pwm_period * m + 25 * cost)
         × (c * cost < 25 * cost)
-    pub soon : after cost trace before < 2000 * m + 40 * cost
+    pub soon : after cost trace before < pwm_period * m + 40 * cost
 
   -- the low switch is off, and calls COMM
   pub record Waiting (before : List Turned) : Type 0 where
     pub x : ℕ
     pub le : x ≤ after cost trace before
-    pub same : x < 2000 * m + 2000 → after cost trace before ≡ x
+    pub same : x < pwm_period * m + pwm_period → after cost trace before ≡ x
     pub r : ℕ
     pub counts : 9 ≤ (view before).comm_waits + r
-    pub by_next : x + r * cost < 2000 * m + 49 * cost
+    pub by_next : x + r * cost < pwm_period * m + 49 * cost
     pub by_start : r * cost < 10 * cost
     pub off : is_on (view before).lo (low_of s) ≡ false
     pub shut : (view before).comm ≡ false
@@ -87,32 +88,32 @@ module _ (cost : ℕ) (trace : List Event) (log : List Turned) (m d s until t : 
   record Inside (w : ℕ) (before : List Turned) : Type 0 where
     pub demand : (view before).demand ≡ d
     pub sector : (view before).sector ≡ s
-    pub low_free : at_leg (view before).hi_free (low_of s) ≤ 2000 * m + 39
+    pub low_free : at_leg (view before).hi_free (low_of s) ≤ pwm_period * m + 39
 
-  inside : (w : ℕ) (before rest : List Turned) → log ≡ before ++ rest → AllBy w before → FirstAbove w rest → 2000 * m ≤ w + 1 → w < 2000 * m + 2000
+  inside : (w : ℕ) (before rest : List Turned) → log ≡ before ++ rest → AllBy w before → FirstAbove w rest → pwm_period * m ≤ w + 1 → w < pwm_period * m + pwm_period
       → Inside w before
-  inside w before rest e b f lo hi = named (subst (λ (v : View). (v.demand ≡ d) × (v.sector ≡ s) × (at_leg v.hi_free (low_of s) ≤ 2000 * m + 39))
+  inside w before rest e b f lo hi = named (subst (λ (v : View). (v.demand ≡ d) × (v.sector ≡ s) × (at_leg v.hi_free (low_of s) ≤ pwm_period * m + 39))
       (at_split w log before rest e b f) (u.demand w (omega arith) hi, u.sector w lo hi, u.low_free w lo hi))
     where
-      named : ((view before).demand ≡ d) × ((view before).sector ≡ s) × (at_leg (view before).hi_free (low_of s) ≤ 2000 * m + 39) → Inside w before
+      named : ((view before).demand ≡ d) × ((view before).sector ≡ s) × (at_leg (view before).hi_free (low_of s) ≤ pwm_period * m + 39) → Inside w before
       named h = record { demand = h.0; sector = h.1; low_free = h.2 }
 
   abbrev pub State : List Turned → Type 0
-  State before = Before before ⊎ ((2000 * m + 39 * cost ≤ after cost trace before) × (Waiting before ⊎ Done before))
+  State before = Before before ⊎ ((pwm_period * m + 39 * cost ≤ after cost trace before) × (Waiting before ⊎ Done before))
 
   -- an open COMM passes no tick
-  open_passes : (before : List Turned) (z y : ℕ) → NonePassed cost trace before z → (view before).comm ≡ true → after cost trace before ≤ y → 2000 * m ≤ y
-      → y < z → y < 2000 * m + 2000 → ⊥
+  open_passes : (before : List Turned) (z y : ℕ) → NonePassed cost trace before z → (view before).comm ≡ true → after cost trace before ≤ y → pwm_period * m ≤ y
+      → y < z → y < pwm_period * m + pwm_period → ⊥
   open_passes before z y none o a b c f = let r = (none y a c (free_in y b f)).comm in cc
 
   -- so it is shut by then
-  shut_by : (before : List Turned) (z : ℕ) → NonePassed cost trace before z → 2000 * m + 39 * cost ≤ z → Before before → (v : Bool) → (view before).comm ≡ v
+  shut_by : (before : List Turned) (z : ℕ) → NonePassed cost trace before z → pwm_period * m + 39 * cost ≤ z → Before before → (v : Bool) → (view before).comm ≡ v
       → (view before).comm ≡ false
   shut_by before z none le b false e = e
   shut_by before z none le b true e =
-      let l : after cost trace before + b.c * cost < 2000 * m + 25 * cost = (b.left e).1 in
-      absurd (elim (cases_lt (after cost trace before) (2000 * m)) [
-        | inl lt ↦ open_passes before z (2000 * m) none e (omega arith) (omega arith) (omega arith) (omega arith)
+      let l : after cost trace before + b.c * cost < pwm_period * m + 25 * cost = (b.left e).1 in
+      absurd (elim (cases_lt (after cost trace before) (pwm_period * m)) [
+        | inl lt ↦ open_passes before z (pwm_period * m) none e (omega arith) (omega arith) (omega arith) (omega arith)
         | inr ge ↦ open_passes before z (after cost trace before) none e (omega arith) ge (omega arith) (omega arith)
       ])
 
@@ -133,10 +134,10 @@ module _ (cost : ℕ) (trace : List Event) (log : List Turned) (m d s until t : 
   })
 
   wait_passes : (before : List Turned) (z y w : ℕ) → NonePassed cost trace before z → Inside w before → (i : Waiting before) → i.x ≤ y
-      → 2000 * m + 39 * cost ≤ y → y < z → y < 2000 * m + 2000 → ⊥
+      → pwm_period * m + 39 * cost ≤ y → y < z → y < pwm_period * m + pwm_period → ⊥
   wait_passes before z y w none n i a b c f =
       let same : after cost trace before ≡ i.x = i.same (omega arith) in
-      let call = low_calls d s (2000 * m + 39) y (view before) u.drives n.demand n.sector i.off n.low_free (omega arith) i.shut in
+      let call = low_calls d s (pwm_period * m + 39) y (view before) u.drives n.demand n.sector i.off n.low_free (omega arith) i.shut in
       let r = (none y (omega arith) c (free_in y (omega arith) f)).comm_called in cc
 
   -- it doesn't wait for long
@@ -145,20 +146,20 @@ module _ (cost : ℕ) (trace : List Event) (log : List Turned) (m d s until t : 
   wait_ends before z w none n p l i =
       let some : 1 ≤ i.r = (let a = p.comm_patient in let b = i.counts in omega arith) in
       let g : 1 * cost ≤ i.r * cost = mul-le 1 cost i.r cost some (omega arith) in
-      let b : i.x + i.r * cost < 2000 * m + 49 * cost = i.by_next in
-      elim (cases_lt i.x (2000 * m + 39 * cost)) [
-        | inl lt ↦ wait_passes before z (2000 * m + 39 * cost) w none n i (omega arith) (omega arith) (omega arith) (omega arith)
+      let b : i.x + i.r * cost < pwm_period * m + 49 * cost = i.by_next in
+      elim (cases_lt i.x (pwm_period * m + 39 * cost)) [
+        | inl lt ↦ wait_passes before z (pwm_period * m + 39 * cost) w none n i (omega arith) (omega arith) (omega arith) (omega arith)
         | inr ge ↦ wait_passes before z i.x w none n i (omega arith) ge (omega (arith, g)) (omega (arith, g))
       ]
 
   at_next : (before : List Turned) (z w : ℕ) → NonePassed cost trace before z → Inside w before → (i : Waiting before) → z ≤ t → (z ≤ i.x)
-      ⊎ (z ≤ 2000 * m + 39 * cost)
+      ⊎ (z ≤ pwm_period * m + 39 * cost)
   at_next before z w none n i le = elim (cases_lt i.x z) [
     | inr a ↦ inl a
-    | inl a ↦ elim (cases_lt (2000 * m + 39 * cost) z) [
+    | inl a ↦ elim (cases_lt (pwm_period * m + 39 * cost) z) [
       | inr b ↦ inr b
-      | inl b ↦ absurd (elim (cases_lt i.x (2000 * m + 39 * cost)) [
-        | inl c ↦ wait_passes before z (2000 * m + 39 * cost) w none n i (omega arith) (omega arith) b (omega arith)
+      | inl b ↦ absurd (elim (cases_lt i.x (pwm_period * m + 39 * cost)) [
+        | inl c ↦ wait_passes before z (pwm_period * m + 39 * cost) w none n i (omega arith) (omega arith) b (omega arith)
         | inr c ↦ wait_passes before z i.x w none n i (omega arith) c a (omega arith)
       ])
     ]
@@ -171,7 +172,7 @@ module _ (cost : ℕ) (trace : List Event) (log : List Turned) (m d s until t : 
     pub none_enters : by_of e ≡ CommEnters → ⊥
 
   steps : (before rest : List Turned) (e : Turned) → log ≡ before ++ (e ∷ rest) → EachStep (StepMade cost trace) before (e ∷ rest)
-      → NoComm (2000 * m) before e → Past cost trace before → 2000 * m ≤ e.tick → e.tick ≤ t → Steps before e
+      → NoComm (pwm_period * m) before e → Past cost trace before → pwm_period * m ≤ e.tick → e.tick ≤ t → Steps before e
   steps before rest e h f none past ge le =
       let later = f.0.later in
       let w : ℕ = e.tick - 1 in
@@ -194,15 +195,15 @@ module _ (cost : ℕ) (trace : List Event) (log : List Turned) (m d s until t : 
 
   -- a step before p + 39 cost
   early_step : (before rest : List Turned) (e : Turned) → log ≡ before ++ (e ∷ rest) → EachStep (StepMade cost trace) before (e ∷ rest)
-      → NoComm (2000 * m) before e → Past cost trace before → e.tick < 2000 * m + 39 * cost → e.tick ≤ t → Before before → Before (before ++ e ∷ [])
-  early_step before rest e h f none past lt le b = elim (cases_lt e.tick (2000 * m)) [
+      → NoComm (pwm_period * m) before e → Past cost trace before → e.tick < pwm_period * m + 39 * cost → e.tick ≤ t → Before before → Before (before ++ e ∷ [])
+  early_step before rest e h f none past lt le b = elim (cases_lt e.tick (pwm_period * m)) [
     | inl l ↦ (
-        let x : after cost trace (before ++ e ∷ []) < 2000 * m + cost =
-        rw (after-push cost trace before e) (elim (cases_lt (e.tick + cost) (2000 * m - 48 * cost)) [
-          | inl q ↦ (let a : free trace (e.tick + cost) ≤ 2000 * m - 48 * cost =
-              free_low trace (2000 * m - 48 * cost) (2000 * m + 1999) (e.tick + cost) u.stalls (omega arith) (omega arith) in omega arith)
+        let x : after cost trace (before ++ e ∷ []) < pwm_period * m + cost =
+        rw (after-push cost trace before e) (elim (cases_lt (e.tick + cost) (pwm_period * m - chopping_steps * cost)) [
+          | inl q ↦ (let a : free trace (e.tick + cost) ≤ pwm_period * m - chopping_steps * cost =
+              free_low trace (pwm_period * m - chopping_steps * cost) (pwm_period * m + (pwm_period - 1)) (e.tick + cost) u.stalls (omega arith) (omega arith) in omega arith)
           | inr g ↦ (let a : free trace (e.tick + cost) ≡ e.tick + cost =
-              free_same trace (2000 * m - 48 * cost) (2000 * m + 1999) (e.tick + cost) u.stalls g (omega arith) in omega arith)
+              free_same trace (pwm_period * m - chopping_steps * cost) (pwm_period * m + (pwm_period - 1)) (e.tick + cost) u.stalls g (omega arith) in omega arith)
         ]) in
         record { c = 24; left = λ o. (omega arith, omega arith, omega arith); soon = omega arith })
     | inr ge ↦ (
@@ -215,11 +216,11 @@ module _ (cost : ℕ) (trace : List Event) (log : List Turned) (m d s until t : 
           left = λ o. (
               let was : (view before).comm ≡ true = was_open (view before).comm refl cl o in
               let old = b.left was in let own = cl.more was in
-              let bound : after cost trace before + b.c * cost < 2000 * m + 25 * cost = old.1 in
+              let bound : after cost trace before + b.c * cost < pwm_period * m + 25 * cost = old.1 in
               let old0 : 24 ≤ (view before).comm_own + b.c = old.0 in
               let own0 : (view (before ++ e ∷ [])).comm_own ≡ (view before).comm_own + 1 = own.0 in
               let own1 : (view before).comm_own + 1 ≤ 24 = own.1 in
-              let at : (e.tick ≤ after cost trace before) ⊎ (e.tick ≤ 2000 * m) = next_is was in
+              let at : (e.tick ≤ after cost trace before) ⊎ (e.tick ≤ pwm_period * m) = next_is was in
               let l = less cost (b.c - 1) b.c (omega arith) in
               let start : b.c * cost < 25 * cost = old.2 in
               (omega arith, goes (e.tick) l at bound start x, omega arith));
@@ -232,27 +233,27 @@ module _ (cost : ℕ) (trace : List Event) (log : List Turned) (m d s until t : 
       was_open true q cl o = q
       was_open false q cl o = absurd (let a = cl.shut q in cc)
 
-      next_is : (view before).comm ≡ true → (e.tick ≤ after cost trace before) ⊎ (e.tick ≤ 2000 * m)
+      next_is : (view before).comm ≡ true → (e.tick ≤ after cost trace before) ⊎ (e.tick ≤ pwm_period * m)
       next_is o = elim (cases_lt (after cost trace before) e.tick) [
         | inr a ↦ inl a
-        | inl a ↦ elim (cases_lt (2000 * m) e.tick) [
+        | inl a ↦ elim (cases_lt (pwm_period * m) e.tick) [
           | inr q ↦ inr q
-          | inl q ↦ absurd (elim (cases_lt (after cost trace before) (2000 * m)) [
-            | inl y ↦ open_passes before e.tick (2000 * m) f.0.none_passed o (omega arith) (omega arith) q (omega arith)
+          | inl q ↦ absurd (elim (cases_lt (after cost trace before) (pwm_period * m)) [
+            | inl y ↦ open_passes before e.tick (pwm_period * m) f.0.none_passed o (omega arith) (omega arith) q (omega arith)
             | inr y ↦ open_passes before e.tick (after cost trace before) f.0.none_passed o (omega arith) y a (omega arith)
           ])
         ]
       ]
 
-      goes : (tick : ℕ) → (b.c - 1) * cost + cost ≤ b.c * cost → (tick ≤ after cost trace before) ⊎ (tick ≤ 2000 * m)
-          → after cost trace before + b.c * cost < 2000 * m + 25 * cost → b.c * cost < 25 * cost → after cost trace (before ++ e ∷ []) ≡ tick + cost
-          → after cost trace (before ++ e ∷ []) + (b.c - 1) * cost < 2000 * m + 25 * cost
+      goes : (tick : ℕ) → (b.c - 1) * cost + cost ≤ b.c * cost → (tick ≤ after cost trace before) ⊎ (tick ≤ pwm_period * m)
+          → after cost trace before + b.c * cost < pwm_period * m + 25 * cost → b.c * cost < 25 * cost → after cost trace (before ++ e ∷ []) ≡ tick + cost
+          → after cost trace (before ++ e ∷ []) + (b.c - 1) * cost < pwm_period * m + 25 * cost
       goes tick l (inl a) q z x = omega arith
       goes tick l (inr a) q z x = omega arith
 
   -- a step from p + 39 cost on
   late_step : (before rest : List Turned) (e : Turned) → log ≡ before ++ (e ∷ rest) → EachStep (StepMade cost trace) before (e ∷ rest) → DriveFits before e
-      → NoComm (2000 * m) before e → Past cost trace before → 2000 * m + 39 * cost ≤ e.tick → e.tick ≤ t
+      → NoComm (pwm_period * m) before e → Past cost trace before → pwm_period * m + 39 * cost ≤ e.tick → e.tick ≤ t
       → Placed cost (after cost trace before) (view before) → Waiting before ⊎ Done before → Waiting (before ++ e ∷ []) ⊎ Done (before ++ e ∷ [])
   late_step before rest e h f g none past ge le p st =
       let s' = steps before rest e h f none past (omega arith) le in
@@ -269,8 +270,8 @@ module _ (cost : ℕ) (trace : List Event) (log : List Turned) (m d s until t : 
           let same = g.quiet_low some (not_comm (view before) (by_of e) f.0.turn i.shut) in
           let off : is_on (view (before ++ e ∷ [])).lo (low_of s) ≡ false = rw same i.off in
           let n = s'.inside in let n' = s'.inside_after in
-          let c1 = low_calls d s (2000 * m + 39) e.tick (view before) u.drives n.demand n.sector i.off n.low_free (omega arith) i.shut in
-          let c2 = low_calls d s (2000 * m + 39) e.tick (view (before ++ e ∷ [])) u.drives n'.demand n'.sector off n'.low_free (omega arith) (cl.shut i.shut) in
+          let c1 = low_calls d s (pwm_period * m + 39) e.tick (view before) u.drives n.demand n.sector i.off n.low_free (omega arith) i.shut in
+          let c2 = low_calls d s (pwm_period * m + 39) e.tick (view (before ++ e ∷ [])) u.drives n'.demand n'.sector off n'.low_free (omega arith) (cl.shut i.shut) in
           let more : (view (before ++ e ∷ [])).comm_waits ≡ (view before).comm_waits + 1 = waits_after before e
           ∙ both_called (comm_called (view before) e.tick) (comm_called (view (before ++ e ∷ [])) e.tick) (view before).comm_waits c1 c2 in
           let pat = p.comm_patient in
@@ -289,13 +290,13 @@ module _ (cost : ℕ) (trace : List Event) (log : List Turned) (m d s until t : 
             shut = cl.shut i.shut;
           })
         where
-          goes : (tick x r r' : ℕ) → r * cost + cost ≤ r' * cost → (tick ≤ x) ⊎ (tick ≤ 2000 * m + 39 * cost) → x + r' * cost < 2000 * m + 49 * cost
-              → r' * cost < 10 * cost → tick + cost + r * cost < 2000 * m + 49 * cost
+          goes : (tick x r r' : ℕ) → r * cost + cost ≤ r' * cost → (tick ≤ x) ⊎ (tick ≤ pwm_period * m + 39 * cost) → x + r' * cost < pwm_period * m + 49 * cost
+              → r' * cost < 10 * cost → tick + cost + r * cost < pwm_period * m + 49 * cost
           goes tick x r r' l (inl a) q z = omega arith
           goes tick x r r' l (inr a) q z = omega arith
 
   pub low_run : (before rest : List Turned) → log ≡ before ++ rest → EachStep (StepMade cost trace) before rest → EachStep DriveFits before rest
-      → EachStep (NoComm (2000 * m)) before rest → NonePassed cost trace log until → Past cost trace before
+      → EachStep (NoComm (pwm_period * m)) before rest → NonePassed cost trace log until → Past cost trace before
       → Placed cost (after cost trace before) (view before) → AllBy t before → State before → is_on (at_tick t log).lo (low_of s) ≡ true
   low_run before [] h f g none made past p all st =
       subst (λ (v : View). is_on v.lo (low_of s) ≡ true) (sym (at_split t log before [] h all tt)) (ends st)
@@ -328,11 +329,11 @@ module _ (cost : ℕ) (trace : List Event) (log : List Turned) (m d s until t : 
           (is_on (view before).lo (low_of s)) refl)
       ends lt (inr (a, y)) = by lt y
 
-      above : 2000 * m + 39 * cost ≤ e.tick → 2000 * m + 39 * cost ≤ after cost trace (before ++ e ∷ [])
+      above : pwm_period * m + 39 * cost ≤ e.tick → pwm_period * m + 39 * cost ≤ after cost trace (before ++ e ∷ [])
       above ge = let l = free_later trace (e.tick + cost) in rw (after-push cost trace before e) (omega arith)
 
       goes : e.tick ≤ t → State before → State (before ++ e ∷ [])
-      goes le (inl b) = elim (cases_lt e.tick (2000 * m + 39 * cost)) [
+      goes le (inl b) = elim (cases_lt e.tick (pwm_period * m + 39 * cost)) [
         | inl l ↦ inl (early_step before rest e h f none.0 past l le b)
         | inr ge ↦ inr (
           above ge,
@@ -342,5 +343,5 @@ module _ (cost : ℕ) (trace : List Event) (log : List Turned) (m d s until t : 
       ]
       goes le (inr (a, y)) =
           let l : after cost trace before ≤ e.tick = f.0.later in
-          let ge : 2000 * m + 39 * cost ≤ e.tick = omega arith in
+          let ge : pwm_period * m + 39 * cost ≤ e.tick = omega arith in
           inr (above ge, late_step before rest e h f g.0 none.0 past ge le p y)

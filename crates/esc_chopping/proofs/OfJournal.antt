@@ -4,6 +4,7 @@ use Rattle.std.specs.List.{fold}
 use Rattle.std.proofs.lemmas.List.{reverse-append}
 use Rattle.std.proofs.lemmas.List.Elements.{All-head, All-tail, All-nil, All-cons}
 use Rattle.std.proofs.lemmas.Bool.{cases_lt}
+use Rattle.esc_base.specs.Times.{chopping_steps, most_duty, pwm_period}
 use Rattle.esc_base.specs.declared.gate.Leg.{Leg}
 use Rattle.esc_base.specs.declared.gate.Leg.TheVariants as leg
 use Rattle.esc_base.specs.declared.kind.Kind.{Kind}
@@ -138,14 +139,14 @@ made_upto cost trace t before (e ∷ rest) f g = elim (cases_lt t e.tick) [
 
 abbrev NoneWithin : ℕ → List Note → Type 0
 NoneWithin p [] = Unit {0}
-NoneWithin p (n ∷ notes) = (p ≤ time_of n → time_of n < p + 2000 → disturbs n ≡ false) × NoneWithin p notes
+NoneWithin p (n ∷ notes) = (p ≤ time_of n → time_of n < p + pwm_period → disturbs n ≡ false) × NoneWithin p notes
 
-none_of : (p : ℕ) (notes : List Note) → All (λ n. p ≤ time_of n → time_of n < p + 2000 → disturbs n ≡ false) notes → NoneWithin p notes
+none_of : (p : ℕ) (notes : List Note) → All (λ n. p ≤ time_of n → time_of n < p + pwm_period → disturbs n ≡ false) notes → NoneWithin p notes
 none_of p [] a = tt
 none_of p (n ∷ notes) a = (
-  All-head (λ x. p ≤ time_of x → time_of x < p + 2000 → disturbs x ≡ false) n notes a,
+  All-head (λ x. p ≤ time_of x → time_of x < p + pwm_period → disturbs x ≡ false) n notes a,
   none_of p notes
-      (All-tail (λ x. p ≤ time_of x → time_of x < p + 2000 → disturbs x ≡ false) n notes a),
+      (All-tail (λ x. p ≤ time_of x → time_of x < p + pwm_period → disturbs x ≡ false) n notes a),
 )
 
 no_stall : (a b : ℕ) (trace : List Event) → NoStallIn a b trace → NoStall a b trace
@@ -160,7 +161,7 @@ none_split : (p : ℕ) (xs ys : List Note) → NoneWithin p (xs ++ ys) → NoneW
 none_split p [] ys n = (tt, n)
 none_split p (x ∷ xs) ys n = let r = none_split p xs ys n.1 in ((n.0, r.0), r.1)
 
-no_q : (p t : ℕ) (notes : List Note) → All (λ n. time_of n ≡ t) notes → NoneWithin p notes → p ≤ t → t < p + 2000 → NoSteps notes
+no_q : (p t : ℕ) (notes : List Note) → All (λ n. time_of n ≡ t) notes → NoneWithin p notes → p ≤ t → t < p + pwm_period → NoSteps notes
 no_q p t [] a w lo hi = tt
 no_q p t (note.Step u s ∷ notes) a w lo hi = let e : u.0 ≡ t = All-head (λ x. time_of x ≡ t) (note.Step u s) notes a in let z =
     w.0 (omega arith) (omega arith) in absurd (cc)
@@ -214,18 +215,18 @@ no_comm p before (e ∷ rest) g n =
 -- ---- the theorem over the journal
 
 -- the demands of a journal in range
-small_demand : (t : ℕ) (notes back : List Note) → All InRange notes → demand_at back ≤ 1900 → demand_at (reverse (upto t notes) ++ back) ≤ 1900
+small_demand : (t : ℕ) (notes back : List Note) → All InRange notes → demand_at back ≤ most_duty → demand_at (reverse (upto t notes) ++ back) ≤ most_duty
 small_demand t [] back a b = b
 small_demand t (n ∷ notes) back a b = by_time (nat_le (time_of n) t) (small_demand t notes (n ∷ back) (All-tail InRange n notes a)
     (one n (All-head InRange n notes a)))
   where
-    one : (x : Note) → InRange x → demand_at (x ∷ back) ≤ 1900
+    one : (x : Note) → InRange x → demand_at (x ∷ back) ≤ most_duty
     one (note.Control u number marks d) r = r.1.1.1
     one x r = b
 
-    by_time : (v : Bool) → demand_at (reverse (upto t notes) ++ n ∷ back) ≤ 1900 → demand_at (reverse (if v then n ∷ upto t notes else []) ++ back) ≤ 1900
+    by_time : (v : Bool) → demand_at (reverse (upto t notes) ++ n ∷ back) ≤ most_duty → demand_at (reverse (if v then n ∷ upto t notes else []) ++ back) ≤ most_duty
     by_time false r = b
-    by_time true r = subst (λ (l : List Note). demand_at l ≤ 1900) (sym
+    by_time true r = subst (λ (l : List Note). demand_at l ≤ most_duty) (sym
         (ap (λ (l : List Note). l ++ back) (reverse-append (n ∷ []) (upto t notes)) ∙ append_assoc (reverse (upto t notes)) (n ∷ []) back)) r
 
 module _ (loaded : Loaded) (cost : ℕ) (trace : List Event) (log : List Turned) (until : ℕ) (one : 1 ≤ cost) (few : cost ≤ 16)
@@ -241,35 +242,35 @@ module _ (loaded : Loaded) (cost : ℕ) (trace : List Event) (log : List Turned)
   says_at : (t : ℕ) → Says (at_tick t log) (by_tick t (journal loaded log))
   says_at t = subst (λ (l : List Note). Says (at_tick t log) l) (sym (by_made t)) (says_all loaded (steps_by t log))
 
-  within : (p : ℕ) → All (λ n. p ≤ time_of n → time_of n < p + 2000 → disturbs n ≡ false) (journal loaded log) → NoneWithin p (notes_in log)
+  within : (p : ℕ) → All (λ n. p ≤ time_of n → time_of n < p + pwm_period → disturbs n ≡ false) (journal loaded log) → NoneWithin p (notes_in log)
   within p a = (none_split p (opening loaded) (notes_in log) (none_of p (journal loaded log) a)).1
 
-  small : (t d : ℕ) → demand_at (by_tick t (journal loaded log)) ≡ d → d ≤ 1900
+  small : (t d : ℕ) → demand_at (by_tick t (journal loaded log)) ≡ d → d ≤ most_duty
   small t d e =
-      let a : demand_at (reverse (upto t (journal loaded log)) ++ []) ≤ 1900 = small_demand t (journal loaded log) [] range (omega arith) in
-      let b : demand_at (by_tick t (journal loaded log)) ≤ 1900 = subst (λ (l : List Note). demand_at l ≤ 1900)
+      let a : demand_at (reverse (upto t (journal loaded log)) ++ []) ≤ most_duty = small_demand t (journal loaded log) [] range (omega arith) in
+      let b : demand_at (by_tick t (journal loaded log)) ≤ most_duty = subst (λ (l : List Note). demand_at l ≤ most_duty)
       (append-nil (reverse (upto t (journal loaded log)))) a in
       omega arith
 
-  quiet_of : (p d m : ℕ) → p ≡ 2000 * m → Undisturbed cost trace (journal loaded log) (2000 * m) d
-      → UndisturbedLog cost trace log m d (sector_at (by_tick (2000 * m - 1) (journal loaded log)))
+  quiet_of : (p d m : ℕ) → p ≡ pwm_period * m → Undisturbed cost trace (journal loaded log) (pwm_period * m) d
+      → UndisturbedLog cost trace log m d (sector_at (by_tick (pwm_period * m - 1) (journal loaded log)))
   quiet_of p d m e y = record {
     drives = y.drives;
-    duty = small (2000 * m) d (y.demand (2000 * m) (omega arith) (omega arith));
+    duty = small (pwm_period * m) d (y.demand (pwm_period * m) (omega arith) (omega arith));
     later = let a = y.before in omega arith;
     demand = λ u lo hi. (says_at u).demand ∙ y.demand u lo hi;
-    stalls = no_stall (2000 * m - 48 * cost) (2000 * m + 1999) trace y.stalls;
+    stalls = no_stall (pwm_period * m - chopping_steps * cost) (pwm_period * m + (pwm_period - 1)) trace y.stalls;
     some_sector = y.sector;
-    sector = (says_at (2000 * m - 1)).sector;
-    none_steps = no_steps (2000 * m) [] log fit (within (2000 * m) y.none);
-    none_enters = no_comm (2000 * m) [] log fit (within (2000 * m) y.none);
-    high_free = rw ((says_at (2000 * m - 1)).lo_free (high_of (sector_at (by_tick (2000 * m - 1) (journal loaded log))))) y.free;
+    sector = (says_at (pwm_period * m - 1)).sector;
+    none_steps = no_steps (pwm_period * m) [] log fit (within (pwm_period * m) y.none);
+    none_enters = no_comm (pwm_period * m) [] log fit (within (pwm_period * m) y.none);
+    high_free = rw ((says_at (pwm_period * m - 1)).lo_free (high_of (sector_at (by_tick (pwm_period * m - 1) (journal loaded log))))) y.free;
   }
 
-  at_multiple : (m d : ℕ) → Undisturbed cost trace (journal loaded log) (2000 * m) d
-      → IsChopped cost until (journal loaded log) (2000 * m) d (sector_at (by_tick (2000 * m - 1) (journal loaded log)))
+  at_multiple : (m d : ℕ) → Undisturbed cost trace (journal loaded log) (pwm_period * m) d
+      → IsChopped cost until (journal loaded log) (pwm_period * m) d (sector_at (by_tick (pwm_period * m - 1) (journal loaded log)))
   at_multiple m d y =
-      let c = chopped cost trace log m d (sector_at (by_tick (2000 * m - 1) (journal loaded log))) until one few legal (quiet_of (2000 * m) d m refl y) in
+      let c = chopped cost trace log m d (sector_at (by_tick (pwm_period * m - 1) (journal loaded log))) until one few legal (quiet_of (pwm_period * m) d m refl y) in
       record {
         high_on = λ t b lo hi. rw (sym (says_at t).hi) (c.high_on t b lo hi);
         high_off = λ t b lo hi. rw (sym (says_at t).hi) (c.high_off t b lo hi);

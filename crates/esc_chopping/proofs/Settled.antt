@@ -3,6 +3,7 @@ use Rattle.std.proofs.Common.{◌≡◌, ◌≤◌, ◌<◌, ◌+◌, ◌-◌, �
 use Rattle.std.specs.List.{fold}
 use Rattle.std.proofs.lemmas.Bool.{cases_lt}
 use Rattle.std.proofs.lemmas.Bool.Decides.{nat_tests}
+use Rattle.esc_base.specs.Times.{pwm_period}
 use Rattle.esc_base.specs.declared.gate.Leg.{Leg}
 use Rattle.esc_base.specs.declared.note.Note.{Note}
 use Rattle.esc_base.specs.Legs.{is_on}
@@ -153,7 +154,7 @@ held_next p s before e o f h =
 -- ---- over the log
 
 module _ (cost : ℕ) (trace : List Event) (log : List Turned) (p s u : ℕ) (one : 1 ≤ cost) (some : 0 < p) (drives : 0 < s) (from : p ≤ u + 1)
-    (upto : u < p + 2000)
+    (upto : u < p + pwm_period)
     (sector : (at_tick (p - 1) log).sector ≡ s) (free : at_leg (at_tick (p - 1) log).lo_free (high_of s) ≤ p) where
   begins : (before rest : List Turned) → log ≡ before ++ rest → AllBy (p - 1) before → FirstAbove (p - 1) rest → Static (p - 1) (view before)
       → Held p s (view before)

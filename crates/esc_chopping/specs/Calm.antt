@@ -1,6 +1,7 @@
 -- What an undisturbed period gives at each of its ticks, for the high switch and for the low one.
 use Rattle.std.specs.Prelude.{◌≡◌, ◌≤◌, ◌<◌, ◌+◌, ◌-◌, ◌*◌, ℕ, true, List, []}
 use Rattle.commutation.specs.Sectors.{low_of}
+use Rattle.esc_base.specs.Times.{chopping_steps, most_duty, pwm_period}
 use Rattle.esc_base.specs.declared.event.Event.{Event}
 use Rattle.esc_chopping.specs.Stalls.{NoStall}
 use Rattle.esc_laws.specs.Steps.{Turned, EachStep}
@@ -12,12 +13,12 @@ use Rattle.esc_chopping.specs.Periods.{NoComm}
 -- the period at 2000 m has demand d and sector s, and nothing disturbs it
 pub record Calm (cost : ℕ) (trace : List Event) (log : List Turned) (m d s : ℕ) : Type 0 where
   pub drives : 0 < d
-  pub duty : d ≤ 1900
+  pub duty : d ≤ most_duty
   pub later : 0 < m
-  pub demand : (u : ℕ) → 2000 * m ≤ u + 48 * cost → u < 2000 * m + 2000 → (at_tick u log).demand ≡ d
-  pub stalls : NoStall (2000 * m - 48 * cost) (2000 * m + 1999) trace
-  pub sector : (u : ℕ) → 2000 * m ≤ u + 1 → u < 2000 * m + 2000 → (at_tick u log).sector ≡ s
-  pub none_enters : EachStep (NoComm (2000 * m)) [] log
+  pub demand : (u : ℕ) → pwm_period * m ≤ u + chopping_steps * cost → u < pwm_period * m + pwm_period → (at_tick u log).demand ≡ d
+  pub stalls : NoStall (pwm_period * m - chopping_steps * cost) (pwm_period * m + (pwm_period - 1)) trace
+  pub sector : (u : ℕ) → pwm_period * m ≤ u + 1 → u < pwm_period * m + pwm_period → (at_tick u log).sector ≡ s
+  pub none_enters : EachStep (NoComm (pwm_period * m)) [] log
   -- the high switch may turn on, and so may the low one, soon
-  pub allowed : (u : ℕ) → 2000 * m ≤ u + 1 → u < 2000 * m + 2000 → may_chop (at_tick u log) (u + 1) ≡ true
-  pub low_free : (u : ℕ) → 2000 * m ≤ u + 1 → u < 2000 * m + 2000 → at_leg (at_tick u log).hi_free (low_of s) ≤ 2000 * m + 39
+  pub allowed : (u : ℕ) → pwm_period * m ≤ u + 1 → u < pwm_period * m + pwm_period → may_chop (at_tick u log) (u + 1) ≡ true
+  pub low_free : (u : ℕ) → pwm_period * m ≤ u + 1 → u < pwm_period * m + pwm_period → at_leg (at_tick u log).hi_free (low_of s) ≤ pwm_period * m + 39

@@ -1,5 +1,6 @@
 -- How many machine steps may pass until PWM has written a position that it read at or after an edge of the period.
 use Rattle.std.specs.Prelude.{◌≡◌, ◌≤◌, ◌<◌, ◌+◌, ◌*◌, ◌⊎◌, ℕ, true, false}
+use Rattle.esc_base.specs.Times.{pwm_period}
 use Rattle.esc_base.specs.declared.gate.Leg.{Leg}
 use Rattle.esc_base.specs.Legs.{is_on}
 use Rattle.commutation.specs.Sectors.{high_of}
@@ -7,7 +8,7 @@ use Rattle.esc_chopping.specs.View.{View}
 
 -- the two edges of the period at 2000 m
 abbrev pub IsEdge : ℕ → ℕ → ℕ → Type 0
-IsEdge m d edge = (edge ≡ 2000 * m) ⊎ (edge ≡ 2000 * m + d)
+IsEdge m d edge = (edge ≡ pwm_period * m) ⊎ (edge ≡ pwm_period * m + d)
 
 -- at most c own steps of COMM and k other steps are left until then
 pub record IsLeft (edge : ℕ) (v : View) (c k : ℕ) : Type 0 where
@@ -42,5 +43,5 @@ pub record Fresh (edge m d s t : ℕ) (v : View) : Type 0 where
   pub comm : v.comm ≡ false
   pub wrote : edge ≤ v.wrote
   pub past : v.wrote < t
-  pub on : v.wrote < 2000 * m + d → is_on v.hi (high_of s) ≡ true
-  pub off : 2000 * m + d ≤ v.wrote → (x : Leg) → is_on v.hi x ≡ false
+  pub on : v.wrote < pwm_period * m + d → is_on v.hi (high_of s) ≡ true
+  pub off : pwm_period * m + d ≤ v.wrote → (x : Leg) → is_on v.hi x ≡ false

@@ -1,5 +1,6 @@
 -- What a run gives for each machine step, by the steps before it: all that `Chopped` is derived from.
 use Rattle.std.specs.Prelude.{◌≡◌, ◌≤◌, ◌<◌, ◌+◌, ◌%◌, ℕ, Bool, true, false, not, ◌&&◌, ◌==◌, nat_le, List, [], ◌∷◌, ◌++◌}
+use Rattle.esc_base.specs.Times.{pwm_period}
 use Rattle.esc_base.specs.declared.gate.Leg.{Leg}
 use Rattle.esc_base.specs.Legs.{is_on}
 use Rattle.commutation.specs.Sectors.{high_of}
@@ -69,8 +70,8 @@ may_chop v t = not (v.sector == 0) && (not (is_on v.lo (high_of v.sector)) && na
 
 -- PWM's fifth own step writes what the position that its second one read asks for
 pub record Chops (v : View) (t : ℕ) (w : View) : Type 0 where
-  pub on : v.sampled % 2000 < v.demand → may_chop v t ≡ true → is_on w.hi (high_of v.sector) ≡ true
-  pub off : v.demand ≤ v.sampled % 2000 → (x : Leg) → is_on w.hi x ≡ false
+  pub on : v.sampled % pwm_period < v.demand → may_chop v t ≡ true → is_on w.hi (high_of v.sector) ≡ true
+  pub off : v.demand ≤ v.sampled % pwm_period → (x : Leg) → is_on w.hi x ≡ false
 
 -- while there is a demand only COMM's own steps change low switches, and only these and PWM's fifth own step high ones
 pub record DriveFits (before : List Turned) (e : Turned) : Type 0 where

@@ -1,5 +1,6 @@
 -- Only switches of the newest sector's pair are on (as `Driven` says), and at a change of sector the new pair's low leg is nearly free.
 use Rattle.std.specs.Prelude.{◌≡◌, ◌≤◌, ◌<◌, ◌+◌, ℕ, true, List, [], ◌∷◌}
+use Rattle.esc_base.specs.Times.{pwm_period}
 use Rattle.esc_base.specs.declared.gate.Leg.{Leg}
 use Rattle.esc_base.specs.declared.note.Note.{Note}
 use Rattle.esc_base.specs.Legs.{is_on}
@@ -44,4 +45,4 @@ NoSteps (note.Step u s ∷ notes) = ⊥
 NoSteps (n ∷ notes) = NoSteps notes
 
 abbrev pub NoStep : ℕ → List Turned → Turned → Type 0
-NoStep p before e = p ≤ e.tick → e.tick < p + 2000 → NoSteps e.notes
+NoStep p before e = p ≤ e.tick → e.tick < p + pwm_period → NoSteps e.notes

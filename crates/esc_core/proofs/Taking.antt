@@ -1,5 +1,5 @@
 -- Taking a byte is what the model says.
-use Rattle.std.proofs.Common.{◌≡◌, ◌≤◌, ◌<◌, ℕ, Bool, List, [], ◌∷◌, length, Option, Some, None, Result, Err, refl, sym, ◌∙◌, ap, subst, arith}
+use Rattle.std.proofs.Common.{◌≡◌, ◌≤◌, ℕ, Bool, List, [], ◌∷◌, length, Option, Some, None, Result, Err, refl, sym, ◌∙◌, ap, subst, arith}
 use Rattle.esc_base.specs.declared.note.Note.{Note}
 use Rattle.esc_base.specs.declared.note.Note.TheVariants as note
 use Rattle.esc_base.specs.Flash.{Told}
@@ -21,7 +21,7 @@ use Rattle.esc_core.specs.Brain.{Brain}
 use Rattle.esc_core.specs.Stepped.{Stepped, IsStepped}
 use Rattle.esc_core.specs.Calls.{Answer, Said, said_first, DeviceDid, IsMade}
 use Rattle.esc_core.specs.Background.{access_of, answers_asked, taking_by, taking_step, Tells}
-use Rattle.esc_core.specs.Line.{Line, reply_of, taken_by, packet_note, IsSaid, SaidBy, TakesByte}
+use Rattle.esc_core.specs.Line.{Line, reply_of, SaidBy, TakesByte}
 
 line_is : (s : Line) (q : Queue) (a : Bool) (l : List ℕ) → s.packets ≡ q → s.active ≡ a → s.left ≡ l → s ≡ record { packets = q; active = a; left = l }
 line_is s q a l p b c = rw (← p, ← b, ← c) refl
@@ -81,14 +81,16 @@ did_by : (o : Option Packet) (active armed : Bool) (outcome : Result (List ℕ) 
 did_by None active armed outcome before after s = s
 did_by (Some packet) active armed outcome before after s = (after, s, refl)
 
-same_step : (o : Option Packet) (outcome : Result (List ℕ) Ack) (c : Brain) (b : Bank) → taking_by o outcome c b ≡ taking_by o (said_first (given_by o outcome)) c b
+same_step : (o : Option Packet) (outcome : Result (List ℕ) Ack) (c : Brain) (b : Bank)
+    → taking_by o outcome c b ≡ taking_by o (said_first (given_by o outcome)) c b
 same_step None outcome c b = refl
 same_step (Some packet) outcome c b = refl
 
 pub made_by : (armed : Bool) (t : ℕ) (c new : Brain) (b b' : Bank) (flash flash' : Told) (given : Option Note) (did : Did) (line : Line)
     → armed ≡ c.control.armed → t ≡ b.time
     → TakesByte armed t c.line flash given line flash' → Tells b given did b' → new ≡ record c { line = line }
-    → IsMade (λ answers. taking_step (said_first answers) c b) (λ answers. answers_asked (packet_taken c.line.packets) c.line.active c.control.armed) b flash did new b' flash'
+    → IsMade (λ answers. taking_step (said_first answers) c b)
+    (λ answers. answers_asked (packet_taken c.line.packets) c.line.active c.control.armed) b flash did new b' flash'
 made_by armed t c new b b' flash flash' given did line ea et takes tells is =
     let x : TakesByte c.control.armed b.time c.line flash given line flash' = rw (ea, et) at takes in
     record {

@@ -9,7 +9,6 @@ use Rattle.esc_core.specs.declared.state.PwmAt.{PwmAt}
 use Rattle.esc_core.specs.declared.state.CmpAt.{CmpAt}
 use Rattle.esc_core.specs.declared.state.CommAt.{CommAt}
 use Rattle.esc_core.specs.declared.state.MainAt.{MainAt}
-use Rattle.fourway_packet.specs.Queue.{Queue}
 use Rattle.esc_core.specs.declared.state.UartAt.{UartAt}
 use Rattle.esc_core.specs.declared.orders.Orders.{Orders}
 use Rattle.esc_core.specs.declared.drive.Drive.{Drive}

@@ -9,6 +9,7 @@ use Rattle.esc_base.specs.declared.signal.Mode.TheVariants.{D300Inv, D600Inv}
 use Rattle.esc_base.specs.declared.note.Note.{Note}
 use Rattle.esc_base.specs.declared.note.Note.TheVariants as note
 use Rattle.esc_base.specs.Numbers.{as_tick, bit_of, mode_number, why_number}
+use Rattle.esc_base.specs.Times.{least_pause}
 use Rattle.edge_capture.specs.Edges.{last_at}
 use Rattle.timer_regs.specs.Bank.{Bank}
 use Rattle.timer_regs.specs.Effects.{read_value}
@@ -54,9 +55,9 @@ abbrev pub command_note : ℕ → Option Act → List Note
 command_note t None = []
 command_note t (Some act) = note.Command (as_tick t) (number_of act) ∷ []
 
--- a pause of 600 ticks after a bad window, from the tick of its verdict
+-- the pause after a bad window, from the tick of its verdict
 abbrev pub pause_from : ℕ → ℕ
-pause_from t = t + 600
+pause_from t = t + least_pause
 
 -- the act of a good frame's command, where it acts
 abbrev pub act_in : Brain → Frame → Option Act

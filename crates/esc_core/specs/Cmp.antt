@@ -2,6 +2,7 @@
 use Rattle.std.specs.Prelude.{ℕ, ◌+◌, Bool, true, false, nat_le, [], ◌∷◌}
 use Rattle.esc_base.specs.declared.note.Note.TheVariants as note
 use Rattle.esc_base.specs.Numbers.{as_tick}
+use Rattle.esc_base.specs.Times.{rejected_blanking}
 use Rattle.timer_regs.specs.Bank.{Bank}
 use Rattle.timer_regs.specs.declared.regs.Reg.TheVariants as reg
 use Rattle.interrupt_machine.specs.Did.{NoAccess, Reads, Writes}
@@ -29,7 +30,8 @@ judged_step true c b = record {
   notes = note.Cross (as_tick b.time) ∷ [];
   over = false;
 }
-judged_step false c b = goes_on (record c { drive = in_phase c.drive (phase.Blank (as_tick (b.time + 400))); cmp_at = cmp.Arm }) (Reads reg.CmpState)
+judged_step false c b =
+    goes_on (record c { drive = in_phase c.drive (phase.Blank (as_tick (b.time + rejected_blanking))); cmp_at = cmp.Arm }) (Reads reg.CmpState)
 
 -- nothing is due: a higher handler changed the phase since the entry, or there is no search
 abbrev pub passes : Brain → Stepped

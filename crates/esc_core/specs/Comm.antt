@@ -3,6 +3,7 @@
 use Rattle.std.specs.Prelude.{ℕ, Bool, true, false, nat_le, if◌then◌else◌, [], ◌∷◌}
 use Rattle.esc_base.specs.declared.note.Note.TheVariants as note
 use Rattle.esc_base.specs.Numbers.{as_tick}
+use Rattle.esc_base.specs.Times.{stuck_changes}
 use Rattle.timer_regs.specs.Bank.{Bank}
 use Rattle.timer_regs.specs.declared.regs.Reg.TheVariants as reg
 use Rattle.interrupt_machine.specs.Did.{NoAccess, Reads, Writes}
@@ -90,7 +91,7 @@ resumed_step c b = resumed (change_step c.drive.turn c.drive.gates b) c
 
 -- after sixty forced sector changes in a row the stuck mark is set
 abbrev pub after_arm : ℕ → CommAt
-after_arm forced = if nat_le 60 forced then comm.Stick else comm.Back
+after_arm forced = if nat_le stuck_changes forced then comm.Stick else comm.Back
 
 abbrev pub comm_step : CommAt → Brain → Bank → Stepped
 comm_step comm.Decide c b = decide_step c b

@@ -2,6 +2,7 @@
 use Rattle.std.specs.Prelude.{ℕ, ◌+◌, Bool, true, false, nat_le, min, if◌then◌else◌, Option, Some, None}
 use Rattle.esc_base.specs.declared.tick.Tick.{Tick}
 use Rattle.esc_base.specs.Numbers.{as_tick}
+use Rattle.esc_base.specs.Times.{forced_limit, stuck_changes}
 use Rattle.timer_regs.specs.Access.{Access}
 use Rattle.timer_regs.specs.Access.Access.{NoAccess, Writes}
 use Rattle.timer_regs.specs.declared.regs.Reg.TheVariants as reg
@@ -40,13 +41,21 @@ abbrev pub search_after : Bool → Kept → Kept
 search_after true k = after_off k
 search_after false k = k
 
+-- control has answered: a drive may start, and the search ends with a demand of 0
+abbrev pub drive_after : Bool → ℕ → Drive → Drive
+drive_after true t d = started d t
+drive_after false t d = d
+
+abbrev pub answered : Bool → Bool → ℕ → Drive → Drive
+answered starts ends t d = record (drive_after starts t d) { crossing = search_after ends d.crossing }
+
 -- how many forced sector changes stand in a row after one more change: the first one of a drive isn't forced
 abbrev pub forced_after : Drive → ℕ
-forced_after d = if d.turned then min 60 (d.forced + 1) else d.forced
+forced_after d = if d.turned then min stuck_changes (d.forced + 1) else d.forced
 
--- the sector changed at t, and the next change is forced from 240000 ticks later on
+-- the sector changed at t, and the next change is forced once the limit has passed
 abbrev pub after_turn : Drive → ℕ → Drive
-after_turn d t = record d { timing = after_gap d.timing t; change = t + 240000; turned = true; forced = forced_after d }
+after_turn d t = record d { timing = after_gap d.timing t; change = t + forced_limit; turned = true; forced = forced_after d }
 
 -- the search for the new sector's crossing begins at t, with the interval as it is then
 abbrev pub searching : Drive → Bool → ℕ → Drive
@@ -70,7 +79,7 @@ arms (Some at) = Writes reg.CmpAt at.0
 
 -- sixty forced sector changes stand in a row
 abbrev pub is_stuck : Drive → Bool
-is_stuck d = nat_le 60 d.forced
+is_stuck d = nat_le stuck_changes d.forced
 
 -- the tick from which on the low switch of the newest sector may turn on
 abbrev pub low_free : Drive → ℕ

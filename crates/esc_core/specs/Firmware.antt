@@ -33,7 +33,7 @@ use Rattle.esc_core.specs.Drive.{first_drive}
 use Rattle.fourway_packet.specs.Queue.{Queue}
 use Rattle.esc_core.specs.Line.{first_line, line_waits}
 use Rattle.esc_core.specs.Brain.{Brain}
-use Rattle.esc_core.specs.Stepped.{Stepped, goes_back}
+use Rattle.esc_core.specs.Stepped.{Stepped}
 use Rattle.esc_core.specs.Cap.{cap_step}
 use Rattle.esc_core.specs.Tick.{tick_step}
 use Rattle.esc_core.specs.Pwm.{pwm_step}

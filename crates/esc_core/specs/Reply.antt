@@ -2,11 +2,12 @@
 use Rattle.std.specs.Prelude.{ℕ, ◌+◌, ◌*◌, ◌/◌, ◌==◌, max, if◌then◌else◌, List, Option, Some, None}
 use Rattle.esc_base.specs.declared.signal.Edge.{Edge}
 use Rattle.esc_base.specs.declared.signal.Mode.{Mode}
-use Rattle.timer_regs.specs.Reply.{line_bit, answers_from}
+use Rattle.esc_base.specs.Times.{microsecond, reply_bits, reply_bit}
+use Rattle.timer_regs.specs.Reply.{answers_from}
 
--- the electrical period in whole microseconds, 48 ticks each, from the sum of six gaps; a sum of 0 is that of no period
+-- the electrical period in whole microseconds, from the sum of six gaps; a sum of 0 is that of no period
 abbrev pub period_of : ℕ → Option ℕ
-period_of sum = if sum == 0 then None else Some (sum / 48)
+period_of sum = if sum == 0 then None else Some (sum / microsecond)
 
 -- the start of a reply to these edges that is loaded at a tick
 abbrev pub starts_from : List Edge → ℕ → ℕ
@@ -14,4 +15,4 @@ starts_from edges now = max (now + 1) (answers_from edges)
 
 -- the end of a reply that starts at a tick, to a window in a mode
 abbrev pub ends_from : Mode → ℕ → ℕ
-ends_from mode start = start + 21 * line_bit mode
+ends_from mode start = start + reply_bits * reply_bit mode

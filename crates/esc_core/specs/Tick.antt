@@ -20,9 +20,8 @@ use Rattle.arming.specs.Decide.{decide, answer_of}
 use Rattle.arming.specs.Kept.{after_tick, view_of}
 use Rattle.esc_core.specs.declared.state.TickAt.{TickAt}
 use Rattle.esc_core.specs.declared.state.TickAt.TheVariants as tick
-use Rattle.esc_core.specs.declared.drive.Drive.{Drive}
 use Rattle.esc_core.specs.Brain.{Brain}
-use Rattle.esc_core.specs.Drive.{started, search_after}
+use Rattle.esc_core.specs.Drive.{answered}
 use Rattle.esc_core.specs.Stepped.{Stepped, goes_on, goes_back}
 
 abbrev pub outcome_note : ℕ → Option Cause → Bool → List Note
@@ -48,17 +47,13 @@ marks_in state active = (if nat_lt state 1073741824 then 0 else 1) + (if active 
 abbrev pub after_number : Ticked → TickAt
 after_number answer = if answer.demand == 0 then tick.Off off.High else tick.DutyOn answer.start
 
-abbrev pub drive_after : Bool → ℕ → Drive → Drive
-drive_after true t d = started d t
-drive_after false t d = d
-
 -- control was asked in tick n with these marks
 abbrev pub asked : ℕ → ℕ → Ticked → Brain → Bank → Stepped
 asked n marks answer c b = record {
   core = record c {
     tick_at = after_number answer;
     control = after_tick c.control n (decide (view_of c.control) n marks);
-    drive = record (drive_after answer.start b.time c.drive) { crossing = search_after (answer.demand == 0) c.drive.crossing };
+    drive = answered answer.start (answer.demand == 0) b.time c.drive;
   };
   access = Reads reg.TickState;
   notes = tick_notes b.time n marks answer;

@@ -26,7 +26,12 @@ push_step true t c b = record {
   over = false;
 }
 push_step false t c b =
-    goes_on (record c { line = record c.line { packets = queued c.line.packets (record { t = as_tick t; byte = received_byte b.receive }) }; uart_at = uart.Back }) (Reads reg.UartData)
+    goes_on
+    (record c {
+      line = record c.line { packets = queued c.line.packets (record { t = as_tick t; byte = received_byte b.receive }) };
+      uart_at = uart.Back;
+    })
+    (Reads reg.UartData)
 
 abbrev pub uart_step : UartAt → Brain → Bank → Stepped
 uart_step uart.Look c b = see_step (is_full b.receive) c

@@ -1,7 +1,7 @@
 //! What is kept of the drive between steps.
 ghost use Rattle.std.specs.Prelude.{◌≡◌, ◌+◌, ◌<◌, ◌≤◌, ◌^◌, bit_or};
 ghost use Rattle.commutation.specs.Sectors.{low_of};
-ghost use Rattle.esc_core.specs.Drive.{first_drive, started, after_turn, searching, after_cross, arms, due_at as due_of};
+ghost use Rattle.esc_core.specs.Drive.{first_drive, started, answered as answered_at, after_turn, searching, after_cross, arms, due_at as due_of};
 ghost use Rattle.timer_regs.specs.Access.{accessed};
 ghost use Rattle.zero_cross.specs.Kept.{until};
 
@@ -18,22 +18,24 @@ const FORCED_LIMIT: u32 = 240_000;
 pub(crate) const STUCK_ROW: u8 = 60;
 
 /// The gates, the newest change of sector, and when the next one is due.
-#[derive(Debug, Drop)]
+#[derive(Drop)]
 pub struct Drive {
-    pub(crate) gates: Gates,
-    pub(crate) timing: Timing,
+    /// When each switch last went off.
+    pub gates: Gates,
+    /// The interval between crossings, and the wait to the next sector change.
+    pub timing: Timing,
     /// The search for the sector's zero crossing.
-    pub(crate) crossing: Crossing,
+    pub crossing: Crossing,
     /// The newest change of sector. Where its low switch is postponed it stands at that step.
-    pub(crate) turn: ToSector,
+    pub turn: ToSector,
     /// The tick of 48 MHz from which on the next sector change is due.
-    pub(crate) change: u32,
+    pub change: u32,
     /// The low switch of the newest sector is postponed for the dead time.
-    pub(crate) postponed: bool,
+    pub postponed: bool,
     /// The sector has changed in this drive, and no crossing was accepted since: the next change is forced.
-    pub(crate) turned: bool,
+    pub turned: bool,
     /// How many forced sector changes stand in a row, at most 60.
-    pub(crate) forced: u8,
+    pub forced: u8,
 }
 
 impl Drive {
@@ -62,6 +64,19 @@ impl Drive {
         self.change = now.0 as u32;
         self.turned = false;
         self.forced = 0;
+    }
+
+    /// Control has answered: a drive may start, and the search ends with a demand of 0.
+    pub(crate) fn answered(&mut self, starts: bool, ends: bool, now: Tick)
+        requires { now.0 < 2 ^ 31 }
+        ensures { self.new ≡ answered_at starts ends now.0 self.old }
+    {
+        if starts {
+            self.start(now);
+        }
+        if ends {
+            self.crossing.off();
+        }
     }
 
     /// The sector has changed, and the next change is forced where no crossing comes. It was forced itself but as the

@@ -6,11 +6,12 @@ ghost use Rattle.interrupt_machine.specs.Did.{notes_of};
 ghost use Rattle.esc_core.specs.Calls.{IsMade};
 ghost use Rattle.esc_core.specs.Firmware.{core_step, entered_core, left_of, need_of, tick_need, pwm_need, cmp_need, is_stray, counted_down, shut, kind_step, kind_asked, core_asked, waits_of, new_core};
 
-use crate::own::no_note;
-use crate::{CapAt, CmpAt, CommAt, Core, Drive, MainAt, Orders, PwmAt, Serial, TickAt, UartAt};
+use crate::notes::no_note;
+use crate::{
+    CapAt, CmpAt, CommAt, Core, Drive, Listening, MainAt, Orders, PwmAt, Serial, TickAt, UartAt,
+};
 use arming::Control;
-use edge_capture::Burst;
-use esc_base::{FlashDev, Kind, Mode};
+use esc_base::{FlashDev, Kind};
 use fourway_packet::Packets;
 use gate_driver::{AllOff, Chop};
 use interrupt_machine::{Did, Firmware};
@@ -31,9 +32,7 @@ impl Core {
             pwm_at: PwmAt::Shut,
             comm_at: CommAt::Shut,
             hold: 0,
-            window: Mode::Unknown,
-            burst: Burst::new(),
-            paused: false,
+            listening: Listening::new(),
             control: Control::new(),
             drive: Drive::new(settings.advance),
             orders: Orders::new(settings),

@@ -1,30 +1,17 @@
 //! The control core: what each activation of an interrupt handler does, one register access a step.
 #![tactic(auto)]
 
-mod background;
-mod cap;
-mod cmp;
-mod comm;
-#[cfg(test)]
-mod cross_tests;
 mod drive;
-#[cfg(test)]
-mod drive_tests;
 mod firmware;
+mod handlers;
+mod notes;
 mod orders;
-mod own;
-mod pwm;
 mod reply;
-#[cfg(test)]
-mod reply_tests;
 mod serial;
 mod state;
-#[cfg(test)]
-mod tests;
-mod tick;
-mod uart;
 
 pub use drive::Drive;
+pub use handlers::Listening;
 pub use orders::Orders;
 pub use serial::Serial;
 pub use state::{CapAt, CmpAt, CommAt, Core, MainAt, PwmAt, TickAt, UartAt};

@@ -6,7 +6,7 @@ use dshot_commands::Act;
 use settings_block::{Settings, apply};
 
 /// The settings, and what commands have asked for since the start.
-#[derive(Clone, Copy, Debug, PartialEq, Eq, Drop)]
+#[derive(Clone, Copy, Drop)]
 pub struct Orders {
     /// Those in memory. A save writes them as they are when it is made.
     pub settings: Settings,

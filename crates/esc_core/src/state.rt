@@ -1,14 +1,11 @@
 //! Where each open activation stands, and what the core keeps.
-use crate::{Drive, Orders, Serial};
+use crate::{Drive, Listening, Orders, Serial};
 use arming::Control;
-use edge_capture::Burst;
-use esc_base::Mode;
-use fourway_packet::Packets;
 use gate_driver::{AllOff, Chop};
 use std::marker::Model;
 
 /// Where an open CAP stands. Each place is named by the step that comes next.
-#[derive(Clone, Copy, Debug, PartialEq, Eq, Drop)]
+#[derive(Clone, Copy, Drop)]
 pub enum CapAt {
     Shut,
     /// Reads how many edges there are, or opens a window where the window timer was set.
@@ -29,7 +26,7 @@ pub enum CapAt {
 }
 
 /// Where an open TICK stands.
-#[derive(Clone, Copy, Debug, PartialEq, Eq, Drop)]
+#[derive(Clone, Copy, Drop)]
 pub enum TickAt {
     Shut,
     /// Raises the mask.
@@ -52,7 +49,7 @@ pub enum TickAt {
 }
 
 /// Where an open PWM stands.
-#[derive(Clone, Copy, Debug, PartialEq, Eq, Drop)]
+#[derive(Clone, Copy, Drop)]
 pub enum PwmAt {
     Shut,
     /// Makes a step of chopping.
@@ -61,7 +58,7 @@ pub enum PwmAt {
 }
 
 /// Where an open COMM stands.
-#[derive(Clone, Copy, Debug, PartialEq, Eq, Drop)]
+#[derive(Clone, Copy, Drop)]
 pub enum CommAt {
     Shut,
     /// Decides between a sector change, for which it reads the sector, and a postponed low switch.
@@ -82,7 +79,7 @@ pub enum CommAt {
 }
 
 /// Where an open CMP stands.
-#[derive(Clone, Copy, Debug, PartialEq, Eq, Drop)]
+#[derive(Clone, Copy, Drop)]
 pub enum CmpAt {
     Shut,
     /// Raises the mask.
@@ -104,7 +101,7 @@ pub enum CmpAt {
 }
 
 /// Where an open MAIN stands.
-#[derive(Clone, Copy, Debug, PartialEq, Eq, Drop)]
+#[derive(Clone, Copy, Drop)]
 pub enum MainAt {
     Shut,
     /// Does what waits.
@@ -113,7 +110,7 @@ pub enum MainAt {
 }
 
 /// Where an open UART stands.
-#[derive(Clone, Copy, Debug, PartialEq, Eq, Drop)]
+#[derive(Clone, Copy, Drop)]
 pub enum UartAt {
     Shut,
     /// Reads whether a byte waits.
@@ -137,15 +134,14 @@ pub struct Core {
     pub(crate) comm_at: CommAt,
     /// For how many steps the mask can still stand.
     pub(crate) hold: u8,
-    /// The mode of the newest window.
-    pub(crate) window: Mode,
-    /// The edges of the closed window, as far as they have been read.
-    pub(crate) burst: Burst,
-    /// The window timer was set, and no window was opened since.
-    pub(crate) paused: bool,
-    pub(crate) control: Control,
-    pub(crate) orders: Orders,
-    pub(crate) drive: Drive,
+    /// What CAP keeps of its windows.
+    pub listening: Listening,
+    /// What control ticks and frames have come to.
+    pub control: Control,
+    /// What commands have asked for.
+    pub orders: Orders,
+    /// What is kept of the drive.
+    pub drive: Drive,
     pub(crate) serial: Serial,
 }
 
@@ -164,9 +160,9 @@ impl Model for Core {
       pwm_at = c.pwm_at;
       comm_at = c.comm_at;
       hold = c.hold;
-      window = c.window;
-      burst = c.burst;
-      paused = c.paused;
+      window = c.listening.window;
+      burst = c.listening.burst;
+      paused = c.listening.paused;
       control = c.control;
       orders = c.orders;
       drive = c.drive;

@@ -11,7 +11,6 @@ use Rattle.esc_base.specs.Trace.{line}
 use Rattle.edge_capture.specs.Burst.{wait}
 use Rattle.edge_capture.specs.Edges.{last_at}
 use Rattle.edge_capture.specs.Modes.{numbers, most, limit, may_be_high}
-use Rattle.dshot_frame.specs.Bits.{low_bits}
 use Rattle.dshot_frame.specs.Sent.{HasFrames, IsMoved, IsNear, edges_from, sent}
 use Rattle.dshot_frame.specs.Verdict.{verdict_of}
 use Rattle.dshot_frame.proofs.Moved.{length-low_bits, verdict_of-moved, verdict_of-sent}
@@ -20,6 +19,7 @@ use Rattle.input_detect.specs.Judge.{judged, by_verdict}
 use Rattle.servo_input.specs.declared.servo.InputKind.{InputKind}
 use Rattle.servo_input.specs.declared.servo.Servo.{Servo}
 use Rattle.settings_block.specs.Settings.{servo_of}
+use Rattle.esc_base.specs.Bits.{low_bits}
 use Rattle.esc_laws.specs.Windowed.{verdict_note}
 use Rattle.esc_laws.specs.HeardWhole.{KeepsOn, StandsAlone, SentFrameIsRead}
 use Rattle.esc_laws.proofs.Modes.{mode_of-number}

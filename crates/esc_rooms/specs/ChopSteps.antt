@@ -1,5 +1,6 @@
 -- What each machine step of a run does to the gates, by the journal before and after it.
 use Rattle.std.specs.Prelude.{◌≡◌, ◌≢◌, ◌<◌, ◌≤◌, ◌%◌, ℕ, true, false, List, [], ◌∷◌, ◌++◌, reverse, All}
+use Rattle.esc_base.specs.Times.{pwm_period}
 use Rattle.esc_base.specs.declared.kind.Kind.TheVariants as kind
 use Rattle.esc_base.specs.declared.note.Note.{Note}
 use Rattle.esc_base.specs.Legs.{is_on}
@@ -19,9 +20,9 @@ told loaded log = reverse (journal loaded log)
 
 -- PWM's write is what the position that it has read asks for
 pub record Writes (sampled t : ℕ) (back after : List Note) : Type 0 where
-  pub on : sampled % 2000 < demand_at back → 0 < sector_at back → is_on (low_at back) (high_of (sector_at back)) ≡ false
+  pub on : sampled % pwm_period < demand_at back → 0 < sector_at back → is_on (low_at back) (high_of (sector_at back)) ≡ false
       → low_free_at (high_of (sector_at back)) back ≤ t → is_on (high_at after) (high_of (sector_at back)) ≡ true
-  pub off : demand_at back ≤ sampled % 2000 → high_at after ≡ 0
+  pub off : demand_at back ≤ sampled % pwm_period → high_at after ≡ 0
 
 -- what a room shows of each step of its handler
 pub record ChopFits (loaded : Loaded) (before : List Turned) (e : Turned) : Type 0 where

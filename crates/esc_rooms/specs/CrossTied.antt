@@ -1,6 +1,7 @@
 -- What ties the search for a crossing to what the notes and the comparator say, by where CMP, COMM and TICK stand. Each fact
 -- holds between any two steps, whatever is open.
 use Rattle.std.specs.Prelude.{◌≡◌, ◌<◌, ◌≤◌, ◌+◌, ◌⊎◌, ℕ, Bool, true, false, not, ◌||◌, if◌then◌else◌, nat_le, List, Option, Some, None}
+use Rattle.esc_base.specs.Times.{filter_time}
 use Rattle.esc_base.specs.Numbers.{as_tick}
 use Rattle.zero_cross.specs.declared.phase.Phase.{Phase}
 use Rattle.zero_cross.specs.declared.phase.Phase.TheVariants as phase
@@ -78,7 +79,7 @@ HasZ turn = ⊥
 -- changes since
 pub record Filters (changed : Bool) (end since blanked past : ℕ) : Type 0 where
   pub begun : ℕ
-  pub end_is : end ≡ begun + 24
+  pub end_is : end ≡ begun + filter_time
   pub below : begun < past
   pub bit : changed ≡ not (nat_le since begun)
   pub after : blanked ≤ begun
@@ -207,7 +208,7 @@ is_shut at = false
 
 -- a filter that a level which is steady from tick i on will pass, and that ends by tick u
 abbrev pub Passes : Phase → ℕ → ℕ → Type 0
-Passes (phase.Filter end) i u = (end.0 ≤ u) × (i + 24 ≤ end.0)
+Passes (phase.Filter end) i u = (end.0 ≤ u) × (i + filter_time ≤ end.0)
 Passes p i u = ⊥
 
 -- the first one, which was entered at i, by whether the level has been steady since
@@ -218,9 +219,9 @@ FirstTied cmp.Look p steady i time past = IsBlanked p time
 FirstTied cmp.Read p steady i time past = Unit {0}
 FirstTied cmp.Ack p steady i time past = Unit {0}
 FirstTied cmp.Commute p steady i time past = steady ≡ false
-FirstTied cmp.Arm p steady i time past = steady ≡ true → Passes p i (past + 24)
-FirstTied cmp.Lower p steady i time past = steady ≡ true → Passes p i (past + 24)
-FirstTied cmp.Back p steady i time past = steady ≡ true → Passes p i (past + 24)
+FirstTied cmp.Arm p steady i time past = steady ≡ true → Passes p i (past + filter_time)
+FirstTied cmp.Lower p steady i time past = steady ≡ true → Passes p i (past + filter_time)
+FirstTied cmp.Back p steady i time past = steady ≡ true → Passes p i (past + filter_time)
 
 -- the second one
 abbrev pub SecondTied : CmpAt → Phase → Bool → ℕ → Bool → ℕ → Type 0

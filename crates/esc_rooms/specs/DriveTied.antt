@@ -1,6 +1,7 @@
 -- What ties the drive to what the notes say, by where COMM, PWM and TICK stand. Each fact holds between any two steps, whatever
 -- is open.
 use Rattle.std.specs.Prelude.{◌≡◌, ◌≢◌, ◌<◌, ◌≤◌, ◌+◌, ◌%◌, ◌⊎◌, ℕ, min, Bool, true, false, ◌||◌, nat_lt, nat_le, Option, Some, None}
+use Rattle.esc_base.specs.Times.{dead_time, forced_limit, pwm_period, stuck_changes}
 use Rattle.esc_base.specs.declared.gate.Leg.{Leg}
 use Rattle.esc_base.specs.Legs.{is_on, IsOnly}
 use Rattle.esc_base.specs.Periods.{edges}
@@ -31,9 +32,9 @@ abbrev pub PwmTied : PwmAt → ℕ → ℕ → ℕ → ℕ → Type 0
 PwmTied pwm.Shut own sampled demand sector = Unit {0}
 PwmTied (pwm.Run chop.Raise) own sampled demand sector = own ≡ 0
 PwmTied (pwm.Run chop.Position) own sampled demand sector = own ≡ 1
-PwmTied (pwm.Run (chop.Duty position)) own sampled demand sector = (own ≡ 2) × (position ≡ sampled % 2000)
-PwmTied (pwm.Run (chop.Sector below)) own sampled demand sector = (own ≡ 3) × (below ≡ nat_lt (sampled % 2000) demand)
-PwmTied (pwm.Run (chop.Write leg)) own sampled demand sector = (own ≡ 4) × (leg ≡ chopped_leg (nat_lt (sampled % 2000) demand) sector)
+PwmTied (pwm.Run (chop.Duty position)) own sampled demand sector = (own ≡ 2) × (position ≡ sampled % pwm_period)
+PwmTied (pwm.Run (chop.Sector below)) own sampled demand sector = (own ≡ 3) × (below ≡ nat_lt (sampled % pwm_period) demand)
+PwmTied (pwm.Run (chop.Write leg)) own sampled demand sector = (own ≡ 4) × (leg ≡ chopped_leg (nat_lt (sampled % pwm_period) demand) sector)
 PwmTied (pwm.Run chop.Lower) own sampled demand sector = own ≡ 5
 PwmTied (pwm.Run chop.Over) own sampled demand sector = ⊥
 PwmTied pwm.Back own sampled demand sector = own ≡ 6
@@ -267,7 +268,7 @@ IsUnforced turn = ⊥
 abbrev pub ChangeTied : ℕ → Turn → ℕ → ℕ → Type 0
 ChangeTied wait Idle at time = ⊥
 ChangeTied wait Started at time = at ≤ time
-ChangeTied wait (Turned q) at time = at ≡ q + 240000
+ChangeTied wait (Turned q) at time = at ≡ q + forced_limit
 ChangeTied wait (Crossed q z) at time = at ≡ z + wait
 
 -- a drive has just started, and its first sector change is due
@@ -307,8 +308,8 @@ pub record SwitchesTied (sector told_sector hi lo time turned_at : ℕ) (hi_free
   -- a low switch that is on found the high one of its leg off for long enough
   pub held : (x : Leg) → is_on lo x ≡ true → at_leg hi_free x ≤ time
   -- high switches outside of the pair went off at or before the newest Q
-  pub soon : (x : Leg) → at_leg hi_free x ≤ time + 48
-  pub outer : 0 < sector → (x : Leg) → high_of sector ≢ x → at_leg hi_free x ≤ turned_at + 48
+  pub soon : (x : Leg) → at_leg hi_free x ≤ time + dead_time
+  pub outer : 0 < sector → (x : Leg) → high_of sector ≢ x → at_leg hi_free x ≤ turned_at + dead_time
   pub unused : sector ≡ 0 → (x : Leg) → at_leg hi_free x ≡ 0
   pub past : turned_at ≤ time
 
@@ -327,11 +328,11 @@ pub record NextTied (sector demand change time wait : ℕ) (turn : Turn) : Type 
 -- the row of forced ones, and the stuck mark
 pub record RowTied (demand row told_row : ℕ) (was_forced told_stuck mark : Bool) (turn : Turn) (comm_at : CommAt) (at : ChangeAt) : Type 0 where
   pub turned : 0 < demand → was_forced ≡ is_forced turn
-  pub forced : row ≡ min 60 told_row
+  pub forced : row ≡ min stuck_changes told_row
   pub unforced : IsUnforced turn → told_row ≡ 0
   pub rest_unmarked : demand ≡ 0 → told_stuck ≡ false
-  pub stuck : 0 < demand → told_stuck ≡ (mark || nat_le 60 row)
-  pub marked : 0 < demand → is_marking comm_at at ≡ false → nat_le 60 row ≡ true → mark ≡ true
+  pub stuck : 0 < demand → told_stuck ≡ (mark || nat_le stuck_changes row)
+  pub marked : 0 < demand → is_marking comm_at at ≡ false → nat_le stuck_changes row ≡ true → mark ≡ true
 
 pub record DriveTied (v : DriveView) : Type 0 where
   pub switches : SwitchesTied v.sector v.told_sector v.hi v.lo v.time v.turned_at v.drive.gates.hi_free

@@ -2,6 +2,7 @@
 -- Each fact holds between any two steps. A tie is a function of what it reads, so it stands by computation after each step
 -- that leaves that.
 use Rattle.std.specs.Prelude.{◌≡◌, ◌≢◌, ◌<◌, ◌≤◌, ◌/◌, ◌%◌, ℕ, Bool, true, List, [], ◌∷◌, Option, Some, None, All, false}
+use Rattle.esc_base.specs.Times.{control_period, pwm_period}
 use Rattle.esc_base.specs.declared.kind.Kind.{Kind}
 use Rattle.esc_base.specs.declared.kind.Kind.TheVariants as kind
 use Rattle.esc_base.specs.declared.event.Event.{Event}
@@ -104,7 +105,7 @@ CapTie w =
 abbrev pub TickTie : World → Type 0
 TickTie w =
     TickTied w.core.tick_at w.bank.number_read w.bank.time (so_far w).ticks × (w.bank.number_read ≡ w.core.control.number) ×
-    (w.bank.number_read ≤ w.bank.time / 2400) × DutyTied w.core.tick_at w.bank.duty (demand_at w.back)
+    (w.bank.number_read ≤ w.bank.time / control_period) × DutyTied w.core.tick_at w.bank.duty (demand_at w.back)
     × (demand_at w.back ≡ 0
     → Rests w.core.tick_at w.core.pwm_at w.core.comm_at w.bank.hi w.bank.lo w.bank.flag w.bank.comm w.core.drive.postponed w.bank.stuck)
 
@@ -250,9 +251,9 @@ pub record GateFits (w : World) (after : Bank) (gates : Gated) : Type 0 where
 
 -- PWM's write is what the position that it has read asks for
 pub record Chops (w : World) (after : Bank) : Type 0 where
-  pub on : w.made.sampled % 2000 < demand_at w.back → 0 < w.bank.sector → high_wait w.core.drive.gates w.bank (high_of w.bank.sector) ≡ None
+  pub on : w.made.sampled % pwm_period < demand_at w.back → 0 < w.bank.sector → high_wait w.core.drive.gates w.bank (high_of w.bank.sector) ≡ None
       → is_on after.hi (high_of w.bank.sector) ≡ true
-  pub off : demand_at w.back ≤ w.made.sampled % 2000 → after.hi ≡ 0
+  pub off : demand_at w.back ≤ w.made.sampled % pwm_period → after.hi ≡ 0
 
 -- While there is a demand, only COMM writes the low switches, and besides it only PWM's fifth own step the high ones. PWM
 -- doesn't return before that step, and has no note of its own but its return.

@@ -7,7 +7,7 @@ use Rattle.esc_base.specs.declared.signal.Edge.{Edge}
 use Rattle.esc_base.specs.declared.signal.Mode.{Mode}
 use Rattle.esc_base.specs.declared.note.Note.{Note}
 use Rattle.esc_base.specs.Trace.{line}
-use Rattle.esc_base.specs.Times.{least_pause, rest}
+use Rattle.esc_base.specs.Times.{least_pause, rest, control_period}
 use Rattle.esc_base.specs.Numbers.{mode_of}
 use Rattle.edge_capture.specs.Burst.{burst, close}
 use Rattle.edge_capture.specs.Edges.{IsInOrder}
@@ -162,8 +162,8 @@ pub record WindowSound (w : Window) (time : ℕ) : Type 0 where
 -- how far TICK has come: the control tick's number that was read, the time, and the K since its entry
 abbrev pub TickTied : TickAt → ℕ → ℕ → ℕ → Type 0
 TickTied tick.Shut read time ticks = Unit {0}
-TickTied tick.Raise read time ticks = (read < time / 2400) × (ticks ≡ 0)
-TickTied tick.Read read time ticks = (read < time / 2400) × (ticks ≡ 0)
+TickTied tick.Raise read time ticks = (read < time / control_period) × (ticks ≡ 0)
+TickTied tick.Read read time ticks = (read < time / control_period) × (ticks ≡ 0)
 TickTied at read time ticks = ticks ≡ 1
 
 -- how far MAIN has come: whether a save is asked for, and the P since its entry

@@ -1,5 +1,5 @@
 -- The CRC is the remainder of a division of polynomials.
-use Rattle.std.proofs.Common.{◌≡◌, ◌<◌, ℕ, suc, ◌+◌, ◌-◌, ◌*◌, ◌/◌, ◌%◌, ◌^◌, Bool, true, false, ◌==◌, if◌then◌else◌, List, [], ◌∷◌, ◌++◌, refl, sym, ◌∙◌, ap, add-zero, zero-add, bit_and, bit_xor, arith}
+use Rattle.std.proofs.Common.{◌≡◌, ◌≤◌, ◌<◌, ℕ, suc, ◌+◌, ◌-◌, ◌*◌, ◌/◌, ◌%◌, ◌^◌, Bool, true, false, ◌==◌, if◌then◌else◌, List, [], ◌∷◌, ◌++◌, refl, sym, ◌∙◌, ap, add-zero, zero-add, bit_and, bit_xor, arith}
 use Rattle.std.specs.List.{fold}
 use Rattle.std.specs.Int.Bits.{xor_assoc, xor_zero_l, xor_zero_r}
 use Rattle.std.proofs.lemmas.Nat.{xor_block, xor_comm, xor_lt}
@@ -7,15 +7,22 @@ use Rattle.std.proofs.lemmas.Nat.Bits.{shr_and_one}
 use Rattle.std.proofs.lemmas.List.Sums.{fold_push}
 use Rattle.std.proofs.lemmas.Grind.{fold-append}
 use Rattle.std.proofs.lemmas.Bool.Decides.{nat_tests}
-use Rattle.fourway_packet.specs.Crc.{digit, xor, shifted, shifted_by_byte, low_bits, crc_of, number, product, bits_of, IsRemainder}
+use Rattle.esc_base.specs.Bits.{digit, xor, low_bits}
+use Rattle.fourway_packet.specs.Crc.{shifted, shifted_by_byte, crc_of, number, product, bits_of, IsRemainder}
 
 -- one bit of a byte more
 pub next_bit : (crc next byte i end : ℕ) → i < 8 → next ≡ shifted crc (bit_and (byte / 2 ^ (7 - i)) 1 == 1)
     → fold shifted crc (low_bits (8 - i) byte) ≡ end → fold shifted next (low_bits (8 - (i + 1)) byte) ≡ end
+unfolding low_bits
 next_bit crc next byte i end lt is so_far =
     let here : 8 - i ≡ suc (7 - i) = omega arith in
     let after : 8 - (i + 1) ≡ 7 - i = omega arith in
     rw (after, is, shr_and_one byte (7 - i)) (rw here at so_far)
+
+-- behind the last bit of a byte
+pub last_bit : (crc byte i end : ℕ) → 8 ≤ i → fold shifted crc (low_bits (8 - i) byte) ≡ end → crc ≡ end
+unfolding low_bits
+last_bit crc byte i end le is = let none : 8 - i ≡ 0 = omega arith in rw none at is
 
 -- ---- sums without carries
 

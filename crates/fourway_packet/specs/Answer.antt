@@ -2,7 +2,7 @@
 use Rattle.std.specs.Prelude.{◌≡◌, ℕ, ◌+◌, ◌*◌, Bool, false, List, [], length, take, drop, Option, Some, None, Result, Ok, Err}
 use Rattle.std.specs.Option.{option_map}
 use Rattle.esc_base.specs.Flash.{erased, programmed, ChangesWithin, IsRead}
-use Rattle.settings_block.specs.Stored.{KeepsBelow}
+use Rattle.settings_block.specs.Stored.{settings_address, settings_page, KeepsBelow}
 use Rattle.fourway_packet.specs.declared.packet.Packet.{Packet}
 use Rattle.fourway_packet.specs.declared.packet.Packet.TheVariants.{Whole, BadCrc}
 use Rattle.fourway_packet.specs.declared.command.Command.{Command}
@@ -47,8 +47,8 @@ abbrev pub IsDone : Command → ℕ → List ℕ → Option (List ℕ) → List 
 IsDone cmd.PageErase addr params before content after = (content ≡ nothing) × (after ≡ option_map (λ cells. erased cells (first_of params)) before)
 IsDone cmd.Read addr params before content after = ReadsOut addr (count_of (first_of params)) before content × (after ≡ before)
 IsDone cmd.Write addr params before content after = (content ≡ nothing) × (after ≡ option_map (λ cells. programmed cells addr params) before)
-IsDone cmd.ReadEeprom addr params before content after = ReadsOut (31744 + addr) (count_of (first_of params)) before content × (after ≡ before)
-IsDone cmd.WriteEeprom addr params before content after = (content ≡ nothing) × (after ≡ option_map (λ cells. programmed (erased cells 31) 31744 params) before)
+IsDone cmd.ReadEeprom addr params before content after = ReadsOut (settings_address + addr) (count_of (first_of params)) before content × (after ≡ before)
+IsDone cmd.WriteEeprom addr params before content after = (content ≡ nothing) × (after ≡ option_map (λ cells. programmed (erased cells settings_page) settings_address params) before)
 IsDone cmd.Verify addr params before content after = (content ≡ nothing) × IsRead before addr params × (after ≡ before)
 IsDone c addr params before content after = (content ≡ content_of c) × (after ≡ before)
 
@@ -58,7 +58,7 @@ HasFailed cmd.PageErase addr params before after = ChangesWithin (first_of param
 HasFailed cmd.Read addr params before after = after ≡ before
 HasFailed cmd.Write addr params before after = ChangesWithin addr (length params) before after
 HasFailed cmd.ReadEeprom addr params before after = after ≡ before
-HasFailed cmd.WriteEeprom addr params before after = KeepsBelow 31744 before after
+HasFailed cmd.WriteEeprom addr params before after = KeepsBelow settings_address before after
 HasFailed cmd.Verify addr params before after = after ≡ before
 HasFailed c addr params before after = ⊥
 

@@ -1,19 +1,7 @@
 -- CRC-16 with polynomial 0x1021: the remainder of the bits, read as a polynomial, on division by x^16 + x^12 + x^5 + 1.
 use Rattle.std.specs.Prelude.{◌≡◌, ◌<◌, ℕ, zero, suc, ◌*◌, ◌+◌, ◌/◌, ◌%◌, ◌^◌, Bool, true, false, not, ◌==◌, if◌then◌else◌, List, [], ◌∷◌, bit_xor}
 use Rattle.std.specs.List.{fold, flat_map}
-
-abbrev pub digit : Bool → ℕ
-digit true = 1
-digit false = 0
-
-abbrev pub xor : Bool → Bool → Bool
-xor true b = not b
-xor false b = b
-
--- the lowest k bits of a number, the most significant first
-abbrev pub low_bits : ℕ → ℕ → List Bool
-low_bits zero n = []
-low_bits (suc k) n = (n / 2 ^ k % 2 == 1) ∷ low_bits k n
+use Rattle.esc_base.specs.Bits.{digit, xor, low_bits}
 
 -- the CRC after one more bit
 abbrev pub shifted : ℕ → Bool → ℕ

@@ -3,6 +3,7 @@ use Rattle.std.specs.Prelude.{ℕ, zero, suc, ◌+◌, ◌-◌, Bool, not, ◌&&
 use Rattle.std.specs.List.{slice_range}
 use Rattle.byteorder.specs.Endian.{big_number}
 use Rattle.esc_base.specs.declared.tick.Tick.{Tick}
+use Rattle.esc_base.specs.Times.{packet_pause}
 use Rattle.fourway_packet.specs.declared.packet.Packet.{Packet}
 use Rattle.fourway_packet.specs.declared.packet.Packet.TheVariants.{Whole, BadCrc}
 use Rattle.fourway_packet.specs.declared.packets.Received.{Received}
@@ -37,9 +38,9 @@ packet_of bytes = packet_by (crc_of (take (covered_of bytes) bytes) == big_numbe
 abbrev pub bytes_of : List Received → List ℕ
 bytes_of received = map (λ r. r.byte) received
 
--- t is more than 2,400,000 ticks, 50 milliseconds, after the tick before
+-- t is more than `packet_pause` after the tick before
 abbrev pub is_late : Tick → Tick → Bool
-is_late before t = nat_lt (before.0 + 2400000) t.0
+is_late before t = nat_lt (before.0 + packet_pause) t.0
 
 -- the bytes up to and without the first that is late after the one before it
 abbrev pub in_time : Tick → List Received → List Received

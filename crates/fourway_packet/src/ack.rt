@@ -6,7 +6,7 @@ use esc_base::Failed;
 use settings_block::FlashFault;
 
 /// Why a packet is refused, or what failed. A reply has it as a number; 0 says that all went well.
-#[derive(Clone, Copy, Debug, PartialEq, Eq, Drop)]
+#[derive(Clone, Copy, Drop)]
 pub enum Ack {
     /// 2: there is no such command.
     UnknownCommand,

@@ -5,7 +5,7 @@ use crate::Params;
 use crate::flash::settings_in;
 
 /// What a packet asks for.
-#[derive(Clone, Copy, Debug, PartialEq, Eq, Drop)]
+#[derive(Clone, Copy, Drop)]
 pub enum Command {
     /// 0x30: whether the controller is there.
     Alive,

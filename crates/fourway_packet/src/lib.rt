@@ -17,8 +17,6 @@ mod packets;
 mod params;
 mod part;
 mod reply;
-#[cfg(test)]
-mod tests;
 
 pub use ack::Ack;
 pub use answering::{Session, answer};

@@ -7,7 +7,7 @@ use crate::{Params, crc16};
 use byteorder::{BigEndian, ByteOrder};
 
 /// A request that was cut from the serial bytes: its command, its address, and its parameters if they can be trusted.
-#[derive(Debug, Drop)]
+#[derive(Drop)]
 pub enum Packet {
     /// Its CRC is right.
     Whole { cmd: u8, addr: u16, params: Params },

@@ -5,7 +5,7 @@ use arrayvec::ArrayVec;
 use std::marker::Model;
 
 /// The parameters of a packet: 1 to 256 bytes.
-#[derive(Debug, Drop)]
+#[derive(Drop)]
 pub struct Params {
     bytes: ArrayVec<u8, 256>,
 }

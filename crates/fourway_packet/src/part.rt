@@ -15,7 +15,7 @@ const PAUSE: u64 = 2_400_000;
 const REQUEST: u8 = 0x2F;
 
 /// The bytes from a 0x2F on, fewer than their packet has, and when the newest serial byte arrived.
-#[derive(Debug, Drop)]
+#[derive(Drop)]
 pub struct Part {
     bytes: ArrayVec<u8, 263>,
     newest: Tick,

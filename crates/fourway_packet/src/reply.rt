@@ -11,7 +11,7 @@ use byteorder::{BigEndian, ByteOrder};
 const REPLY: u8 = 0x2E;
 
 /// The answer to a packet.
-#[derive(Debug, Drop)]
+#[derive(Drop)]
 pub struct Reply {
     /// The command of the packet.
     pub cmd: u8,

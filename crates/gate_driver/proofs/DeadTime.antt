@@ -5,6 +5,7 @@ use Rattle.esc_base.specs.declared.gate.Leg.{Leg}
 use Rattle.esc_base.specs.declared.note.Note.{Note}
 use Rattle.esc_base.specs.declared.note.Note.TheVariants as note
 use Rattle.esc_base.specs.Legs.{is_on, mask_of, IsApart}
+use Rattle.esc_base.specs.Times.{dead_time}
 use Rattle.esc_base.specs.Numbers.{as_tick}
 use Rattle.timer_regs.specs.Bank.{Bank}
 use Rattle.gate_driver.specs.Gated.{Gated, at_leg, offs, gates_after, wait_of, high_wait, low_wait}
@@ -20,7 +21,7 @@ pub record MayTurnOn (other since : ℕ) (x : Leg) (t : ℕ) : Type 0 where
   pub free : since ≤ t
 
 may_at : (v w : Bool) (other free : ℕ) (x : Leg) (t : ℕ) → is_on other x ≡ v → nat_lt t free ≡ w
-    → (if v then Some (t + 48) else if w then Some free else None) ≡ None → MayTurnOn other free x t
+    → (if v then Some (t + dead_time) else if w then Some free else None) ≡ None → MayTurnOn other free x t
 may_at true w other free x t e f n = absurd (cc)
 may_at false true other free x t e f n = absurd (cc)
 may_at false false other free x t e f n = record { off = e; free = grind (arith, nat_tests) }

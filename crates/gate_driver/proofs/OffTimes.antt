@@ -6,12 +6,13 @@ use Rattle.esc_base.specs.declared.gate.Leg.TheVariants.{A, B, C}
 use Rattle.esc_base.specs.declared.note.Note.{Note}
 use Rattle.esc_base.specs.declared.note.Note.TheVariants as note
 use Rattle.esc_base.specs.Legs.{is_on}
+use Rattle.esc_base.specs.Times.{dead_time}
 use Rattle.esc_base.specs.Numbers.{as_tick}
 use Rattle.timer_regs.specs.Bank.{Bank}
 use Rattle.gate_driver.specs.Gated.{Legs, Gated, at_leg, free_after, offs, gates_after}
 use Rattle.gate_driver.specs.DeadSafe.{high_at, low_at, IsTied, with_gate}
 
-same_test : (v : Bool) (t f : ℕ) → (if v && not v then t + 48 else f) ≡ f
+same_test : (v : Bool) (t f : ℕ) → (if v && not v then t + dead_time else f) ≡ f
 same_test true t f = refl
 same_test false t f = refl
 

@@ -11,7 +11,7 @@ use crate::{Gates, Progress};
 use timer_regs::{Reg, Regs};
 
 /// Turns all switches off, named by the step that comes next.
-#[derive(Clone, Copy, Debug, PartialEq, Eq, Drop)]
+#[derive(Clone, Copy, Drop)]
 pub enum AllOff {
     /// Turns the high switches off.
     High,

@@ -16,7 +16,7 @@ use timer_regs::{Reg, Regs};
 
 /// Chops once, under the interrupt mask, so that position, duty and sector are still as they were read when the switch
 /// is written. Each place is named by the step that comes next.
-#[derive(Clone, Copy, Debug, PartialEq, Eq, Drop)]
+#[derive(Clone, Copy, Drop)]
 pub enum Chop {
     /// Raises the mask.
     Raise,

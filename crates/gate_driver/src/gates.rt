@@ -13,7 +13,7 @@ use timer_regs::{Reg, Regs};
 const DEAD_TIME: u64 = 48;
 
 /// For each leg the tick from which on the switch of one side no longer keeps that of the other side off.
-#[derive(Debug, Drop)]
+#[derive(Drop)]
 struct FreeFrom {
     a: Tick,
     b: Tick,
@@ -61,7 +61,7 @@ impl FreeFrom {
 }
 
 /// When each switch last went off. At first all are off, and never were on.
-#[derive(Debug, Drop)]
+#[derive(Drop)]
 pub struct Gates {
     high: FreeFrom,
     low: FreeFrom,

@@ -7,8 +7,6 @@ mod all_off;
 mod chop;
 mod gates;
 mod progress;
-#[cfg(test)]
-mod tests;
 mod to_sector;
 
 pub use all_off::AllOff;

@@ -38,7 +38,7 @@ pub enum ChangeAt {
 }
 
 /// Changes to a sector.
-#[derive(Clone, Copy, Debug, PartialEq, Eq, Drop)]
+#[derive(Drop)]
 pub struct ToSector {
     to: Sector,
     at: ChangeAt,

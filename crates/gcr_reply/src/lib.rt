@@ -9,8 +9,6 @@ mod groups;
 mod line;
 mod period;
 mod reply;
-#[cfg(test)]
-mod tests;
 
 pub use groups::gcr;
 pub use line::{line_bits, unline};

@@ -2,8 +2,6 @@
 #![tactic(auto)]
 
 mod search;
-#[cfg(test)]
-mod tests;
 mod window;
 
 pub use search::{Seen, detect, is_good_in};

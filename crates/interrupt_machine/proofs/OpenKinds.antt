@@ -204,7 +204,8 @@ idle_entered nest masked stack due (Some k) some e = sym (busy_entry nest masked
 
 -- none of CAP and the kinds below it enters above CAP
 none_above_cap : (nest : Nest) (c t u m : Bool)
-    → enters_above nest (Some kind.Cap) (if c then Some kind.Cap else if t then Some kind.Tick else if u then Some kind.Uart else if m then Some kind.Main else None) ≡ None
+    → enters_above nest (Some kind.Cap)
+    (if c then Some kind.Cap else if t then Some kind.Tick else if u then Some kind.Uart else if m then Some kind.Main else None) ≡ None
 none_above_cap One true t u m = refl
 none_above_cap One false true u m = refl
 none_above_cap One false false true m = refl

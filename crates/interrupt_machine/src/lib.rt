@@ -7,8 +7,6 @@ mod machine;
 mod nest;
 mod notes;
 mod stack;
-#[cfg(test)]
-mod tests;
 
 pub use firmware::{Did, Firmware, Own};
 pub use machine::Machine;

@@ -4,7 +4,7 @@ ghost use Rattle.interrupt_machine.specs.Open.{may_enter};
 use esc_base::Kind;
 
 /// Which kinds may enter while a handler is open.
-#[derive(Clone, Copy, Debug, PartialEq, Eq, Drop)]
+#[derive(Clone, Copy, Drop)]
 pub enum Nest {
     /// None while a kind above MAIN is open.
     One,

@@ -7,7 +7,7 @@ use esc_base::Kind;
 use std::marker::Model;
 
 /// The kinds that are open: each was entered above the one before, so there are at most seven.
-#[derive(Debug, Drop)]
+#[derive(Drop)]
 pub struct Stack {
     /// The innermost last.
     kinds: ArrayVec<Kind, 7>,

@@ -5,22 +5,23 @@ use Rattle.esc_base.specs.declared.signal.Verdict.{Verdict}
 use Rattle.esc_base.specs.declared.signal.Verdict.TheVariants.{Good, Bad}
 use Rattle.esc_base.specs.declared.signal.Why.TheVariants.{Count, Polarity, Width}
 use Rattle.edge_capture.specs.Edges.{edge_at}
+use Rattle.esc_base.specs.Times.{least_throttle, microsecond, most_throttle}
 use Rattle.servo_input.specs.declared.servo.Servo.{Servo}
 
--- the pulse's width, from its first edge to its second, in whole microseconds of 48 ticks
+-- the pulse's width, from its first edge to its second, in whole microseconds
 abbrev pub width_us : List Edge → ℕ
-width_us edges = ((edge_at edges 1).t.0 - (edge_at edges 0).t.0) / 48
+width_us edges = ((edge_at edges 1).t.0 - (edge_at edges 0).t.0) / microsecond
 
 abbrev pub is_servo_width : ℕ → Bool
 is_servo_width us = nat_le 800 us && nat_le us 2200
 
--- At or below the low end the throttle is off, at or above the high one it is full. Between them 48 to 2047 lie
+-- At or below the low end the throttle is off, at or above the high one it is full. Between them the throttle values lie
 -- evenly, rounded down.
 abbrev pub servo_value : ℕ → Servo → ℕ
 servo_value us servo =
     if nat_le us servo.low_us then 0
-    else if nat_le servo.high_us us then 2047
-    else 48 + (us - servo.low_us) * 1999 / (servo.high_us - servo.low_us)
+    else if nat_le servo.high_us us then most_throttle
+    else least_throttle + (us - servo.low_us) * (most_throttle - least_throttle) / (servo.high_us - servo.low_us)
 
 -- the first fault that applies, else the throttle value of the width
 abbrev pub pulse_of : List Edge → Servo → Verdict

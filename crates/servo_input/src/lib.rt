@@ -2,8 +2,6 @@
 #![tactic(auto)]
 
 mod servo;
-#[cfg(test)]
-mod tests;
 mod width;
 
 pub use servo::{InputKind, Servo};

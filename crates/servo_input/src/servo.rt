@@ -12,7 +12,7 @@ pub enum InputKind {
 }
 
 /// The range of servo pulses, in microseconds: the width of no throttle, and that of full throttle, which is longer.
-#[derive(Clone, Copy, Debug, PartialEq, Eq, Drop)]
+#[derive(Clone, Copy, Drop)]
 pub struct Servo {
     pub low_us: u16,
     pub high_us: u16,

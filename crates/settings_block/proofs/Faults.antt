@@ -6,8 +6,7 @@ use Rattle.std.proofs.lemmas.Bool.Decides.{nat_tests}
 use Rattle.settings_block.specs.declared.block.BlockFault.{BlockFault}
 use Rattle.settings_block.specs.declared.block.BlockFault.TheVariants.{Marker, Version, Range}
 use Rattle.settings_block.specs.declared.field.Field.{Field}
-use Rattle.settings_block.specs.declared.field.TheConstants.{COMPLEMENTARY, INPUT, MARKER, THREE_D, VERSION}
-use Rattle.settings_block.specs.Field.{allows, byte_at}
+use Rattle.settings_block.specs.Field.{allows, byte_at, complementary_row, input_row, marker_row, three_d_row, version_row}
 use Rattle.settings_block.specs.Settings.{IsInRange}
 use Rattle.settings_block.specs.Block.{fault_of, fields, range_fault, settings_of}
 
@@ -17,8 +16,8 @@ Allowed block [] = Unit {0}
 Allowed block (field ∷ rest) = (allows field (byte_at block field) ≡ true) × Allowed block rest
 
 pub record Sound (block : List ℕ) : Type 0 where
-  pub marker : byte_at block MARKER ≡ 1
-  pub version : byte_at block VERSION ≡ 1
+  pub marker : byte_at block marker_row ≡ 1
+  pub version : byte_at block version_row ≡ 1
   pub allowed : Allowed block fields
 
 none_at : (b : Bool) (field : Field) (rest : Option Field) → cond (not b) (Some field) rest ≡ None → (b ≡ true) × (rest ≡ None)
@@ -51,11 +50,11 @@ is_one n e = grind (arith, nat_tests)
 
 pub sound_block : (block : List ℕ) → fault_of block ≡ None → Sound block
 sound_block block e =
-    let p = none_first (byte_at block MARKER == 1) Marker (if not (byte_at block VERSION == 1) then Some Version else range_fault block) e in
-    let q = none_first (byte_at block VERSION == 1) Version (range_fault block) p.1 in
+    let p = none_first (byte_at block marker_row == 1) Marker (if not (byte_at block version_row == 1) then Some Version else range_fault block) e in
+    let q = none_first (byte_at block version_row == 1) Version (range_fault block) p.1 in
     record {
-      marker = is_one (byte_at block MARKER) p.0;
-      version = is_one (byte_at block VERSION) q.0;
+      marker = is_one (byte_at block marker_row) p.0;
+      version = is_one (byte_at block version_row) q.0;
       allowed = allowed_all block fields (no_range (find (λ field. not (allows field (byte_at block field))) fields) q.1);
     }
 
@@ -76,14 +75,14 @@ sound_range block s =
       dead_band = a.1.1.1.1.1.1.1.1.0;
     }
 
-pub three_d_allowed : (block : List ℕ) → Sound block → allows THREE_D (byte_at block THREE_D) ≡ true
+pub three_d_allowed : (block : List ℕ) → Sound block → allows three_d_row (byte_at block three_d_row) ≡ true
 unfolding Allowed
 three_d_allowed block s = s.allowed.1.0
 
-pub complementary_allowed : (block : List ℕ) → Sound block → allows COMPLEMENTARY (byte_at block COMPLEMENTARY) ≡ true
+pub complementary_allowed : (block : List ℕ) → Sound block → allows complementary_row (byte_at block complementary_row) ≡ true
 unfolding Allowed
 complementary_allowed block s = s.allowed.1.1.0
 
-pub input_allowed : (block : List ℕ) → Sound block → allows INPUT (byte_at block INPUT) ≡ true
+pub input_allowed : (block : List ℕ) → Sound block → allows input_row (byte_at block input_row) ≡ true
 unfolding Allowed
 input_allowed block s = s.allowed.1.1.1.1.1.1.1.1.1.0

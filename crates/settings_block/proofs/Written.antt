@@ -7,8 +7,7 @@ use Rattle.servo_input.specs.declared.servo.InputKind.{InputKind}
 use Rattle.servo_input.specs.declared.servo.InputKind.TheVariants as input
 use Rattle.settings_block.specs.declared.settings.Settings.{Settings}
 use Rattle.settings_block.specs.declared.field.Field.{Field}
-use Rattle.settings_block.specs.declared.field.TheConstants.{ADVANCE, COMPLEMENTARY, DEAD_BAND, DIRECTION, HIGH, INPUT, LOW, MARKER, NEUTRAL, POLES, THREE_D, VERSION}
-use Rattle.settings_block.specs.Field.{allows, byte_at}
+use Rattle.settings_block.specs.Field.{advance_row, allows, byte_at, complementary_row, dead_band_row, direction_row, high_row, input_row, low_row, marker_row, neutral_row, poles_row, three_d_row, version_row}
 use Rattle.settings_block.specs.Settings.{input_number, input_of, IsInRange}
 use Rattle.settings_block.specs.Block.{block_of, bytes_of, read_of, settings_of, written}
 use Rattle.settings_block.proofs.Faults.{complementary_allowed, input_allowed, sound_fault, three_d_allowed, Allowed, Sound}
@@ -44,7 +43,7 @@ input_at true b n e f le = grind (arith, nat_tests)
 input_at false true n e f le = grind (arith, nat_tests)
 input_at false false n e f le = grind (arith, nat_tests)
 
-input_same : (n : ℕ) → allows INPUT n ≡ true → input_number (input_of n) ≡ n
+input_same : (n : ℕ) → allows input_row n ≡ true → input_number (input_of n) ≡ n
 input_same n e = input_at (n == 1) (n == 2) n refl refl (most_of (nat_le 0 n) (nat_le n 2) (n % 1 == 0) e)
 
 -- a block without a fault is written as it was read
@@ -58,10 +57,10 @@ block_same block s =
         (
           refl,
           (
-            bit_same THREE_D (byte_at block THREE_D) refl (three_d_allowed block s),
+            bit_same three_d_row (byte_at block three_d_row) refl (three_d_allowed block s),
             (
-              bit_same COMPLEMENTARY (byte_at block COMPLEMENTARY) refl (complementary_allowed block s),
-              (refl, (refl, (refl, (refl, (refl, (refl, (input_same (byte_at block INPUT) (input_allowed block s), tt))))))),
+              bit_same complementary_row (byte_at block complementary_row) refl (complementary_allowed block s),
+              (refl, (refl, (refl, (refl, (refl, (refl, (input_same (byte_at block input_row) (input_allowed block s), tt))))))),
             ),
           ),
         ),
@@ -93,18 +92,18 @@ index_written (byte ∷ bytes) block k within =
 
 -- a block holds the bytes of these settings
 record Holds (block : List ℕ) (s : Settings) : Type 0 where
-  marker : byte_at block MARKER ≡ 1
-  version : byte_at block VERSION ≡ 1
-  direction : byte_at block DIRECTION ≡ s.direction
-  three_d : byte_at block THREE_D ≡ bit_of s.three_d
-  complementary : byte_at block COMPLEMENTARY ≡ bit_of s.complementary
-  advance : byte_at block ADVANCE ≡ s.advance
-  poles : byte_at block POLES ≡ s.poles
-  low : byte_at block LOW ≡ s.low
-  high : byte_at block HIGH ≡ s.high
-  neutral : byte_at block NEUTRAL ≡ s.neutral
-  dead_band : byte_at block DEAD_BAND ≡ s.dead_band
-  input : byte_at block INPUT ≡ input_number s.input
+  marker : byte_at block marker_row ≡ 1
+  version : byte_at block version_row ≡ 1
+  direction : byte_at block direction_row ≡ s.direction
+  three_d : byte_at block three_d_row ≡ bit_of s.three_d
+  complementary : byte_at block complementary_row ≡ bit_of s.complementary
+  advance : byte_at block advance_row ≡ s.advance
+  poles : byte_at block poles_row ≡ s.poles
+  low : byte_at block low_row ≡ s.low
+  high : byte_at block high_row ≡ s.high
+  neutral : byte_at block neutral_row ≡ s.neutral
+  dead_band : byte_at block dead_band_row ≡ s.dead_band
+  input : byte_at block input_row ≡ input_number s.input
 
 within_block : (s : Settings) (n : ℕ) → n ≡ 48 → Within (bytes_of s) n
 unfolding Within
@@ -148,11 +147,11 @@ holds s len =
       input = at 46;
     }
 
-bit_allowed : (b : Bool) → allows THREE_D (bit_of b) ≡ true
+bit_allowed : (b : Bool) → allows three_d_row (bit_of b) ≡ true
 bit_allowed true = refl
 bit_allowed false = refl
 
-number_allowed : (kind : InputKind) → allows INPUT (input_number kind) ≡ true
+number_allowed : (kind : InputKind) → allows input_row (input_number kind) ≡ true
 number_allowed input.Any = refl
 number_allowed input.DShot = refl
 number_allowed input.Servo = refl

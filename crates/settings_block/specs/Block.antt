@@ -1,18 +1,17 @@
 -- The block's bytes.
-use Rattle.std.specs.Prelude.{ℕ, Bool, not, ◌==◌, if◌then◌else◌, List, [], ◌∷◌, slice_set, find, Option, Some, None, Result, Ok, Err}
+use Rattle.std.specs.Prelude.{ℕ, not, ◌==◌, if◌then◌else◌, List, [], ◌∷◌, slice_set, find, Option, Some, None, Result, Ok, Err}
 use Rattle.std.specs.Option.{option_map}
 use Rattle.esc_base.specs.Numbers.{bit_of}
 use Rattle.settings_block.specs.declared.field.Field.{Field}
-use Rattle.settings_block.specs.declared.field.TheConstants.{ADVANCE, COMPLEMENTARY, DEAD_BAND, DIRECTION, HIGH, INPUT, LOW, MARKER, NEUTRAL, POLES, THREE_D, VERSION}
 use Rattle.settings_block.specs.declared.settings.Settings.{Settings}
 use Rattle.settings_block.specs.declared.block.BlockFault.{BlockFault}
 use Rattle.settings_block.specs.declared.block.BlockFault.TheVariants.{Marker, Version, Range}
-use Rattle.settings_block.specs.Field.{allows, byte_at}
+use Rattle.settings_block.specs.Field.{advance_row, allows, byte_at, complementary_row, dead_band_row, direction_row, high_row, input_row, low_row, marker_row, neutral_row, poles_row, three_d_row, version_row}
 pub use Rattle.settings_block.specs.Settings.{input_number, input_of}
 
 -- the fields whose range is checked, by their offsets
 abbrev pub fields : List Field
-fields = DIRECTION ∷ THREE_D ∷ COMPLEMENTARY ∷ ADVANCE ∷ POLES ∷ LOW ∷ HIGH ∷ NEUTRAL ∷ DEAD_BAND ∷ INPUT ∷ []
+fields = direction_row ∷ three_d_row ∷ complementary_row ∷ advance_row ∷ poles_row ∷ low_row ∷ high_row ∷ neutral_row ∷ dead_band_row ∷ input_row ∷ []
 
 -- the lowest offset whose byte is out of range
 abbrev pub range_fault : List ℕ → Option BlockFault
@@ -21,23 +20,23 @@ range_fault block = option_map (λ field. Range field.offset) (find (λ field. n
 -- the first fault of a block: no marker, another version, or the lowest byte out of range
 abbrev pub fault_of : List ℕ → Option BlockFault
 fault_of block =
-    if not (byte_at block MARKER == MARKER.default) then Some Marker
-    else (if not (byte_at block VERSION == VERSION.default) then Some Version
+    if not (byte_at block marker_row == marker_row.default) then Some Marker
+    else (if not (byte_at block version_row == version_row.default) then Some Version
     else range_fault block)
 
 -- the settings of a block without a fault
 abbrev pub settings_of : List ℕ → Settings
 settings_of block = record {
-  direction = byte_at block DIRECTION;
-  three_d = byte_at block THREE_D == 1;
-  complementary = byte_at block COMPLEMENTARY == 1;
-  advance = byte_at block ADVANCE;
-  poles = byte_at block POLES;
-  low = byte_at block LOW;
-  high = byte_at block HIGH;
-  neutral = byte_at block NEUTRAL;
-  dead_band = byte_at block DEAD_BAND;
-  input = input_of (byte_at block INPUT);
+  direction = byte_at block direction_row;
+  three_d = byte_at block three_d_row == 1;
+  complementary = byte_at block complementary_row == 1;
+  advance = byte_at block advance_row;
+  poles = byte_at block poles_row;
+  low = byte_at block low_row;
+  high = byte_at block high_row;
+  neutral = byte_at block neutral_row;
+  dead_band = byte_at block dead_band_row;
+  input = input_of (byte_at block input_row);
   rest = record { 0 = block };
 }
 
@@ -55,9 +54,9 @@ written (byte ∷ bytes) block = written bytes (slice_set block byte.0.offset by
 
 abbrev pub bytes_of : Settings → List (Field × ℕ)
 bytes_of s =
-    (MARKER, MARKER.default) ∷ (VERSION, VERSION.default) ∷ (DIRECTION, s.direction) ∷ (THREE_D, bit_of s.three_d)
-    ∷ (COMPLEMENTARY, bit_of s.complementary) ∷ (ADVANCE, s.advance) ∷ (POLES, s.poles)
-    ∷ (LOW, s.low) ∷ (HIGH, s.high) ∷ (NEUTRAL, s.neutral) ∷ (DEAD_BAND, s.dead_band) ∷ (INPUT, input_number s.input) ∷ []
+    (marker_row, marker_row.default) ∷ (version_row, version_row.default) ∷ (direction_row, s.direction) ∷ (three_d_row, bit_of s.three_d)
+    ∷ (complementary_row, bit_of s.complementary) ∷ (advance_row, s.advance) ∷ (poles_row, s.poles)
+    ∷ (low_row, s.low) ∷ (high_row, s.high) ∷ (neutral_row, s.neutral) ∷ (dead_band_row, s.dead_band) ∷ (input_row, input_number s.input) ∷ []
 
 -- the block of these settings: their fields over the bytes that they were read from
 abbrev pub block_of : Settings → List ℕ

@@ -7,18 +7,17 @@ use Rattle.servo_input.specs.declared.servo.InputKind.TheVariants as input
 use Rattle.dshot_commands.specs.declared.act.Act.{Act}
 use Rattle.dshot_commands.specs.declared.act.Act.TheVariants.{Direction, ThreeD}
 use Rattle.settings_block.specs.declared.settings.Settings.{Settings}
-use Rattle.settings_block.specs.declared.field.TheConstants.{ADVANCE, COMPLEMENTARY, DEAD_BAND, DIRECTION, HIGH, INPUT, LOW, NEUTRAL, POLES, THREE_D}
-use Rattle.settings_block.specs.Field.{allows}
+use Rattle.settings_block.specs.Field.{advance_row, allows, complementary_row, dead_band_row, direction_row, high_row, input_row, low_row, neutral_row, poles_row, three_d_row}
 
 -- the fields that are numbers hold what the block allows
 pub record IsInRange (s : Settings) : Type 0 where
-  pub direction : allows DIRECTION s.direction ≡ true
-  pub advance : allows ADVANCE s.advance ≡ true
-  pub poles : allows POLES s.poles ≡ true
-  pub low : allows LOW s.low ≡ true
-  pub high : allows HIGH s.high ≡ true
-  pub neutral : allows NEUTRAL s.neutral ≡ true
-  pub dead_band : allows DEAD_BAND s.dead_band ≡ true
+  pub direction : allows direction_row s.direction ≡ true
+  pub advance : allows advance_row s.advance ≡ true
+  pub poles : allows poles_row s.poles ≡ true
+  pub low : allows low_row s.low ≡ true
+  pub high : allows high_row s.high ≡ true
+  pub neutral : allows neutral_row s.neutral ≡ true
+  pub dead_band : allows dead_band_row s.dead_band ≡ true
 
 abbrev pub input_of : ℕ → InputKind
 input_of byte = if byte == 1 then input.DShot else (if byte == 2 then input.Servo else input.Any)
@@ -30,16 +29,16 @@ input_number input.Servo = 2
 
 abbrev pub default_settings : Settings
 default_settings = record {
-  direction = DIRECTION.default;
-  three_d = THREE_D.default == 1;
-  complementary = COMPLEMENTARY.default == 1;
-  advance = ADVANCE.default;
-  poles = POLES.default;
-  low = LOW.default;
-  high = HIGH.default;
-  neutral = NEUTRAL.default;
-  dead_band = DEAD_BAND.default;
-  input = input_of INPUT.default;
+  direction = direction_row.default;
+  three_d = three_d_row.default == 1;
+  complementary = complementary_row.default == 1;
+  advance = advance_row.default;
+  poles = poles_row.default;
+  low = low_row.default;
+  high = high_row.default;
+  neutral = neutral_row.default;
+  dead_band = dead_band_row.default;
+  input = input_of input_row.default;
   rest = record { 0 = replicate 48 0 };
 }
 

@@ -1,9 +1,9 @@
 //! Where the fields of the block stand, what they may hold, and what they hold by default.
 ghost use Rattle.std.specs.Prelude.{◌≡◌, ◌<◌};
-ghost use Rattle.settings_block.specs.Field.{allows};
+ghost use Rattle.settings_block.specs.Field.{allows, marker_row, version_row, direction_row, three_d_row, complementary_row, advance_row, poles_row, low_row, high_row, neutral_row, dead_band_row, input_row};
 
 /// A field of one byte: `least` to `most`, in steps from 0 on.
-#[derive(Clone, Copy, Debug, PartialEq, Eq, Drop)]
+#[derive(Clone, Copy, Drop)]
 pub(crate) struct Field {
     pub offset: u8,
     pub least: u8,
@@ -128,4 +128,21 @@ impl Field {
     {
         self.least <= byte && byte <= self.most && byte % self.step == 0
     }
+}
+
+/// Each field has the table's row.
+pub(crate) fn rows()
+    ensures marker { MARKER ≡ marker_row }
+    ensures version { VERSION ≡ version_row }
+    ensures direction { DIRECTION ≡ direction_row }
+    ensures three_d { THREE_D ≡ three_d_row }
+    ensures complementary { COMPLEMENTARY ≡ complementary_row }
+    ensures advance { ADVANCE ≡ advance_row }
+    ensures poles { POLES ≡ poles_row }
+    ensures low { LOW ≡ low_row }
+    ensures high { HIGH ≡ high_row }
+    ensures neutral { NEUTRAL ≡ neutral_row }
+    ensures dead_band { DEAD_BAND ≡ dead_band_row }
+    ensures input { INPUT ≡ input_row }
+{
 }

@@ -5,8 +5,6 @@ mod block;
 mod field;
 mod settings;
 mod stored;
-#[cfg(test)]
-mod tests;
 
 pub use block::{BlockFault, default_block, read_block, write_block};
 pub use settings::{Settings, apply, servo_of};

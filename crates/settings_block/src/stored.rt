@@ -5,7 +5,7 @@ ghost use Rattle.esc_base.specs.Flash.{erased, programmed};
 ghost use Rattle.esc_base.specs.Outside.{Rose};
 ghost use Rattle.settings_block.specs.Settings.{IsInRange};
 ghost use Rattle.settings_block.specs.Block.{block_of};
-ghost use Rattle.settings_block.specs.Stored.{loaded_of, IsLoaded, KeepsBelow};
+ghost use Rattle.settings_block.specs.Stored.{loaded_of, settings_address, settings_page, IsLoaded, KeepsBelow};
 
 use crate::block::defaults;
 use crate::{BlockFault, Settings, read_block, write_block};
@@ -44,6 +44,7 @@ pub fn load<D: FlashDev>(dev: &mut D) -> Result<Loaded, FlashFault>
     ensures loaded { IfOk result (λ loaded. IsLoaded (D.told dev.old).bytes loaded) }
     ensures in_range { IfOk result (λ loaded. IsInRange loaded.settings) }
     ensures unchanged { (D.told dev.new).bytes ≡ (D.told dev.old).bytes }
+    ensures fine { OnOk result ((D.told dev.new).faults ≡ (D.told dev.old).faults) }
     ensures no_fewer { (D.told dev.old).faults ≤ (D.told dev.new).faults }
     ensures failed { OnErr result (Rose (D.told dev.old).faults (D.told dev.new).faults) }
 {
@@ -55,8 +56,8 @@ pub fn load<D: FlashDev>(dev: &mut D) -> Result<Loaded, FlashFault>
 /// Erases the block's page, which is the last one, and programs the settings' block. It fails only where the flash did;
 /// then that page may hold anything.
 pub fn save<D: FlashDev>(s: &Settings, dev: &mut D) -> Result<(), FlashFault>
-    ensures saved { OnOk result ((D.told dev.new).bytes ≡ option_map (λ cells. programmed (erased cells 31) 31744 (block_of s.now)) (D.told dev.old).bytes) }
-    ensures below { OnErr result (KeepsBelow 31744 (D.told dev.old).bytes (D.told dev.new).bytes) }
+    ensures saved { OnOk result ((D.told dev.new).bytes ≡ option_map (λ cells. programmed (erased cells settings_page) settings_address (block_of s.now)) (D.told dev.old).bytes) }
+    ensures below { OnErr result (KeepsBelow settings_address (D.told dev.old).bytes (D.told dev.new).bytes) }
     ensures no_fewer { (D.told dev.old).faults ≤ (D.told dev.new).faults }
     ensures failed { OnErr result (Rose (D.told dev.old).faults (D.told dev.new).faults) }
 {

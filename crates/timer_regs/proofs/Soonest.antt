@@ -71,7 +71,8 @@ none_due b kinds.Uart u e = right_none _ _ (right_none _ _ e)
 none_due b kinds.Main u e = refl
 
 which_due : (b : Bank) (u : ℕ) (t c z p m : Bool) → becomes_due b kinds.Tick u ≡ t → becomes_due b kinds.Cap u ≡ c → becomes_due b kinds.Cmp u ≡ z
-    → becomes_due b kinds.Pwm u ≡ p → becomes_due b kinds.Comm u ≡ m → (((t || c) || z) || ((p || m) || becomes_due b kinds.Uart u)) ≡ true → (k : Kind) × (becomes_due b k u ≡ true)
+    → becomes_due b kinds.Pwm u ≡ p → becomes_due b kinds.Comm u ≡ m → (((t || c) || z) || ((p || m) || becomes_due b kinds.Uart u)) ≡ true
+    → (k : Kind) × (becomes_due b k u ≡ true)
 which_due b u true c z p m et ec ez ep em e = (kinds.Tick, et)
 which_due b u false true z p m et ec ez ep em e = (kinds.Cap, ec)
 which_due b u false false true p m et ec ez ep em e = (kinds.Cmp, ez)

@@ -5,14 +5,14 @@ use Rattle.esc_base.specs.declared.kind.Kind.{Kind}
 use Rattle.esc_base.specs.declared.kind.Kind.TheVariants as kind
 use Rattle.esc_base.specs.declared.signal.Edge.{Edge}
 use Rattle.esc_base.specs.Numbers.{mode_of, bit_of}
-use Rattle.esc_base.specs.Times.{is_reached, pwm_period}
+use Rattle.esc_base.specs.Times.{is_reached, control_period, pwm_period, most_duty, reply_bits, byte_time}
 use Rattle.esc_base.specs.Trace.{differ}
 use Rattle.edge_capture.specs.Edges.{edge_at}
 use Rattle.edge_capture.specs.Window.{unarmed, opened_in, after_edge, window_closed}
 use Rattle.timer_regs.specs.declared.regs.Reg.{Reg}
 use Rattle.timer_regs.specs.declared.regs.Reg.TheVariants.{GhSet, GlSet, GhClr, GlClr, Mask, Duty, PwmPos, Sector, CommAt, DriveOff, Stuck, CmpState, CmpAck, CmpEn, CmpAt, CapState, CapEdge, CapArm, CapAt, Reply, Period, TickState, UartState, UartTime, UartData, Txd, TxOn}
 use Rattle.timer_regs.specs.Rest.{rests_from, put_off}
-use Rattle.timer_regs.specs.Uart.{received_at, received_byte, uart_state, asks_uart, after_arrival, byte_time}
+use Rattle.timer_regs.specs.Uart.{received_at, received_byte, uart_state, asks_uart, after_arrival}
 use Rattle.timer_regs.specs.Reply.{end_of_reply}
 use Rattle.timer_regs.specs.Bank.{Bank}
 use Rattle.timer_regs.specs.Pwm.{has_edge}
@@ -63,7 +63,7 @@ edge_read b i = if nat_lt i (edges_read b) then shown_edge (edge_at b.window.edg
 
 -- the control tick's number
 abbrev pub number_at : ℕ → ℕ
-number_at t = t / 2400
+number_at t = t / control_period
 
 -- that number as it is read: 2^30 more with the stuck mark
 abbrev pub tick_state : Bank → ℕ
@@ -133,11 +133,11 @@ IsRange GhSet v = v ≤ 7
 IsRange GlSet v = v ≤ 7
 IsRange GhClr v = v ≤ 7
 IsRange GlClr v = v ≤ 7
-IsRange Duty v = v ≤ 1900
+IsRange Duty v = v ≤ most_duty
 IsRange Sector v = v ≤ 6
 IsRange Stuck v = v ≤ 1
 IsRange CmpEn v = v ≤ 1
-IsRange Reply v = v < 2 ^ 21
+IsRange Reply v = v < 2 ^ reply_bits
 IsRange Txd v = v < 2 ^ 8
 IsRange TxOn v = v ≤ 1
 IsRange r v = v < 2 ^ 32
@@ -147,8 +147,8 @@ abbrev pub IsSmall : Reg → ℕ → Type 0
 IsSmall CapState v = v ≤ 32
 IsSmall (CapEdge i) v = v < 2 ^ 32
 IsSmall TickState v = v < 2 ^ 31
-IsSmall Duty v = v ≤ 1900
-IsSmall PwmPos v = v < 2000
+IsSmall Duty v = v ≤ most_duty
+IsSmall PwmPos v = v < pwm_period
 IsSmall Sector v = v ≤ 6
 IsSmall CmpState v = v ≤ 3
 IsSmall Reply v = v < 2 ^ 32

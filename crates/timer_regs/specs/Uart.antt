@@ -3,10 +3,6 @@ use Rattle.std.specs.Prelude.{◌≡◌, ◌≤◌, ◌<◌, ℕ, ◌+◌, ◌*�
 use Rattle.esc_base.specs.declared.event.Received.{Received}
 use Rattle.esc_base.specs.Numbers.{as_tick, bit_of}
 
--- for so many ticks the transmitter is busy with a byte: 10 bits at 19200 baud
-abbrev pub byte_time : ℕ
-byte_time = 25000
-
 abbrev pub is_full : Option Received → Bool
 is_full None = false
 is_full (Some r) = true

@@ -8,7 +8,7 @@ ghost use Rattle.timer_regs.specs.NextDue.{tick_of};
 use esc_base::Tick;
 
 /// The comparator of the leg that isn't driven, and the crossing timer.
-#[derive(Clone, Copy, Debug, PartialEq, Eq, Drop)]
+#[derive(Drop)]
 pub(crate) struct Comparator {
     pub(crate) level: bool,
     /// The level changed since this was last cleared.

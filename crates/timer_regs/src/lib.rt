@@ -2,12 +2,16 @@
 //! kinds are due.
 #![tactic(auto)]
 
+mod access;
 mod comparator;
+mod due;
+mod events;
 mod kinds;
+mod next_due;
 mod regs;
+mod reply;
+mod timers;
 mod uart;
-#[cfg(test)]
-mod tests;
 
 pub use kinds::KindSet;
 pub use regs::{Reg, Regs};

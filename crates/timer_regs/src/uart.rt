@@ -9,7 +9,7 @@ use esc_base::{Arrived, Received, Tick};
 pub(crate) const BYTE_TIME: u64 = 25_000;
 
 /// The serial receiver, of one byte, and the transmitter.
-#[derive(Clone, Copy, Debug, PartialEq, Eq, Drop)]
+#[derive(Drop)]
 pub(crate) struct Uart {
     /// The byte that waits.
     pub(crate) receive: Option<Received>,

@@ -12,7 +12,8 @@ use Rattle.esc_laws.specs.Steps.{Turned, opening, notes_in, journal}
 use Rattle.trace_runner.specs.Lines.{TookLines, BrokeLines}
 use Rattle.trace_runner.specs.declared.state.Runner.{Runner}
 use Rattle.trace_runner.specs.Run.{Outset, Runs, GoesOn, BreaksOff, LeftBelow, RunsOn, nest_of, cost_of, newest}
-use Rattle.trace_runner.proofs.Written.{append_known-twice, on_ok_map, on_err_map}
+use Rattle.esc_base.proofs.OutsideLaws.{append_known-twice}
+use Rattle.trace_runner.proofs.Written.{on_ok_map, on_err_map}
 
 pub append_known-nil : (o : Option (List ℕ)) → append_known o [] ≡ o
 append_known-nil (Some bs) = ap (λ (x : List ℕ). Some x) (append-nil bs)

@@ -5,20 +5,15 @@ use Rattle.std.proofs.lemmas.List.{take_more, take-append-drop}
 use Rattle.std.specs.Io.KnownBytes.{append_known}
 use Rattle.esc_base.specs.declared.note.Note.{Note}
 use Rattle.esc_base.specs.Outside.{AppendsFront}
+use Rattle.esc_base.proofs.OutsideLaws.{append_known-twice}
 use Rattle.trace_text.specs.Text.{note_bytes, Text}
+use Rattle.trace_text.proofs.Texts.{Text-push}
 use Rattle.trace_runner.specs.Lines.{TookLines, BrokeLines}
 
 TookLines-push : {K : Type 0} (took : K → List ℕ → K → Type 0) (notes : List Note) (n : Note) (a b c : K) → TookLines took a notes b → took b (note_bytes n) c
     → TookLines took a (notes ++ n ∷ []) c
 TookLines-push {K} took [] n a b c e p = (c, subst (λ (x : K). took x (note_bytes n) c) e p, refl)
 TookLines-push {K} took (m ∷ notes) n a b c e p = (e.0, e.1, TookLines-push took notes n e.0 b c e.2 p)
-
-Text-push : (notes : List Note) (n : Note) → Text (notes ++ n ∷ []) ≡ Text notes ++ note_bytes n
-Text-push notes n = flat_map-append note_bytes notes (n ∷ []) ∙ ap (λ (x : List ℕ). Text notes ++ x) (append-nil (note_bytes n))
-
-pub append_known-twice : (o : Option (List ℕ)) (xs ys : List ℕ) → append_known o (xs ++ ys) ≡ append_known (append_known o xs) ys
-append_known-twice (Some bs) xs ys = ap (λ (x : List ℕ). Some x) (sym (append_assoc bs xs ys))
-append_known-twice None xs ys = refl
 
 -- ---- a loop's step
 
@@ -49,10 +44,6 @@ broke_at {K} given took broke xs i d bytes a b c lt e g n p f = record {
 }
 
 -- ---- answers of a call
-
-pub on_err : {T E P : Type 0} (r : Result T E) → P → OnErr r P
-on_err (Ok x) p = tt
-on_err (Err x) p = p
 
 pub on_ok : {T E P : Type 0} (r : Result T E) → P → OnOk r P
 on_ok (Ok x) p = p

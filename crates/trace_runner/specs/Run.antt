@@ -45,8 +45,8 @@ pub record Outset : Type 0 where
   pub flash : Told
 
 -- A runner matches a trace and the machine steps of a run that began with these settings and this flash: the core, the registers
--- and the open handlers are as they say; all steps are below the newest event, and each stands by the cost before the next one; the notes' numbers are in range; and what the flash
--- tells now is what the notes say.
+-- and the open handlers are as they say; all steps are below the newest event, and each stands by the cost before the next one;
+-- the notes' numbers are in range; and what the flash tells now is what the notes say.
 pub record Runs (r : Runner) (o : Outset) (now : Told) (trace : List Event) (steps : List Turned) : Type 0 where
   pub logged : Logged o.loaded r.machine.nest r.cost trace r.next.0 r.machine.firmware r.regs r.machine.open_kinds steps
   pub bound : StepBound r.cost r.limit.0 steps

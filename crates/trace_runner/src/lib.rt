@@ -6,8 +6,6 @@ mod room;
 mod runner;
 mod start;
 mod state;
-#[cfg(test)]
-mod tests;
 
 pub use room::Room;
 pub use state::{RunConfig, Runner, WriteFault};

@@ -24,7 +24,7 @@ impl From<Failed> for WriteFault {
 }
 
 /// How a run goes.
-#[derive(Clone, Copy, Debug, PartialEq, Eq, Drop)]
+#[derive(Clone, Copy, Drop)]
 pub struct RunConfig {
     /// The ticks from one step of the core to the next, 1 to 16.
     pub cost: u32,

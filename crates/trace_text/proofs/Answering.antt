@@ -19,7 +19,7 @@ use Rattle.trace_text.specs.declared.parse.Entry.TheVariants as entry
 use Rattle.trace_text.specs.declared.reader.Lines.{Lines}
 use Rattle.trace_text.specs.Line.{said, after_event}
 use Rattle.trace_text.specs.Read.{Reading, Trace, Refused, with_event, read_from, Read, events_of, TakenEvents, start}
-use Rattle.trace_text.specs.Ahead.{unread, place, ahead, with_events, HasRead, NoEvent, ReadsAs, InTime, Follows, IfEvent, IfEnd, IfRefused, OnStop, IsOfLine, EntryFits, lines_looked_at, Says, next_line, Answers, AnswersWhole, NoLineFeed, IsLine}
+use Rattle.trace_text.specs.Ahead.{unread, place, ahead, with_events, HasRead, NoEvent, ReadsAs, InTime, Follows, IfEvent, OnStop, IsOfLine, EntryFits, lines_looked_at, Says, next_line, Answers, AnswersWhole, NoLineFeed, IsLine}
 use Rattle.trace_text.proofs.Fields.{no_place}
 use Rattle.trace_text.proofs.Taking.{prepend_both}
 use Rattle.trace_text.proofs.Cut.{read_whole, read_none, read_long, read_many, read_nothing, all_read, more_left, no_feed_before}
@@ -255,10 +255,6 @@ module _ (p : Place) (t : Tick) (line : List ℕ) (no_feed : NoLineFeed line) (e
         in_time = tt;
       }
 
-pub fault_behind : (p : Place) (line : List ℕ) (a b : Option (List ℕ)) → AnswersWhole p line a item.Fault (next_line p) b
-fault_behind p line None b = faulted p None b
-fault_behind p line (Some text) b = faulted p (Some (line ++ 10 ∷ text)) b
-
 -- ---- line after line
 
 no_events : (r : Reading) → with_events [] r ≡ r
@@ -317,22 +313,6 @@ reads_whole : (l : Lines) (left : Option (List ℕ)) (text : List ℕ) (events :
 reads_whole l left text events r h s =
     let at = text_ahead l left text events h in
     at.2 ∙ ap (with_events events) (reads_as (place l) (ahead l.held left) at.0 r at.1 s)
-
-pub reads_end_if : (l : Lines) (left : Option (List ℕ)) (r : Item) (q : Place) (b : Option (List ℕ)) → Answers (place l) (ahead l.held left) r q b
-    → IfEnd r (λ t. (text : List ℕ) (events : List Event) → HasRead l (Some text) left events → Read text ≡ Trace events t.0)
-reads_end_if l left (item.Event e) q b a = tt
-reads_end_if l left (item.End t) q b a = λ text events h.
-    reads_whole l left text events (Trace [] t.0) h a.says ∙ ap (λ (es : List Event). Trace es t.0) (append-nil events)
-reads_end_if l left item.Fault q b a = tt
-reads_end_if l left (item.Refused kind) q b a = tt
-
-pub reads_refused_if : (l : Lines) (left : Option (List ℕ)) (r : Item) (q : Place) (b : Option (List ℕ)) → Answers (place l) (ahead l.held left) r q b
-    → IfRefused r (λ kind. (text : List ℕ) (events : List Event) → HasRead l (Some text) left events → Read text ≡ Refused events q.line kind)
-reads_refused_if l left (item.Event e) q b a = tt
-reads_refused_if l left (item.End t) q b a = tt
-reads_refused_if l left item.Fault q b a = tt
-reads_refused_if l left (item.Refused kind) q b a = λ text events h.
-    reads_whole l left text events (Refused [] q.line kind) h a.says ∙ ap (λ (es : List Event). Refused es q.line kind) (append-nil events)
 
 events-with_events : (events : List Event) (r : Reading) → events_of (with_events events r) ≡ events ++ events_of r
 events-with_events events (Trace more end) = refl

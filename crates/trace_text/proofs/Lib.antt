@@ -10,3 +10,4 @@ pub mod InTime
 pub mod NoteBack
 pub mod OneText
 pub mod Written
+pub mod Texts

@@ -66,7 +66,7 @@ bit_passes b = grind (arith, nat_tests)
 bit_value : (b : ℕ) → digit_value (48 + b % 2) ≡ b % 2
 bit_value b = grind (arith, nat_tests)
 
-length-bits : (k b : ℕ) → length (bits k b) ≡ k
+pub length-bits : (k b : ℕ) → length (bits k b) ≡ k
 length-bits zero b = ap length (no_bits b)
 length-bits (suc k) b = ap length (bits_suc k b) ∙ length-append (bits k (b / 2)) ((48 + b % 2) ∷ []) ∙ (let e = length-bits k (b / 2) in omega arith)
 

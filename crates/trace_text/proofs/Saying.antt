@@ -17,9 +17,6 @@ said-fields p line lt le = rw (lt-leb 16777216 p.line lt, le-ltb 40 (length line
 pub no_space : (p : Place) (time : List ℕ) → said_in p (time ∷ []) ≡ Err BadTime
 no_space p time = refl
 
-pub not_decimal : (p : Place) (time rest : List ℕ) → is_decimal time ≡ false → said_in p (time ∷ fields rest) ≡ Err BadTime
-not_decimal p time rest d = rw (fields_some rest, d) refl
-
 pub time_back : (p : Place) (time rest : List ℕ) → is_decimal time ≡ true → number time < p.time.0 → said_in p (time ∷ fields rest) ≡ Err TimeBack
 time_back p time rest d lt = rw (fields_some rest, d, lt-ltb (number time) p.time.0 lt) refl
 

@@ -6,12 +6,13 @@ use Rattle.std.specs.Str.Parse.{digits_value}
 use Rattle.esc_base.specs.declared.tick.Tick.{Tick}
 use Rattle.esc_base.specs.declared.note.Note.{Note}
 use Rattle.esc_base.specs.declared.note.Note.TheVariants as note
+use Rattle.esc_base.specs.Times.{reply_bits}
 use Rattle.std.specs.Borrow.{Bor}
 use Rattle.trace_text.specs.Line.{fields, number_between, byte_of}
 
--- the number of 21 binary digits
+-- the number of as many binary digits as a reply has
 abbrev pub bits_of : List ℕ → Option ℕ
-bits_of digits = if length digits == 21 && list_all (λ c. c == 48 || c == 49) digits then Some (digits_value 2 digits) else None
+bits_of digits = if length digits == reply_bits && list_all (λ c. c == 48 || c == 49) digits then Some (digits_value 2 digits) else None
 
 abbrev pub is_none_word : List ℕ → Bool
 is_none_word [] = false

@@ -5,6 +5,7 @@ use Rattle.esc_base.specs.declared.event.Event.{Event}
 use Rattle.esc_base.specs.declared.event.Event.TheVariants as event
 use Rattle.esc_base.specs.declared.note.Note.{Note}
 use Rattle.esc_base.specs.declared.note.Note.TheVariants as note
+use Rattle.esc_base.specs.Times.{reply_bits}
 use Rattle.esc_base.specs.Trace.{tick_of}
 use Rattle.trace_text.specs.Ahead.{StallFits}
 
@@ -80,7 +81,7 @@ note_fields (note.Step t s) = decimal t.0 ∷ map decimal (s ∷ [])
 note_fields (note.Cross t) = decimal t.0 ∷ []
 note_fields (note.Period t None) = decimal t.0 ∷ codes "none" ∷ []
 note_fields (note.Period t (Some p)) = decimal t.0 ∷ map decimal (p ∷ [])
-note_fields (note.Reply t s b) = decimal t.0 ∷ decimal s.0 ∷ bits 21 b ∷ []
+note_fields (note.Reply t s b) = decimal t.0 ∷ decimal s.0 ∷ bits reply_bits b ∷ []
 note_fields (note.Packet t cc kk) = decimal t.0 ∷ map hex (cc ∷ kk ∷ [])
 note_fields (note.Sent t xx) = decimal t.0 ∷ map hex (xx ∷ [])
 note_fields (note.Dropped t xx) = decimal t.0 ∷ map hex (xx ∷ [])

@@ -41,7 +41,7 @@ pub enum Item {
 }
 
 /// What is remembered of the lines so far.
-#[derive(Clone, Copy, Debug, PartialEq, Eq, Drop)]
+#[derive(Clone, Copy, Debug, Drop)]
 pub struct Place {
     /// How many lines were looked at.
     pub line: u64,

@@ -14,8 +14,6 @@ mod parse;
 mod piece;
 mod plain;
 mod reader;
-#[cfg(test)]
-mod tests;
 mod write;
 
 pub use event_line::event_text;

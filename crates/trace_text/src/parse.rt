@@ -17,7 +17,7 @@ const SERIAL_GAP: u64 = 20000;
 const LONGEST_STALL: u32 = 16777216;
 
 /// What a line's second field asks for.
-#[derive(Clone, Copy, Debug, PartialEq, Eq, Drop)]
+#[derive(Clone, Copy, Drop)]
 pub enum LineKind {
     Edge,
     Comp,
@@ -27,7 +27,7 @@ pub enum LineKind {
 }
 
 /// What a good line says.
-#[derive(Clone, Copy, Debug, PartialEq, Eq, Drop)]
+#[derive(Clone, Copy, Drop)]
 pub enum Entry {
     Event(Event),
     End(Tick),

@@ -37,12 +37,6 @@ level_small true = omega arith
 
 -- ---- what an event's line says
 
-kind_for : Event → LineKind
-kind_for (event.Edge t level) = kind.Edge
-kind_for (event.Comp t level) = kind.Comp
-kind_for (event.Serial t byte) = kind.Serial
-kind_for (event.Stall t n) = kind.Stall
-
 far_enough : (before : Option Tick) (t : Tick) (byte : ℕ) → IsSpaced before (event.Serial t byte) → soon_after before t ≡ false
 far_enough None t byte h = refl
 far_enough (Some b) t byte h = le-ltb t.0 (b.0 + 20000) h

@@ -6,8 +6,6 @@ mod end_line;
 mod number;
 mod pipe;
 mod put;
-#[cfg(test)]
-mod tests;
 mod words;
 mod writer;
 

@@ -29,7 +29,7 @@ pub fn power_of_ten(n: usize) -> u64
 }
 
 /// A decimal number: so many units, each the tenth part of 1 to the power of `decimals`.
-#[derive(Clone, Copy, Debug, PartialEq, Eq, Drop)]
+#[derive(Clone, Copy, Drop)]
 pub struct Decimal {
     pub units: u64,
     pub decimals: usize,

@@ -1,7 +1,7 @@
 ghost use Rattle.std.specs.Prelude.{◌≤◌, length};
 
 /// The words of a line: what stands between blanks, up to a `#` that begins a comment.
-#[derive(Clone, Copy, Debug, Drop)]
+#[derive(Clone, Copy, Drop)]
 pub struct Words<'a> {
     rest: &'a [u8],
 }

@@ -2,6 +2,8 @@
 use Rattle.std.specs.Prelude.{◌≤◌, ℕ, ◌+◌, Bool, true, false, not, ◌&&◌, nat_le, if◌then◌else◌, Option, Some, None}
 use Rattle.esc_base.specs.declared.tick.Tick.{Tick}
 use Rattle.esc_base.specs.Trace.{differ}
+use Rattle.esc_base.specs.Times.{filter_time, forced_limit, rejected_blanking}
+use Rattle.esc_base.specs.Numbers.{as_tick}
 use Rattle.zero_cross.specs.declared.phase.Phase.{Phase}
 use Rattle.zero_cross.specs.declared.phase.Phase.TheVariants as phase
 use Rattle.zero_cross.specs.declared.phase.Next.{Next}
@@ -15,9 +17,6 @@ pub record Kept : Type 0 where
   -- the tick of the sector's start
   pub begun : ℕ
 
-abbrev pub tick : ℕ → Tick
-tick t = record { 0 = t }
-
 -- before any sector
 abbrev pub fresh : Kept
 fresh = record { phase = phase.Off; expects = false; begun = 0 }
@@ -28,7 +27,7 @@ after_off c = record c { phase = phase.Off }
 
 -- sector s begins at t
 abbrev pub after_begin : ℕ → Bool → ℕ → ℕ → Kept
-after_begin s forward t interval = record { phase = phase.Blank (tick (t + blanking_of interval)); expects = level_of forward s; begun = t }
+after_begin s forward t interval = record { phase = phase.Blank (as_tick (t + blanking_of interval)); expects = level_of forward s; begun = t }
 
 -- blanking is over at t
 abbrev pub IsBlanked : Phase → ℕ → Type 0
@@ -58,9 +57,9 @@ MayFilter (phase.Blank end) t = end.0 ≤ t
 MayFilter phase.Watch t = Unit {0}
 MayFilter p t = ⊥
 
--- a filter begins at t, and ends 24 ticks later
+-- a filter begins at t, and ends `filter_time` later
 abbrev pub after_changed : Kept → ℕ → Kept
-after_changed c t = record c { phase = phase.Filter (tick (t + 24)) }
+after_changed c t = record c { phase = phase.Filter (as_tick (t + filter_time)) }
 
 -- a filter stands whose time is over at t
 abbrev pub is_over : Phase → ℕ → Bool
@@ -75,10 +74,10 @@ is_clean c level changed = is_expected c level && not changed
 abbrev pub accepted : Kept → Tick → Bool → Bool → Option Tick
 accepted c t level changed = if is_over c.phase t.0 && is_clean c level changed then Some t else None
 
--- a filter is judged at t: accepted, the search is done; rejected, 400 ticks of blanking begin
+-- a filter is judged at t: accepted, the search is done; rejected, `rejected_blanking` begins
 abbrev pub after_filtered : Kept → ℕ → Bool → Bool → Kept
 after_filtered c t level changed =
-    if is_over c.phase t then (if is_clean c level changed then record c { phase = phase.Done } else record c { phase = phase.Blank (tick (t + 400)) })
+    if is_over c.phase t then (if is_clean c level changed then record c { phase = phase.Done } else record c { phase = phase.Blank (as_tick (t + rejected_blanking)) })
     else c
 
 -- a sector has begun, and its crossing wasn't accepted yet
@@ -89,4 +88,4 @@ is_open p = true
 
 -- the sector is to be ended by force at t: it began 240,000 ticks ago or earlier, and has no crossing
 abbrev pub is_forced : Kept → ℕ → Bool
-is_forced c t = is_open c.phase && nat_le (c.begun + 240000) t
+is_forced c t = is_open c.phase && nat_le (c.begun + forced_limit) t

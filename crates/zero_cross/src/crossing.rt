@@ -23,7 +23,7 @@ const LONGEST_SECTOR: u64 = 240_000;
 /// The search for a sector's zero crossing.
 ///
 /// Contracts see its phase, the expected level of the comparator, and the tick at which the sector began.
-#[derive(Debug, Drop)]
+#[derive(Drop)]
 pub struct Crossing {
     phase: Phase,
     expects: bool,

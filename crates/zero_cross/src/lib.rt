@@ -7,8 +7,6 @@
 
 mod crossing;
 mod phase;
-#[cfg(test)]
-mod tests;
 
 pub use crossing::Crossing;
 pub use phase::{Next, Phase};

@@ -3,6 +3,7 @@
 use Rattle.std.proofs.Common.{◌≡◌, ◌≢◌, ◌<◌, ◌≤◌, ◌-◌, ◌/◌, ◌==◌, ◌⊎◌, inl, inr, ℕ, Bool, true, false, not, ◌&&◌, nat_le, if◌then◌else◌, List, [], ◌∷◌, length, take, slice_index, Some, None, refl, sym, ◌∙◌, ap, arith}
 use Rattle.std.proofs.lemmas.Bool.{eq-eqb, ne_eqb, leb-true, le-leb}
 use Rattle.std.proofs.lemmas.List.{take-take}
+use Rattle.esc_base.specs.Times.{microsecond}
 use Rattle.esc_base.specs.declared.note.Note.{Note}
 use Rattle.esc_base.specs.declared.note.Note.TheVariants as note
 use Rattle.arming.specs.ControlAt.{demand_at}
@@ -12,7 +13,7 @@ use Rattle.gate_driver.specs.declared.all_off.AllOff.TheVariants as off
 use Rattle.esc_core.specs.declared.drive.Drive.{Drive}
 use Rattle.esc_core.specs.declared.state.TickAt.{TickAt}
 use Rattle.esc_core.specs.declared.state.TickAt.TheVariants as tick
-use Rattle.esc_core.specs.Tick.{drive_after}
+use Rattle.esc_core.specs.Drive.{drive_after}
 use Rattle.esc_core.specs.Reply.{period_of as read_period}
 use Rattle.esc_laws.specs.Calls.{turned_at}
 use Rattle.esc_rooms.specs.CrossTied.{ends_drive}
@@ -36,10 +37,10 @@ spans (a ∷ (b ∷ (c ∷ (d ∷ (x ∷ (y ∷ (z ∷ told))))))) l f =
     omega arith
 
 period_by : (many : Bool) (first last : ℕ) → (many ≡ true → last < first)
-    → read_period (if many then first - last else 0) ≡ (if many then Some ((if many then first - last else 0) / 48) else None)
+    → read_period (if many then first - last else 0) ≡ (if many then Some ((if many then first - last else 0) / microsecond) else None)
 period_by true first last l = some (first - last) (let lt = l refl in omega arith)
   where
-    some : (sum : ℕ) → sum ≢ 0 → (if sum == 0 then None else Some (sum / 48)) ≡ Some (sum / 48)
+    some : (sum : ℕ) → sum ≢ 0 → (if sum == 0 then None else Some (sum / microsecond)) ≡ Some (sum / microsecond)
     some sum ne = rw (ne_eqb sum 0 ne) refl
 period_by false first last l = refl
 

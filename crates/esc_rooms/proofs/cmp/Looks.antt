@@ -1,6 +1,7 @@
 -- CMP's steps that look at the comparator.
 use Rattle.std.proofs.Common.{◌≡◌, ◌≤◌, ◌<◌, ◌+◌, ◌-◌, inl, inr, ℕ, Bool, true, false, not, ◌&&◌, ◌||◌, nat_le, List, ◌∷◌, refl, sym, ◌∙◌, ap, subst, arith}
 use Rattle.std.proofs.lemmas.Bool.{cases_lt, le-leb, leb-true, not-true}
+use Rattle.esc_base.specs.Times.{filter_time, rejected_blanking}
 use Rattle.esc_base.specs.declared.kind.Kind.{Kind}
 use Rattle.esc_base.specs.declared.kind.Kind.TheVariants as kind
 use Rattle.esc_base.specs.declared.event.Event.{Event}
@@ -79,7 +80,7 @@ judge_rejected_preserves : (end : Tick) (w : World) (outer : List Kind) → w.co
     → is_clean w.core.drive.crossing w.bank.comp w.bank.comp_changed ≡ false → IsCmp w outer cmp.Look
     → StepKeeps kind.Cmp outer w (judged_step false w.core w.bank)
 judge_rejected_preserves end w outer e over ill i =
-    let anew : Phase = phase.Blank (as_tick (w.bank.time + 400)) in
+    let anew : Phase = phase.Blank (as_tick (w.bank.time + rejected_blanking)) in
     cmp_step_preserves w outer cmp.Look cmp.Arm anew (record w.core.drive.crossing { phase = anew }) w.core.hold w.bank.comp_changed w.bank.comp_enabled
     w.bank.crossing (Reads reg.CmpState) i refl refl refl refl refl refl
     (looked_reject (cross_seen w) end.0 over ill (free_of w outer cmp.Look i) (i.ties kind.Cmp) (stands_at w outer cmp.Look (phase.Filter end) i e))
@@ -116,8 +117,8 @@ is_crossing w outer end i e over well =
     subst (λ (x : Bool). differ x (cross_seen w).expects ≡ false) u.level_is
     (subst (λ (x : Bool). differ w.bank.comp x ≡ false) u.expects_is (not-true (differ w.bank.comp w.core.drive.crossing.expects) two.0)) in
     record {
-      steady = steady_of w.trace (cross_seen w).expects (w.bank.time - 24) w.bank.time (omega arith) i.ground.outside.in_time
-          (bit_steady h (cross_seen w).expects w.bank.comp_changed f.begun (w.bank.time - 24) f.bit (let a = f.end_is in omega arith) two.1 level);
+      steady = steady_of w.trace (cross_seen w).expects (w.bank.time - filter_time) w.bank.time (omega arith) i.ground.outside.in_time
+          (bit_steady h (cross_seen w).expects w.bank.comp_changed f.begun (w.bank.time - filter_time) f.bit (let a = f.end_is in omega arith) two.1 level);
       blanked_before = (let a = f.end_is in let b = f.after in omega arith);
     }
 

@@ -7,7 +7,7 @@ use Rattle.esc_base.specs.declared.event.Event.{Event}
 use Rattle.esc_base.specs.declared.event.Event.TheVariants as event
 use Rattle.esc_base.specs.declared.note.Note.{Note}
 use Rattle.esc_base.specs.declared.note.Note.TheVariants as note
-use Rattle.esc_base.specs.Times.{is_reached}
+use Rattle.esc_base.specs.Times.{is_reached, dead_time, filter_time, least_blanking}
 use Rattle.esc_base.specs.Trace.{differ, tick_of}
 use Rattle.zero_cross.specs.declared.phase.Phase.{Phase}
 use Rattle.zero_cross.specs.declared.phase.Phase.TheVariants as phase
@@ -122,11 +122,11 @@ no_second Started z q = q
 no_second (Turned t) z q = q
 no_second (Crossed t y) z q = q
 
-long_blank : (back : List Note) → HasQ (turn_at back) → turned_at back + 300 ≤ blanked_at back
+long_blank : (back : List Note) → HasQ (turn_at back) → turned_at back + least_blanking ≤ blanked_at back
 long_blank [] q = absurd q
 long_blank (note.Step t s ∷ back) q = longer t.0 (interval_at back)
   where
-    longer : (t interval : ℕ) → t + 300 ≤ t + blanking_of interval
+    longer : (t interval : ℕ) → t + least_blanking ≤ t + blanking_of interval
     longer t interval = omega arith
 long_blank (note.Control t n s d ∷ back) q = long_blank back (by_control (d == 0) (rests_at back) (turn_at back) q)
 long_blank (note.Cross t ∷ back) q = absurd (no_second (turn_at back) t.0 q)
@@ -174,11 +174,11 @@ late_entered (phase.Filter end) w e t unheld shut at none due s =
         let d = t kind.Comm in
         let on : 0 < w.bank.sector = omega arith in
         let to : w.core.drive.turn.to ≡ w.bank.sector = d.newest.to_is (rw shut refl) on in
-        let free : at_leg w.core.drive.gates.hi_free (low_of w.core.drive.turn.to) ≤ turned_at w.back + 48 =
+        let free : at_leg w.core.drive.gates.hi_free (low_of w.core.drive.turn.to) ≤ turned_at w.back + dead_time =
         d.switches.outer on (low_of w.core.drive.turn.to) (λ same. apart_legs w.bank.sector on d.switches.sectors (same ∙ ap low_of to)) in
         let long = long_blank w.back q in
         let f = s.phase_is.1 in
-        let end_is : end.0 ≡ f.begun + 24 = f.end_is in
+        let end_is : end.0 ≡ f.begun + filter_time = f.end_is in
         let past = f.after in
         let l = over in
         omega arith

@@ -2,6 +2,7 @@
 use Rattle.std.proofs.Common.{◌≡◌, ◌≤◌, ◌+◌, ◌⊎◌, inl, inr, ℕ, Bool, true, false, not, ◌&&◌, ◌||◌, nat_le, if◌then◌else◌, Some, None, refl, ◌∙◌, ap, arith}
 use Rattle.std.proofs.lemmas.Bool.{and_parts}
 use Rattle.std.proofs.lemmas.Bool.Decides.{nat_tests}
+use Rattle.esc_base.specs.Times.{filter_time, rejected_blanking}
 use Rattle.esc_base.specs.Numbers.{as_tick}
 use Rattle.esc_base.specs.Trace.{differ}
 use Rattle.zero_cross.specs.declared.phase.Phase.{Phase}
@@ -219,19 +220,19 @@ both true true w c ill = cc
 both false changed w c ill = cc
 
 pub looked_reject : (v : CrossView) (end : ℕ) → nat_le end v.time ≡ true → (is_expected v.search v.level && not v.changed) ≡ false → Free v → CrossTied v
-    → Stands v cmp.Look (phase.Filter (as_tick end)) → Goes v cmp.Arm (phase.Blank (as_tick (v.time + 400))) v.changed v.enabled v.timer
+    → Stands v cmp.Look (phase.Filter (as_tick end)) → Goes v cmp.Arm (phase.Blank (as_tick (v.time + rejected_blanking))) v.changed v.enabled v.timer
 looked_reject v end over ill free t s =
     let f = s.phase_is.1 in
     record {
       open_still = refl;
-      phase_is = (s.phase_is.0, (let a = f.after in let b : end ≡ f.begun + 24 = f.end_is in let c = leb-true end v.time over in omega arith));
+      phase_is = (s.phase_is.0, (let a = f.after in let b : end ≡ f.begun + filter_time = f.end_is in let c = leb-true end v.time over in omega arith));
       regs = tt;
       few = few_reject (v.quiet v.held.since) v.changed (is_expected v.search v.level) ill s.few;
-      seen = seen_moves v.sight cmp.Look cmp.Arm (phase.Filter (as_tick end)) (phase.Blank (as_tick (v.time + 400))) v.held v.expects v.blanked v.time v.past
+      seen = seen_moves v.sight cmp.Look cmp.Arm (phase.Filter (as_tick end)) (phase.Blank (as_tick (v.time + rejected_blanking))) v.held v.expects v.blanked v.time v.past
           (v.time + 1) (let l = free.past in omega arith) refl (λ i l f. absurd f)
           (λ i z l g y. absurd (
-          let q : i + 24 ≤ end = (g y).1 in
-          let b : end ≡ f.begun + 24 = f.end_is in
+          let q : i + filter_time ≤ end = (g y).1 in
+          let b : end ≡ f.begun + filter_time = f.end_is in
           both (is_expected v.search v.level) v.changed (steady_good v.held v.level v.search.expects v.expects i t.level_is t.expects_is y)
           (steady_clean v.held v.expects v.changed i f.begun y f.bit (omega arith)) ill)) s.seen;
       late = tt;
@@ -241,24 +242,24 @@ looked_reject v end over ill free t s =
 
 -- ---- a filter begins
 
-pub acked : (v : CrossView) (p : Phase) → Free v → Stands v cmp.Ack p → Goes v cmp.Arm (phase.Filter (as_tick (v.time + 24))) false v.enabled v.timer
+pub acked : (v : CrossView) (p : Phase) → Free v → Stands v cmp.Ack p → Goes v cmp.Arm (phase.Filter (as_tick (v.time + filter_time))) false v.enabled v.timer
 acked v p free s = record {
   open_still = refl;
   phase_is = filters p s.regs s.phase_is;
   regs = tt;
   few = s.few;
-  seen = seen_moves v.sight cmp.Ack cmp.Arm p (phase.Filter (as_tick (v.time + 24))) v.held v.expects v.blanked v.time v.past (v.time + 1)
+  seen = seen_moves v.sight cmp.Ack cmp.Arm p (phase.Filter (as_tick (v.time + filter_time))) v.held v.expects v.blanked v.time v.past (v.time + 1)
       (let l = free.past in omega arith) refl (λ i l f e. (let a = free.past in omega arith, let a = free.past in omega arith)) (λ i z l f. f) s.seen;
   late = tt;
   watch = watch_moves cmp.Ack cmp.Arm p (phase.Filter (as_tick (v.time + 24))) v.changed false (is_expected v.search v.level) (is_expected v.search v.level) v.looking v.looked v.time v.past (v.time + 1) refl (λ h e. omega arith) s.watch;
   seldom = seldom_moves cmp.Ack cmp.Arm p (phase.Filter (as_tick (v.time + 24))) v.time v.entries v.looks (λ gap l le o h. pace_filters gap v.time l h) s.seldom;
 }
   where
-    begins : v.blanked ≤ v.time → Filters false (v.time + 24) v.held.since v.blanked (v.time + 1)
+    begins : v.blanked ≤ v.time → Filters false (v.time + filter_time) v.held.since v.blanked (v.time + 1)
     begins l = record { begun = v.time; end_is = refl; below = omega arith; bit = bit_acked v.held v.time free.since; after = l }
 
     filters : (p : Phase) → MayFilter p v.time → PhaseTied p v.turn v.changed v.held.since v.blanked v.time v.past
-        → HasQ v.turn × Filters false (v.time + 24) v.held.since v.blanked (v.time + 1)
+        → HasQ v.turn × Filters false (v.time + filter_time) v.held.since v.blanked (v.time + 1)
     filters (phase.Blank end) m t = (t.0, begins (let a = t.1 in let b : end.0 ≤ v.time = m in omega arith))
     filters phase.Watch m t = (t.0, begins t.1)
     filters phase.Off m t = absurd m
@@ -275,7 +276,7 @@ armed v p end which free s = record {
   regs = regs p which;
   few = few p which s.few;
   seen = seen_moves v.sight cmp.Arm cmp.Lower p p v.held v.expects v.blanked v.time v.past (v.time + 1) (let l = free.past in omega arith) refl
-      (λ i l f e. passes_more p i (v.past + 24) ((v.time + 1) + 24) (let a = free.past in omega arith) (f e)) (λ i z l f. f) s.seen;
+      (λ i l f e. passes_more p i (v.past + filter_time) ((v.time + 1) + filter_time) (let a = free.past in omega arith) (f e)) (λ i z l f. f) s.seen;
   late = tt;
   watch = watch_moves cmp.Arm cmp.Lower p p v.changed v.changed (is_expected v.search v.level) (is_expected v.search v.level) v.looking v.looked v.time v.past (v.time + 1) refl (λ h e. hears_more p v.changed (is_expected v.search v.level) v.past (v.time + 1) (let l = free.past in omega arith) (h e)) s.watch;
   seldom = seldom_moves cmp.Arm cmp.Lower p p v.time v.entries v.looks (λ gap l le o h. h) s.seldom;
@@ -317,7 +318,7 @@ lowered v p free s = record {
   regs = s.regs;
   few = s.few;
   seen = seen_moves v.sight cmp.Lower cmp.Back p p v.held v.expects v.blanked v.time v.past (v.time + 1) (let l = free.past in omega arith) refl
-      (λ i l f e. passes_more p i (v.past + 24) ((v.time + 1) + 24) (let a = free.past in omega arith) (f e)) (λ i z l f. f) s.seen;
+      (λ i l f e. passes_more p i (v.past + filter_time) ((v.time + 1) + filter_time) (let a = free.past in omega arith) (f e)) (λ i z l f. f) s.seen;
   late = tt;
   watch = watch_moves cmp.Lower cmp.Back p p v.changed v.changed (is_expected v.search v.level) (is_expected v.search v.level) v.looking v.looked v.time v.past (v.time + 1) refl (λ h e. hears_more p v.changed (is_expected v.search v.level) v.past (v.time + 1) (let l = free.past in omega arith) (h e)) s.watch;
   seldom = seldom_moves cmp.Lower cmp.Back p p v.time v.entries v.looks (λ gap l le o h. h) s.seldom;
@@ -363,7 +364,7 @@ returned v free t s = record {
     returns (First i) x = (
       (let a = x.0 in let p = free.past in omega arith),
       refl,
-      λ e. passes_more v.search.phase i (v.past + 24) (v.time + 24)
+      λ e. passes_more v.search.phase i (v.past + filter_time) (v.time + filter_time)
           (let p = free.past in omega arith) (x.1 e),
     )
     returns (Settles i u) x = absurd (let z = x.1 in cc)

@@ -1,6 +1,7 @@
 -- CMP's steps keep the ties: it reads the comparator, begins a filter, writes its registers, and returns.
 use Rattle.std.proofs.Common.{◌≡◌, ◌≤◌, ◌<◌, ◌+◌, ◌⊎◌, inl, inr, ℕ, Bool, true, false, List, Some, refl, sym, ◌∙◌, subst, arith}
 use Rattle.std.proofs.lemmas.Bool.{cases_lt, le-leb}
+use Rattle.esc_base.specs.Times.{filter_time}
 use Rattle.esc_base.specs.declared.kind.Kind.{Kind}
 use Rattle.esc_base.specs.declared.kind.Kind.TheVariants as kind
 use Rattle.esc_base.specs.declared.event.Event.{Event}
@@ -81,7 +82,7 @@ cmp_read_preserves false w outer e i = absurd (
 
 ack_filter_preserves : (w : World) (outer : List Kind) → IsCmp w outer cmp.Ack → StepKeeps kind.Cmp outer w (ack_step true w.core w.bank)
 ack_filter_preserves w outer i =
-    cmp_step_preserves w outer cmp.Ack cmp.Arm (phase.Filter (as_tick (w.bank.time + 24))) (after_changed w.core.drive.crossing w.bank.time) w.core.hold false
+    cmp_step_preserves w outer cmp.Ack cmp.Arm (phase.Filter (as_tick (w.bank.time + filter_time))) (after_changed w.core.drive.crossing w.bank.time) w.core.hold false
     w.bank.comp_enabled w.bank.crossing (Writes reg.CmpAck 0) i refl refl refl refl refl refl
     (acked (cross_seen w) w.core.drive.crossing.phase (free_of w outer cmp.Ack i) (stands_at w outer cmp.Ack w.core.drive.crossing.phase i refl))
 

@@ -1,6 +1,7 @@
 -- What the drive's tie becomes at a step of COMM.
 use Rattle.std.proofs.Common.{◌≡◌, ◌≤◌, ◌<◌, ◌+◌, ◌⊎◌, inl, inr, ℕ, Bool, true, false, ◌||◌, nat_lt, if◌then◌else◌, List, ◌∷◌, Option, Some, None, refl, sym, ◌∙◌, ap, subst, arith}
 use Rattle.std.proofs.lemmas.Bool.Decides.{nat_tests}
+use Rattle.esc_base.specs.Times.{dead_time}
 use Rattle.esc_base.specs.declared.gate.Leg.{Leg}
 use Rattle.esc_base.specs.declared.kind.Kind.{Kind}
 use Rattle.esc_base.specs.declared.kind.Kind.TheVariants as kind
@@ -143,7 +144,7 @@ comm_gates w outer place at s i off_times dead pair = record {
 -- ---- waiting
 
 wait_at : (v : Bool) (other free : ℕ) (x : Leg) (t until : ℕ) → is_on other x ≡ false → nat_lt t free ≡ v
-    → (if false then Some (t + 48) else if v then Some free else None) ≡ Some until → t < free
+    → (if false then Some (t + dead_time) else if v then Some free else None) ≡ Some until → t < free
 wait_at true other free x t until off e f = grind (arith, nat_tests)
 wait_at false other free x t until off e f = absurd (let z : None ≡ Some until = f in cc)
 

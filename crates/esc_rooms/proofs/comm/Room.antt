@@ -3,7 +3,7 @@ use Rattle.std.proofs.Common.{◌≡◌, ◌≤◌, ◌<◌, ◌+◌, ◌⊎◌,
 use Rattle.std.proofs.lemmas.Bool.{cases_lt, and_parts, ltb-true, leb-true, le-leb, not-true}
 use Rattle.esc_base.specs.declared.kind.Kind.TheVariants as kind
 use Rattle.esc_base.specs.Legs.{is_on}
-use Rattle.esc_base.specs.Times.{is_reached}
+use Rattle.esc_base.specs.Times.{is_reached, forced_limit}
 use Rattle.arming.specs.ControlAt.{demand_at}
 use Rattle.commutation.specs.Sectors.{low_of}
 use Rattle.commutation.specs.Commutated.{Turn, Idle, Started, Turned, Crossed, sector_at, turn_at}
@@ -64,7 +64,7 @@ low_due v (inr (at, e, now, c)) off l = reached v.timer at v.time e now
 turn_due : (wait : ℕ) (turn : Turn) (change time : ℕ) → ChangeTied wait turn change time → turn_is_due wait turn time ≡ true → change ≤ time
 turn_due wait Idle change time c e = absurd c
 turn_due wait Started change time c e = c
-turn_due wait (Turned q) change time c e = (let l = leb-true (q + 240000) time e in let s : change ≡ q + 240000 = c in omega arith)
+turn_due wait (Turned q) change time c e = (let l = leb-true (q + forced_limit) time e in let s : change ≡ q + forced_limit = c in omega arith)
 turn_due wait (Crossed q z) change time c e = (let l = leb-true (z + wait) time e in let s : change ≡ z + wait = c in omega arith)
 
 -- what is called for a change of sector has a demand

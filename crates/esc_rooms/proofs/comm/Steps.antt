@@ -1,6 +1,7 @@
 -- COMM's steps keep the ties: the crossing timer, the period, its own timer, and its return.
 use Rattle.std.proofs.Common.{◌≡◌, ◌<◌, ◌⊎◌, inl, inr, ℕ, Bool, true, false, not, ◌&&◌, ◌||◌, nat_lt, nat_le, if◌then◌else◌, List, Option, Some, refl, sym, ◌∙◌, ap, subst, arith}
 use Rattle.std.proofs.lemmas.Bool.{or_left, or_right}
+use Rattle.esc_base.specs.Times.{stuck_changes}
 use Rattle.esc_base.specs.declared.kind.Kind.{Kind}
 use Rattle.esc_base.specs.declared.kind.Kind.TheVariants as kind
 use Rattle.esc_base.specs.declared.note.Note.TheVariants as note
@@ -134,7 +135,7 @@ comm_period_preserves at w outer i =
 
 -- ---- it arms its timer, and returns
 
-comm_arm_preserves : (full : Bool) (at : ChangeAt) (w : World) (outer : List Kind) → nat_le 60 w.core.drive.forced ≡ full → IsComm w outer comm.Arm at
+comm_arm_preserves : (full : Bool) (at : ChangeAt) (w : World) (outer : List Kind) → nat_le stuck_changes w.core.drive.forced ≡ full → IsComm w outer comm.Arm at
     → StepKeeps kind.Comm outer w (goes_on (record w.core { comm_at = if full then comm.Stick else comm.Back }) (Writes reg.CommAt (due_at w.core.drive)))
 comm_arm_preserves true at w outer e i =
     let t = i.ties kind.Comm in
@@ -286,6 +287,6 @@ comm_steps_preserve comm.Low w outer i left =
     })
 comm_steps_preserve comm.Blank w outer i left = comm_blank_preserves w.core.drive.turn.at w outer i
 comm_steps_preserve comm.Period w outer i left = comm_period_preserves w.core.drive.turn.at w outer i
-comm_steps_preserve comm.Arm w outer i left = comm_arm_preserves (nat_le 60 w.core.drive.forced) w.core.drive.turn.at w outer refl i
+comm_steps_preserve comm.Arm w outer i left = comm_arm_preserves (nat_le stuck_changes w.core.drive.forced) w.core.drive.turn.at w outer refl i
 comm_steps_preserve comm.Stick w outer i left = comm_stick_preserves w.core.drive.turn.at w outer i
 comm_steps_preserve comm.Back w outer i left = comm_return_preserves w.core.drive.turn.at w outer i

@@ -2,6 +2,7 @@
 use Rattle.std.proofs.Common.{◌≡◌, ◌≤◌, ◌<◌, ◌+◌, ◌-◌, inl, inr, ℕ, zero, suc, min, Bool, true, false, ◌&&◌, ◌||◌, ◌==◌, nat_le, bit_and, if◌then◌else◌, List, ◌∷◌, take, refl, sym, ◌∙◌, ap, subst, arith}
 use Rattle.std.proofs.lemmas.Bool.{cases_lt, leb-true, leb-false, le-leb}
 use Rattle.std.proofs.lemmas.Bool.Decides.{nat_tests}
+use Rattle.esc_base.specs.Times.{forced_limit, stuck_changes}
 use Rattle.esc_base.specs.declared.kind.Kind.{Kind}
 use Rattle.esc_base.specs.declared.kind.Kind.TheVariants as kind
 use Rattle.esc_base.specs.declared.note.Note.{Note}
@@ -202,12 +203,12 @@ may_turn : (turn : Turn) (advance interval change time : ℕ) → ChangeTied (wa
     → MayTurn advance interval turn time
 may_turn Idle advance interval change time c l = absurd c
 may_turn Started advance interval change time c l = tt
-may_turn (Turned q) advance interval change time c l = (let e : change ≡ q + 240000 = c in omega arith)
+may_turn (Turned q) advance interval change time c l = (let e : change ≡ q + forced_limit = c in omega arith)
 may_turn (Crossed q z) advance interval change time c l = (let e : change ≡ z + wait_of advance interval = c in omega arith)
 
-forced_next : (turn : Turn) (turned : Bool) (forced f wait change time : ℕ) → ChangeTied wait turn change time → turned ≡ is_forced turn → forced ≡ min 60 f
+forced_next : (turn : Turn) (turned : Bool) (forced f wait change time : ℕ) → ChangeTied wait turn change time → turned ≡ is_forced turn → forced ≡ min stuck_changes f
     → (IsUnforced turn → f ≡ 0)
-    → (if turned then min 60 (forced + 1) else forced) ≡ min 60 (if is_forced turn then f + 1 else 0)
+    → (if turned then min stuck_changes (forced + 1) else forced) ≡ min stuck_changes (if is_forced turn then f + 1 else 0)
 forced_next Idle turned forced f wait change time c e g z = absurd c
 forced_next Started turned forced f wait change time c e g z = rw (e, g, z tt) refl
 forced_next (Turned q) turned forced f wait change time c e g z = rw (e, g) (omega arith)
@@ -224,29 +225,29 @@ no_more false true = refl
 no_more false false = refl
 
 stuck_next : (turn : Turn) (turned told stuck : Bool) (forced f wait change time : ℕ) → ChangeTied wait turn change time → turned ≡ is_forced turn
-    → forced ≡ min 60 f
-    → told ≡ (stuck || nat_le 60 forced) → (nat_le 60 forced ≡ true → stuck ≡ true)
-    → (told || (is_forced turn && nat_le 59 f)) ≡ (stuck || nat_le 60 (if turned then min 60 (forced + 1) else forced))
+    → forced ≡ min stuck_changes f
+    → told ≡ (stuck || nat_le stuck_changes forced) → (nat_le stuck_changes forced ≡ true → stuck ≡ true)
+    → (told || (is_forced turn && nat_le (stuck_changes - 1) f)) ≡ (stuck || nat_le stuck_changes (if turned then min stuck_changes (forced + 1) else forced))
 stuck_next Idle turned told stuck forced f wait change time c e g s m = absurd c
-stuck_next Started turned told stuck forced f wait change time c e g s m = rw (e, s) (no_more stuck (nat_le 60 forced))
+stuck_next Started turned told stuck forced f wait change time c e g s m = rw (e, s) (no_more stuck (nat_le stuck_changes forced))
 stuck_next (Turned q) turned told stuck forced f wait change time c e g s m =
-    rw (e, ← full f) (same_told told stuck (nat_le 60 forced) (nat_le 60 (min 60 (min 60 f + 1))) s m ∙ rw g refl)
+    rw (e, ← full f) (same_told told stuck (nat_le stuck_changes forced) (nat_le stuck_changes (min stuck_changes (min stuck_changes f + 1))) s m ∙ rw g refl)
   where
-    full : (f : ℕ) → nat_le 60 (min 60 (min 60 f + 1)) ≡ nat_le 59 f
-    full f = elim (cases_lt f 59) [
+    full : (f : ℕ) → nat_le stuck_changes (min stuck_changes (min stuck_changes f + 1)) ≡ nat_le (stuck_changes - 1) f
+    full f = elim (cases_lt f (stuck_changes - 1)) [
       | inl l ↦ rw (below f l, below_60 f l) refl
-      | inr g ↦ rw (le-leb 59 f g, le-leb 60 (min 60 (min 60 f + 1)) (omega arith)) refl
+      | inr g ↦ rw (le-leb (stuck_changes - 1) f g, le-leb stuck_changes (min stuck_changes (min stuck_changes f + 1)) (omega arith)) refl
     ]
       where
-        below : (f : ℕ) → f < 59 → nat_le 59 f ≡ false
+        below : (f : ℕ) → f < (stuck_changes - 1) → nat_le (stuck_changes - 1) f ≡ false
         below f l = grind (arith, nat_tests)
 
         not_le : (m n : ℕ) → n < m → nat_le m n ≡ false
         not_le m n l = grind (arith, nat_tests)
 
-        below_60 : (f : ℕ) → f < 59 → nat_le 60 (min 60 (min 60 f + 1)) ≡ false
-        below_60 f l = not_le 60 (min 60 (min 60 f + 1)) (omega arith)
-stuck_next (Crossed q x) turned told stuck forced f wait change time c e g s m = rw (e, s) (no_more stuck (nat_le 60 forced))
+        below_60 : (f : ℕ) → f < (stuck_changes - 1) → nat_le stuck_changes (min stuck_changes (min stuck_changes f + 1)) ≡ false
+        below_60 f l = not_le stuck_changes (min stuck_changes (min stuck_changes f + 1)) (omega arith)
+stuck_next (Crossed q x) turned told stuck forced f wait change time c e g s m = rw (e, s) (no_more stuck (nat_le stuck_changes forced))
 
 -- PWM has been interrupted where it has read nothing that it will use
 resumes_pwm : (at : PwmAt) (own sampled demand sector sector' : ℕ) → 8 < pwm_need at → PwmTied at own sampled demand sector

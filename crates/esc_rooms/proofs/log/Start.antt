@@ -1,6 +1,7 @@
 -- The log of a run that has made no step.
 use Rattle.std.proofs.Common.{◌≡◌, ◌≤◌, ℕ, true, false, [], ◌∷◌, reverse, refl, sym, ◌∙◌, ap, arith, lit<, lit≤, ◌+◌, inl}
 use Rattle.std.proofs.lemmas.List.Elements.{All-nil}
+use Rattle.esc_base.specs.Times.{rest}
 use Rattle.esc_base.specs.declared.kind.Kind.{Kind}
 use Rattle.esc_base.specs.declared.kind.Kind.TheVariants as kind
 use Rattle.esc_base.specs.declared.note.Note.TheVariants as note
@@ -80,7 +81,7 @@ start_ground loaded packets nest none = record {
   outside = record {
     level = ap (λ (l : Line). l.level) (sym line-none);
     edges = rw line-none (All-nil (λ e. e.t.0 ≤ 0), tt);
-    rested = rw line-none (record { over = All-nil (λ e. e.t.0 + 200 ≤ 0); first = λ t a. omega arith });
+    rested = rw line-none (record { over = All-nil (λ e. e.t.0 + rest ≤ 0); first = λ t a. omega arith });
     events = All-nil (λ e. tick_of e ≤ 0);
     in_time = tt;
     comparator = ap (λ (h : Held). h.level) (sym (held-none 0));

@@ -2,6 +2,7 @@
 use Rattle.std.proofs.Common.{◌≡◌, ◌<◌, ◌%◌, inl, inr, ℕ, Bool, true, false, not, ◌==◌, nat_lt, bit_and, bit_or, if◌then◌else◌, List, [], Option, Some, None, refl, sym, ◌∙◌, ap, subst, arith}
 use Rattle.std.specs.Int.Bits.{and_zero_r}
 use Rattle.std.proofs.lemmas.Bool.{lt-ltb, le-ltb}
+use Rattle.esc_base.specs.Times.{pwm_period}
 use Rattle.esc_base.specs.declared.gate.Leg.{Leg}
 use Rattle.esc_base.specs.declared.kind.Kind.{Kind}
 use Rattle.esc_base.specs.declared.kind.Kind.TheVariants as kind
@@ -72,16 +73,16 @@ chopped_sector false s x e = absurd (let z : Some x ≡ None = e in cc)
 record AtWrite (leg : Option Leg) (w : World) (outer : List Kind) : Type 0 where
   at : IsPwm w outer (pwm.Run (chop.Write leg))
   own : w.made.pwm_own ≡ 4
-  leg_is : leg ≡ chopped_leg (nat_lt (w.made.sampled % 2000) (demand_at w.back)) w.bank.sector
+  leg_is : leg ≡ chopped_leg (nat_lt (w.made.sampled % pwm_period) (demand_at w.back)) w.bank.sector
   drives : 0 < demand_at w.back
 
 chops_so : (leg : Option Leg) (w : World) (outer : List Kind) (after : Bank) → AtWrite leg w outer → HasChopped leg w.core.drive.gates w.bank after
     → Chops w after
 chops_so leg w outer after i h =
-    let by = chops_of leg (nat_lt (w.made.sampled % 2000) (demand_at w.back)) w.bank.sector w.core.drive.gates w.bank after i.leg_is h in
+    let by = chops_of leg (nat_lt (w.made.sampled % pwm_period) (demand_at w.back)) w.bank.sector w.core.drive.gates w.bank after i.leg_is h in
     record {
-      on = λ l s none. by.0 (lt-ltb (w.made.sampled % 2000) (demand_at w.back) l) s none;
-      off = λ l. by.1 (le-ltb (w.made.sampled % 2000) (demand_at w.back) l);
+      on = λ l s none. by.0 (lt-ltb (w.made.sampled % pwm_period) (demand_at w.back) l) s none;
+      off = λ l. by.1 (le-ltb (w.made.sampled % pwm_period) (demand_at w.back) l);
     }
 
 -- a write that changes the word of high switches
@@ -117,7 +118,7 @@ on_places None x w outer e i =
     let hi : ℕ = bit_or w.bank.hi (mask_of x) in
     let g : Gated = w.core.drive.gates in
     let after : Bank = written w.bank reg.GhSet (mask_of x) in
-    let sector = chopped_sector (nat_lt (w.made.sampled % 2000) (demand_at w.back)) w.bank.sector x i.leg_is in
+    let sector = chopped_sector (nat_lt (w.made.sampled % pwm_period) (demand_at w.back)) w.bank.sector x i.leg_is in
     let pair : InPair w.bank.sector hi w.bank.lo = record {
       high = λ y on. elim (or_is w.bank.hi x y on) [
         | inl s ↦ (sector.0 ∙ s, sector.1)
@@ -214,7 +215,7 @@ pwm_steps_preserve (pwm.Run chop.Raise) w outer i left =
     pwm_step_preserves w outer (pwm.Run chop.Raise) (pwm.Run chop.Position) 8 (Writes reg.Mask 1) i refl (λ s. cc) (λ o. omega arith) (rw own refl)
 pwm_steps_preserve (pwm.Run chop.Position) w outer i left =
     let own = own_tie w outer (pwm.Run chop.Position) i in
-    pwm_step_preserves w outer (pwm.Run chop.Position) (pwm.Run (chop.Duty (w.bank.time % 2000))) w.core.hold (Reads reg.PwmPos) i refl (λ s. cc)
+    pwm_step_preserves w outer (pwm.Run chop.Position) (pwm.Run (chop.Duty (w.bank.time % pwm_period))) w.core.hold (Reads reg.PwmPos) i refl (λ s. cc)
     (λ o. omega arith) (rw own (refl, refl))
 pwm_steps_preserve (pwm.Run (chop.Duty position)) w outer i left =
     let own = own_tie w outer (pwm.Run (chop.Duty position)) i in

@@ -1,5 +1,6 @@
 -- Small facts of the drive's ties.
 use Rattle.std.proofs.Common.{◌≡◌, ◌≤◌, ◌<◌, ◌+◌, inl, inr, ℕ, min, Bool, true, false, not, ◌&&◌, if◌then◌else◌, Option, Some, refl, sym, ◌∙◌, ap, subst, arith}
+use Rattle.esc_base.specs.Times.{dead_time}
 use Rattle.esc_base.specs.declared.gate.Leg.{Leg}
 use Rattle.esc_base.specs.Legs.{is_on, IsApart}
 use Rattle.commutation.specs.Sectors.{high_of, low_of}
@@ -73,12 +74,12 @@ low_leg_off s hi lo le p = off_is (is_on hi (low_of s)) (λ e. let h = p.high (l
 
 -- ---- off times
 
-soon_test : (a b : Bool) (t f : ℕ) → f ≤ t + 48 → (if a && not b then t + 48 else f) ≤ t + 48
+soon_test : (a b : Bool) (t f : ℕ) → f ≤ t + dead_time → (if a && not b then t + dead_time else f) ≤ t + dead_time
 soon_test true true t f l = l
 soon_test true false t f l = omega arith
 soon_test false b t f l = l
 
-pub soon_word : (f : Legs) (w w' t : ℕ) (x : Leg) → at_leg f x ≤ t + 48 → at_leg (offs f w w' t) x ≤ t + 48
+pub soon_word : (f : Legs) (w w' t : ℕ) (x : Leg) → at_leg f x ≤ t + dead_time → at_leg (offs f w w' t) x ≤ t + dead_time
 soon_word f w w' t x l = rw (at_offs f w w' t x) (soon_test (is_on w x) (is_on w' x) t (at_leg f x) l)
 
 -- ---- what holds of COMM_AT between two steps of COMM is carried on where the timer and the next change are

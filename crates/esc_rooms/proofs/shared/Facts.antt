@@ -6,7 +6,7 @@ use Rattle.esc_base.specs.declared.kind.Kind.{Kind}
 use Rattle.esc_base.specs.declared.kind.Kind.TheVariants as kind
 use Rattle.esc_base.specs.declared.signal.Edge.{Edge}
 use Rattle.esc_base.specs.Numbers.{kind_number, as_tick}
-use Rattle.esc_base.specs.Times.{is_reached}
+use Rattle.esc_base.specs.Times.{is_reached, control_period}
 use Rattle.timer_regs.specs.Bank.{Bank}
 use Rattle.timer_regs.specs.Effects.{after_read, written, is_readable, shown_edge}
 use Rattle.timer_regs.specs.declared.regs.Reg.{Reg}
@@ -44,11 +44,11 @@ access_time b (Writes r v) = write_time b r v
 
 -- ---- which kinds are due
 
-pub tick_due : (w : Bool) (b : Bank) → b.number_read < b.time / 2400 → due_now w b kind.Tick ≡ true
-tick_due w b l = not_from_false (b.time / 2400 == b.number_read) (ne_eqb (b.time / 2400) b.number_read (λ e. omega arith))
+pub tick_due : (w : Bool) (b : Bank) → b.number_read < b.time / control_period → due_now w b kind.Tick ≡ true
+tick_due w b l = not_from_false (b.time / control_period == b.number_read) (ne_eqb (b.time / control_period) b.number_read (λ e. omega arith))
 
-pub due_tick : (w : Bool) (b : Bank) → b.number_read ≤ b.time / 2400 → due_now w b kind.Tick ≡ true → b.number_read < b.time / 2400
-due_tick w b le d = less (b.time / 2400) b.number_read le d
+pub due_tick : (w : Bool) (b : Bank) → b.number_read ≤ b.time / control_period → due_now w b kind.Tick ≡ true → b.number_read < b.time / control_period
+due_tick w b le d = less (b.time / control_period) b.number_read le d
   where
     less : (n m : ℕ) → m ≤ n → not (n == m) ≡ true → m < n
     less n m le e = grind (arith, nat_tests)

@@ -2,6 +2,7 @@
 use Rattle.std.proofs.Common.{◌≡◌, ◌<◌, ◌+◌, ◌-◌, ◌/◌, inl, inr, ℕ, Bool, true, false, not, ◌&&◌, ◌||◌, ◌==◌, nat_lt, if◌then◌else◌, List, [], ◌∷◌, Option, Some, None, refl, sym, ◌∙◌, ap, subst, arith}
 use Rattle.std.proofs.lemmas.Bool.{cases_lt, lt-ltb, le-ltb}
 use Rattle.std.proofs.lemmas.Bool.Decides.{nat_tests}
+use Rattle.esc_base.specs.Times.{control_period}
 use Rattle.esc_base.specs.declared.kind.Kind.{Kind}
 use Rattle.esc_base.specs.declared.kind.Kind.TheVariants as kind
 use Rattle.esc_base.specs.declared.note.Cause.{Cause}
@@ -21,7 +22,8 @@ use Rattle.commutation.specs.Drive.{rests_at, turns_at}
 use Rattle.gate_driver.specs.declared.all_off.AllOff.TheVariants as off
 use Rattle.esc_core.specs.declared.state.TickAt.TheVariants as tick
 use Rattle.esc_core.specs.Drive.{is_stuck}
-use Rattle.esc_core.specs.Tick.{number_in, marks_in, number_step, drive_after, outcome_note, ticked}
+use Rattle.esc_core.specs.Tick.{number_in, marks_in, number_step, outcome_note, ticked}
+use Rattle.esc_core.specs.Drive.{drive_after}
 use Rattle.esc_laws.specs.Calls.{pwm_entered_at}
 use Rattle.esc_rooms.proofs.shared.Facts.{above_zero}
 use Rattle.esc_rooms.specs.Tied.{TickTied}
@@ -119,8 +121,8 @@ no_drive w t e = rw ((t kind.Comm).next.idle (eqb-true (demand_at w.back) 0 (res
 -- it asks control: a K, then an A or an X
 asks : (lost : Option Cause) (armed_now start : Bool) (w : World) (outer : List Kind) (marks demand : ℕ) (kept : Kept) → IsTick w outer tick.Read
     → start ≡ (nat_lt 0 demand && rests_at w.back) → (so_far w).ticks ≡ 0
-    → Stands kept (with_outcome (as_tick w.bank.time) lost armed_now (note.Control (as_tick w.bank.time) (w.bank.time / 2400) marks demand ∷ w.back))
-    → kept.number ≡ w.bank.time / 2400
+    → Stands kept (with_outcome (as_tick w.bank.time) lost armed_now (note.Control (as_tick w.bank.time) (w.bank.time / control_period) marks demand ∷ w.back))
+    → kept.number ≡ w.bank.time / control_period
     → StepKeeps kind.Tick outer w (record {
       core = record w.core {
         tick_at = if demand == 0 then tick.Off off.High else tick.DutyOn start;
@@ -128,13 +130,13 @@ asks : (lost : Option Cause) (armed_now start : Bool) (w : World) (outer : List 
         drive = record (drive_after start w.bank.time w.core.drive) { crossing = search_after (demand == 0) w.core.drive.crossing };
       };
       access = Reads reg.TickState;
-      notes = note.Control (as_tick w.bank.time) (w.bank.time / 2400) marks demand ∷ outcome_note w.bank.time lost armed_now;
+      notes = note.Control (as_tick w.bank.time) (w.bank.time / control_period) marks demand ∷ outcome_note w.bank.time lost armed_now;
       over = false;
     })
 asks lost armed_now start w outer marks demand kept i begins none st number = by_outcome lost armed_now st
   where
     k : Note
-    k = note.Control (as_tick w.bank.time) (w.bank.time / 2400) marks demand
+    k = note.Control (as_tick w.bank.time) (w.bank.time / control_period) marks demand
 
     gates_same : (s : Bool) → (drive_after s w.bank.time w.core.drive).gates ≡ w.core.drive.gates
     gates_same true = refl
@@ -186,7 +188,7 @@ asks lost armed_now start w outer marks demand kept i begins none st number = by
     here = inside (so_far w).stack kind.Tick outer i.on
 
     by_outcome : (lost : Option Cause) (armed_now : Bool)
-        → Stands kept (with_outcome (as_tick w.bank.time) lost armed_now (note.Control (as_tick w.bank.time) (w.bank.time / 2400) marks demand ∷ w.back))
+        → Stands kept (with_outcome (as_tick w.bank.time) lost armed_now (note.Control (as_tick w.bank.time) (w.bank.time / control_period) marks demand ∷ w.back))
         → StepKeeps kind.Tick outer w (record {
           core = record w.core {
             tick_at = if demand == 0 then tick.Off off.High else tick.DutyOn start;
@@ -194,7 +196,7 @@ asks lost armed_now start w outer marks demand kept i begins none st number = by
             drive = record (drive_after start w.bank.time w.core.drive) { crossing = search_after (demand == 0) w.core.drive.crossing };
           };
           access = Reads reg.TickState;
-          notes = note.Control (as_tick w.bank.time) (w.bank.time / 2400) marks demand ∷ outcome_note w.bank.time lost armed_now;
+          notes = note.Control (as_tick w.bank.time) (w.bank.time / control_period) marks demand ∷ outcome_note w.bank.time lost armed_now;
           over = false;
         })
     by_outcome (Some cause) armed_now st = record {
@@ -211,7 +213,7 @@ asks lost armed_now start w outer marks demand kept i begins none st number = by
         line = i.ground.line;
       };
       tie = λ told. (
-        asked_ticks (demand == 0) start (w.bank.time / 2400) w.bank.time ((so_far w).ticks + 1) ticks_now,
+        asked_ticks (demand == 0) start (w.bank.time / control_period) w.bank.time ((so_far w).ticks + 1) ticks_now,
         sym number,
         omega arith,
         asked_duty (demand == 0) start w.bank.duty demand refl,
@@ -241,7 +243,7 @@ asks lost armed_now start w outer marks demand kept i begins none st number = by
         line = i.ground.line;
       };
       tie = λ told. (
-        asked_ticks (demand == 0) start (w.bank.time / 2400) w.bank.time ((so_far w).ticks + 1) ticks_now,
+        asked_ticks (demand == 0) start (w.bank.time / control_period) w.bank.time ((so_far w).ticks + 1) ticks_now,
         sym number,
         omega arith,
         asked_duty (demand == 0) start w.bank.duty demand refl,
@@ -270,7 +272,7 @@ asks lost armed_now start w outer marks demand kept i begins none st number = by
         line = i.ground.line;
       };
       tie = λ told. (
-        asked_ticks (demand == 0) start (w.bank.time / 2400) w.bank.time ((so_far w).ticks + 1) ticks_now,
+        asked_ticks (demand == 0) start (w.bank.time / control_period) w.bank.time ((so_far w).ticks + 1) ticks_now,
         sym number,
         omega arith,
         asked_duty (demand == 0) start w.bank.duty demand refl,
@@ -294,11 +296,11 @@ outcome_number (Some cause) armed_now t n s d back = refl
 outcome_number None true t n s d back = refl
 outcome_number None false t n s d back = refl
 
-reads_as : (n marks : ℕ) (w : World) (outer : List Kind) → IsTick w outer tick.Read → n ≡ w.bank.time / 2400 → marks ≡ marks_at w.back
-    → w.bank.number_read < w.bank.time / 2400 → (so_far w).ticks ≡ 0
+reads_as : (n marks : ℕ) (w : World) (outer : List Kind) → IsTick w outer tick.Read → n ≡ w.bank.time / control_period → marks ≡ marks_at w.back
+    → w.bank.number_read < w.bank.time / control_period → (so_far w).ticks ≡ 0
     → StepKeeps kind.Tick outer w (number_step n marks w.core w.bank)
 reads_as n marks w outer i is marks_are below none = subst (λ (m : ℕ). StepKeeps kind.Tick outer w (number_step m marks w.core w.bank)) (sym is) (
-    let m : ℕ = w.bank.time / 2400 in
+    let m : ℕ = w.bank.time / control_period in
     let answer = ticked w.core m marks in
     let less : w.core.control.number < m = (let same = (i.ties kind.Tick).1 in omega arith) in
     let st = tick_stands w.core.control w.back (as_tick w.bank.time) m marks refl less marks_are i.ground.control in
@@ -312,18 +314,18 @@ reads_as n marks w outer i is marks_are below none = subst (λ (m : ℕ). StepKe
 
 pub reads : (stuck : Bool) (w : World) (outer : List Kind) → w.bank.stuck ≡ stuck → IsTick w outer tick.Read
     → StepKeeps kind.Tick outer w
-    (number_step (number_in (if stuck then w.bank.time / 2400 + 1073741824 else w.bank.time / 2400))
-    (marks_in (if stuck then w.bank.time / 2400 + 1073741824 else w.bank.time / 2400) w.core.line.active) w.core w.bank)
+    (number_step (number_in (if stuck then w.bank.time / control_period + 1073741824 else w.bank.time / control_period))
+    (marks_in (if stuck then w.bank.time / control_period + 1073741824 else w.bank.time / control_period) w.core.line.active) w.core w.bank)
 reads true w outer e i =
     let tied = ticks_tie w outer tick.Read i in
-    reads_as (number_in (w.bank.time / 2400 + 1073741824)) (marks_in (w.bank.time / 2400 + 1073741824) w.core.line.active) w outer i
-    (rw (le-ltb (w.bank.time / 2400 + 1073741824) 1073741824 (omega arith)) (back (w.bank.time / 2400)))
-    (rw (le-ltb (w.bank.time / 2400 + 1073741824) 1073741824 (omega arith), mark_is w outer i ∙ e, i.ground.line.session_is) refl) tied.0 tied.1
+    reads_as (number_in (w.bank.time / control_period + 1073741824)) (marks_in (w.bank.time / control_period + 1073741824) w.core.line.active) w outer i
+    (rw (le-ltb (w.bank.time / control_period + 1073741824) 1073741824 (omega arith)) (back (w.bank.time / control_period)))
+    (rw (le-ltb (w.bank.time / control_period + 1073741824) 1073741824 (omega arith), mark_is w outer i ∙ e, i.ground.line.session_is) refl) tied.0 tied.1
   where
     back : (t : ℕ) → (t + 1073741824) - 1073741824 ≡ t
     back t = omega arith
 reads false w outer e i =
     let tied = ticks_tie w outer tick.Read i in
     let small : w.bank.time < 2147483648 = i.ground.outside.small in
-    reads_as (number_in (w.bank.time / 2400)) (marks_in (w.bank.time / 2400) w.core.line.active) w outer i (rw (lt-ltb (w.bank.time / 2400) 1073741824 (omega arith)) refl)
-    (rw (lt-ltb (w.bank.time / 2400) 1073741824 (omega arith), mark_is w outer i ∙ e, i.ground.line.session_is) refl) tied.0 tied.1
+    reads_as (number_in (w.bank.time / control_period)) (marks_in (w.bank.time / control_period) w.core.line.active) w outer i (rw (lt-ltb (w.bank.time / control_period) 1073741824 (omega arith)) refl)
+    (rw (lt-ltb (w.bank.time / control_period) 1073741824 (omega arith), mark_is w outer i ∙ e, i.ground.line.session_is) refl) tied.0 tied.1

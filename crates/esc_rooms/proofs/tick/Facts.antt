@@ -14,7 +14,7 @@ use Rattle.esc_core.specs.declared.state.CommAt.TheVariants as comm
 use Rattle.esc_core.specs.declared.state.TickAt.{TickAt}
 use Rattle.esc_core.specs.declared.state.TickAt.TheVariants as tick
 use Rattle.esc_core.specs.Drive.{search_after}
-use Rattle.esc_core.specs.Tick.{drive_after}
+use Rattle.esc_core.specs.Drive.{drive_after}
 use Rattle.esc_rooms.proofs.shared.Facts.{above_zero}
 use Rattle.esc_rooms.specs.DriveTied.{DriveView, DriveTied, CommTied, TurnTied, HasActed, OnOrHeld, Resumed, LowTied, commutes, ChangeTied, TimerKept, FlagTied, writes_duty}
 use Rattle.std.proofs.lemmas.Bool.{eqb-true}

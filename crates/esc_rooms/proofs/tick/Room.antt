@@ -1,6 +1,7 @@
 -- TICK's row of the laws: where it is called and entered, and its tie as time goes on.
 use Rattle.std.proofs.Common.{◌≡◌, ◌≤◌, ◌<◌, ◌/◌, ℕ, Bool, false, ◌||◌, Option, refl, sym, ◌∙◌, ap, subst, arith}
 use Rattle.std.proofs.lemmas.Bool.{ltb-true}
+use Rattle.esc_base.specs.Times.{control_period}
 use Rattle.esc_base.specs.declared.kind.Kind.TheVariants as kind
 use Rattle.timer_regs.specs.Pwm.{has_edge}
 use Rattle.arming.specs.ControlAt.{demand_at, number_at}
@@ -26,8 +27,8 @@ use Rattle.esc_rooms.proofs.tick.Steps.{tick_steps_preserve}
 
 later : (at : TickAt) (read t u ticks : ℕ) → t ≤ u → TickTied at read t ticks → TickTied at read u ticks
 later tick.Shut read t u ticks le i = tt
-later tick.Raise read t u ticks le i = (let a : read < t / 2400 = i.0 in omega arith, i.1)
-later tick.Read read t u ticks le i = (let a : read < t / 2400 = i.0 in omega arith, i.1)
+later tick.Raise read t u ticks le i = (let a : read < t / control_period = i.0 in omega arith, i.1)
+later tick.Read read t u ticks le i = (let a : read < t / control_period = i.0 in omega arith, i.1)
 later at read t u ticks le i = i
 
 -- with the duty at 0 time brings no PWM event
@@ -68,7 +69,7 @@ shut_at w none t = subst (λ (p : TickAt). DutyTied p w.bank.duty (demand_at w.b
 pub tick_law : HandlerLaw kind.Tick
 tick_law = record {
   called = λ w i s.
-      tick_due (waits_of w.core) w.bank (rw ((i.rest.ties kind.Tick).1, i.rest.ground.control.ties.number_is) (ltb-true (number_at w.back) (w.bank.time / 2400) s));
+      tick_due (waits_of w.core) w.bank (rw ((i.rest.ties kind.Tick).1, i.rest.ground.control.ties.number_is) (ltb-true (number_at w.back) (w.bank.time / control_period) s));
   asked = λ w i. (tt, rw (sym i.rest.ground.control.ties.number_is, ← (i.rest.ties kind.Tick).1) (due_tick (waits_of w.core) w.bank (i.rest.ties kind.Tick).2 i.due));
   entered = λ w i. (
     (due_tick (waits_of w.core) w.bank (i.rest.ties kind.Tick).2 i.due, refl),

@@ -1,5 +1,5 @@
 use Rattle.std.proofs.Common.{arith, refl}
-use Rattle.trace_runner.proofs.Written.{on_err}
+use Rattle.esc_base.proofs.OutsideLaws.{on_err}
 use Rattle.am32sim.proofs.Runs.{so_far_none, so_far_event, broken_begin, broken_event, broken_end, done, refused, faulted}
 use Rattle.am32sim.proofs.run.run.Goals as goal
 

@@ -1,5 +1,5 @@
 use Rattle.std.proofs.Common.{◌≡◌, ◌/◌, nat_lt, slice_index, arith, refl, sym, ◌∙◌, ap}
-use Rattle.dshot_frame.specs.Bits.{digit}
+use Rattle.esc_base.specs.Bits.{digit}
 use Rattle.dshot_frame.specs.Verdict.{is_one, widths}
 use Rattle.dshot_frame.proofs.Words.{none_so_far, more_so_far, all_so_far, untimely, small_word}
 use Rattle.dshot_frame.proofs.Numbers.{digit-from_bool, shifted_in}

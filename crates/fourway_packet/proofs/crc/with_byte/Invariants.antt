@@ -1,6 +1,7 @@
 use Rattle.std.proofs.Common.{◌≡◌, ◌-◌}
 use Rattle.std.specs.List.{fold}
-use Rattle.fourway_packet.specs.Crc.{shifted, shifted_by_byte, low_bits}
+use Rattle.esc_base.specs.Bits.{low_bits}
+use Rattle.fourway_packet.specs.Crc.{shifted, shifted_by_byte}
 use Rattle.fourway_packet.proofs.crc.with_byte.Given as goal
 
 abbrev pub invariant-loop-i : goal.invariant-loop-i

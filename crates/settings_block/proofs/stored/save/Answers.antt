@@ -1,12 +1,9 @@
-use Rattle.std.proofs.Common.{OnErr, Result, Ok, Err}
 use Rattle.esc_base.specs.Flash.{erased, programmed}
+use Rattle.esc_base.proofs.OutsideLaws.{on_err}
 use Rattle.settings_block.specs.Block.{block_of}
+use Rattle.settings_block.specs.Stored.{settings_address, settings_page}
 use Rattle.settings_block.proofs.Saved.{below_erased, map_map}
 use Rattle.settings_block.proofs.stored.save.Goals as goal
-
-on_err : {T E P : Type 0} (r : Result T E) → P → OnErr r P
-on_err (Ok x) p = tt
-on_err (Err e) p = p
 
 pub returns-in_err-program-clause-below : goal.returns-in_err-program-clause-below
 returns-in_err-program-clause-below g c =
@@ -16,4 +13,4 @@ returns-in_err-program-clause-below g c =
 pub returns-clause-saved : goal.returns-clause-saved
 returns-clause-saved g c =
     rw (c.in_ok-program.ensures.programmed, c.in_ok-erase.ensures.erased, c.write_block.ensures.block)
-    (map_map (λ cells. programmed cells 31744 (block_of c.args.s.now)) (λ cells. erased cells 31) (g.D.FlashDev.told c.args.dev.now).bytes)
+    (map_map (λ cells. programmed cells settings_address (block_of c.args.s.now)) (λ cells. erased cells settings_page) (g.D.FlashDev.told c.args.dev.now).bytes)

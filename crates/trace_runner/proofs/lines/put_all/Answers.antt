@@ -1,7 +1,8 @@
 use Rattle.std.proofs.Common.{◌∙◌, ◌<◌, ℕ, List, length, arith}
 use Rattle.esc_base.specs.declared.note.Note.{Note}
 use Rattle.esc_base.specs.declared.note.Note.TheVariants.{Up}
-use Rattle.trace_runner.proofs.Written.{lines_more, given_more, broke_at, on_err}
+use Rattle.esc_base.proofs.OutsideLaws.{on_err}
+use Rattle.trace_runner.proofs.Written.{lines_more, given_more, broke_at}
 use Rattle.trace_runner.proofs.lines.put_all.Goals as goal
 
 abbrev blank : Note

@@ -5,9 +5,10 @@ use Rattle.interrupt_machine.proofs.machine.Machine.due.Goals as goal
 
 pub returns-in-Some : goal.returns-in-Some
 returns-in-Some g c =
-    sym (highest_above (due_now (g.F.Firmware.waits c.args.self.now.firmware) c.args.regs.now) c.in-Some.kind (sym (c.due_above_cap.ensures (g.F.Firmware.waits c.args.self.now.firmware)) ∙ c.in-Some.is))
+    let waits = g.F.Firmware.waits c.args.self.now.firmware in
+    sym (highest_above (due_now waits c.args.regs.now) c.in-Some.kind (sym (c.due_above_cap.ensures waits) ∙ c.in-Some.is))
 
 pub returns-in-None : goal.returns-in-None
 returns-in-None g c =
-    c.due_up_to_cap.ensures
-    ∙ sym (highest_below (due_now (g.F.Firmware.waits c.args.self.now.firmware) c.args.regs.now) (sym (c.due_above_cap.ensures (g.F.Firmware.waits c.args.self.now.firmware)) ∙ c.in-None.is))
+    let waits = g.F.Firmware.waits c.args.self.now.firmware in
+    c.due_up_to_cap.ensures ∙ sym (highest_below (due_now waits c.args.regs.now) (sym (c.due_above_cap.ensures waits) ∙ c.in-None.is))

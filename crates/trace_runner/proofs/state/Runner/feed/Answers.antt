@@ -2,7 +2,7 @@ use Rattle.std.proofs.Common.{[]}
 use Rattle.trace_runner.specs.Run.{Runs, StandsFor}
 use Rattle.trace_runner.proofs.Goes.{goes_from, goes_event, breaks_from}
 use Rattle.trace_runner.proofs.Steps.{legal_at}
-use Rattle.trace_runner.proofs.Written.{on_err}
+use Rattle.esc_base.proofs.OutsideLaws.{on_err}
 use Rattle.trace_runner.proofs.state.Runner.feed.Goals as goal
 
 pub returns-in_err-run_to-clause-breaks : goal.returns-in_err-run_to-clause-breaks

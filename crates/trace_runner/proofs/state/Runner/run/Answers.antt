@@ -2,7 +2,7 @@ use Rattle.std.proofs.Common.{◌∙◌, [], refl, arith, rules}
 use Rattle.trace_runner.specs.declared.state.Runner.{Runner}
 use Rattle.trace_runner.specs.Run.{Runs}
 use Rattle.trace_runner.proofs.Goes.{goes_none, goes_further, breaks_later, breaks_as}
-use Rattle.trace_runner.proofs.Written.{on_err}
+use Rattle.esc_base.proofs.OutsideLaws.{on_err}
 use Rattle.trace_runner.proofs.state.Runner.run.Goals as goal
 
 pub loop-self-init : goal.loop-self-init

@@ -16,7 +16,8 @@ start_flash loaded first = fits_start loaded first (journal loaded []) (first_un
 pub returns-clause-stands : goal.returns-clause-stands
 returns-clause-stands c = λ first. record {
   runs = record {
-    logged = rw (c.new-2.ensures.firmware, c.new-2.ensures.none_open, c.write.ensures, c.new-regs.ensures, c.new.ensures) (logged_start c.args.loaded c.room.inside.packets _ _ c.room.invariant);
+    logged = rw (c.new-2.ensures.firmware, c.new-2.ensures.none_open, c.write.ensures, c.new-regs.ensures, c.new.ensures)
+        (logged_start c.args.loaded c.room.inside.packets _ _ c.room.invariant);
     bound = record { apart = tt; below = All-nil (λ (e : Turned). e.tick < 0); few = All-nil (λ (e : Turned). length e.notes ≤ 6) };
     spaced = All-nil (λ (e : Turned). e.tick + c.args.cfg.cost ≤ 0);
     in_range = first_in_range c.args.loaded.fault;

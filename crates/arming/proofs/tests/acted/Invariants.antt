@@ -1,5 +1,0 @@
-use Rattle.std.proofs.Common.{◌≡◌}
-use Rattle.arming.proofs.tests.acted.Given as goal
-
-abbrev pub invariant-loop : goal.invariant-loop
-invariant-loop l = l.control.number ≡ l.initial.control.number
