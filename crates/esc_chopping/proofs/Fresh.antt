@@ -64,7 +64,8 @@ left_some cost edge x y v p s = by_open v.pwm refl
     ]
 
 -- what isn't written yet calls PWM, or one of the two is open
-pub not_resting : (cost m d edge x t : ℕ) (v : View) → 0 < d → d ≤ most_duty → IsEdge m d edge → v.demand ≡ d → Stale cost edge x v → edge ≤ t → BothIdle v t → ⊥
+pub not_resting : (cost m d edge x t : ℕ) (v : View) → 0 < d → d ≤ most_duty → IsEdge m d edge → v.demand ≡ d → Stale cost edge x v → edge ≤ t → BothIdle v t
+    → ⊥
 not_resting cost m d edge x t v some small is e s le r =
     let c = edge_calls m d edge t v some small is e r.pwm (s.entered r.pwm) le in
     let f = r.pwm_called in cc

@@ -144,7 +144,8 @@ module _ (cost : ℕ) (trace : List Event) (log : List Turned) (m d s until t ed
 
   -- ---- what the period says at a step
 
-  demand_at : (w : ℕ) (before rest : List Turned) → log ≡ before ++ rest → AllBy w before → FirstAbove w rest → pwm_period * m ≤ w + chopping_steps * cost → w < pwm_period * m + pwm_period
+  demand_at : (w : ℕ) (before rest : List Turned) → log ≡ before ++ rest → AllBy w before → FirstAbove w rest → pwm_period * m ≤ w + chopping_steps * cost
+      → w < pwm_period * m + pwm_period
       → (view before).demand ≡ d
   demand_at w before rest e b f lo hi = subst (λ (v : View). v.demand ≡ d) (at_split w log before rest e b f) (u.demand w lo hi)
 
@@ -196,9 +197,11 @@ module _ (cost : ℕ) (trace : List Event) (log : List Turned) (m d s until t ed
         sampled = rw (same.sampled) mv.1;
         soon = rw (after-push cost trace before e) (elim (cases_lt (e.tick + cost) (pwm_period * m - chopping_steps * cost)) [
           | inl l ↦ (let a : free trace (e.tick + cost) ≤ pwm_period * m - chopping_steps * cost =
-              free_low trace (pwm_period * m - chopping_steps * cost) (pwm_period * m + (pwm_period - 1)) (e.tick + cost) u.stalls (omega arith) (omega arith) in let b = q.0 in omega arith)
+              free_low trace (pwm_period * m - chopping_steps * cost) (pwm_period * m + (pwm_period - 1)) (e.tick + cost) u.stalls (omega arith) (omega arith)
+              in let b = q.0 in omega arith)
           | inr g ↦ (let b : edge ≤ pwm_period * m + d = q.1 in let c : d ≤ most_duty = u.duty in let a : free trace (e.tick + cost) ≡ e.tick + cost =
-              free_same trace (pwm_period * m - chopping_steps * cost) (pwm_period * m + (pwm_period - 1)) (e.tick + cost) u.stalls g (omega arith) in omega arith)
+              free_same trace (pwm_period * m - chopping_steps * cost) (pwm_period * m + (pwm_period - 1)) (e.tick + cost) u.stalls g (omega arith) in omega
+              arith)
         ]);
       }
 

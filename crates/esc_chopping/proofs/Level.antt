@@ -51,7 +51,8 @@ module _ (cost : ℕ) (trace : List Event) (log : List Turned) (m d s until : �
   first_placed : Placed cost (after cost trace []) (view [])
   first_placed = subst (λ (v : View). Placed cost (after cost trace []) v) (sym view-none) (start_placed cost (after cost trace []))
 
-  level : (t edge : ℕ) → IsEdge m d edge → pwm_period * m ≤ edge → t < pwm_period * m + pwm_period → t < until → edge + chopping_steps * cost ≤ t → Fresh edge m d s t (at_tick t log)
+  level : (t edge : ℕ) → IsEdge m d edge → pwm_period * m ≤ edge → t < pwm_period * m + pwm_period → t < until → edge + chopping_steps * cost ≤ t
+      → Fresh edge m d s t (at_tick t log)
   level t edge is le inp below late =
       run cost trace log m d s until t edge one few u is inp below late [] log refl legal.fits legal.drives u.none_enters legal.all_made (λ w h. tt)
       first_placed tt (inl (first_early edge le))
@@ -61,7 +62,8 @@ module _ (cost : ℕ) (trace : List Event) (log : List Turned) (m d s until : �
       let f = level t (pwm_period * m) (inl refl) (omega arith) (let a = u.duty in omega arith) below late in
       f.on (let a = f.past in omega arith)
 
-  pub high_off : (t : ℕ) → t < until → pwm_period * m + d + chopping_steps * cost ≤ t → t < pwm_period * m + pwm_period → is_on (at_tick t log).hi (high_of s) ≡ false
+  pub high_off : (t : ℕ) → t < until → pwm_period * m + d + chopping_steps * cost ≤ t → t < pwm_period * m + pwm_period
+      → is_on (at_tick t log).hi (high_of s) ≡ false
   high_off t below late le =
       let f = level t (pwm_period * m + d) (inr refl) (omega arith) le below late in
       f.off f.wrote (high_of s)

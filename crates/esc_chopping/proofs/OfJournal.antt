@@ -224,7 +224,8 @@ small_demand t (n ∷ notes) back a b = by_time (nat_le (time_of n) t) (small_de
     one (note.Control u number marks d) r = r.1.1.1
     one x r = b
 
-    by_time : (v : Bool) → demand_at (reverse (upto t notes) ++ n ∷ back) ≤ most_duty → demand_at (reverse (if v then n ∷ upto t notes else []) ++ back) ≤ most_duty
+    by_time : (v : Bool) → demand_at (reverse (upto t notes) ++ n ∷ back) ≤ most_duty
+        → demand_at (reverse (if v then n ∷ upto t notes else []) ++ back) ≤ most_duty
     by_time false r = b
     by_time true r = subst (λ (l : List Note). demand_at l ≤ most_duty) (sym
         (ap (λ (l : List Note). l ++ back) (reverse-append (n ∷ []) (upto t notes)) ∙ append_assoc (reverse (upto t notes)) (n ∷ []) back)) r
@@ -270,7 +271,8 @@ module _ (loaded : Loaded) (cost : ℕ) (trace : List Event) (log : List Turned)
   at_multiple : (m d : ℕ) → Undisturbed cost trace (journal loaded log) (pwm_period * m) d
       → IsChopped cost until (journal loaded log) (pwm_period * m) d (sector_at (by_tick (pwm_period * m - 1) (journal loaded log)))
   at_multiple m d y =
-      let c = chopped cost trace log m d (sector_at (by_tick (pwm_period * m - 1) (journal loaded log))) until one few legal (quiet_of (pwm_period * m) d m refl y) in
+      let c = chopped cost trace log m d (sector_at (by_tick (pwm_period * m - 1) (journal loaded log))) until one few legal
+      (quiet_of (pwm_period * m) d m refl y) in
       record {
         high_on = λ t b lo hi. rw (sym (says_at t).hi) (c.high_on t b lo hi);
         high_off = λ t b lo hi. rw (sym (says_at t).hi) (c.high_off t b lo hi);

@@ -44,6 +44,7 @@ pub record LogFits (cost : ℕ) (trace : List Event) (until : ℕ) (log : List T
 -- what `Chopped` asks of the period, as the gates stand after the steps up to each tick
 pub record ChoppedLog (cost until : ℕ) (log : List Turned) (m d s : ℕ) : Type 0 where
   pub high_on : (t : ℕ) → t < until → pwm_period * m + chopping_steps * cost ≤ t → t ≤ pwm_period * m + d → is_on (at_tick t log).hi (high_of s) ≡ true
-  pub high_off : (t : ℕ) → t < until → pwm_period * m + d + chopping_steps * cost ≤ t → t < pwm_period * m + pwm_period → is_on (at_tick t log).hi (high_of s) ≡ false
+  pub high_off : (t : ℕ) → t < until → pwm_period * m + d + chopping_steps * cost ≤ t → t < pwm_period * m + pwm_period
+      → is_on (at_tick t log).hi (high_of s) ≡ false
   pub low_on : (t : ℕ) → t < until → pwm_period * m + chopping_steps * cost ≤ t → t < pwm_period * m + pwm_period → is_on (at_tick t log).lo (low_of s) ≡ true
   pub other_low_off : (t : ℕ) → pwm_period * m + chopping_steps * cost ≤ t → t < pwm_period * m + pwm_period → is_on (at_tick t log).lo (high_of s) ≡ false

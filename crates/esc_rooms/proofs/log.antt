@@ -11,3 +11,4 @@ pub mod Start
 pub mod Carried
 pub mod FlashSteps
 pub mod Outside
+pub mod Idle

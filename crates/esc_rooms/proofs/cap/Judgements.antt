@@ -40,10 +40,10 @@ use Rattle.esc_laws.specs.NoteLaw as owed
 
 -- ---- it judges
 
-pub answers_is : (x : World) (w m : ℕ) → Ground x → IsClosing (cap_seen x) w m → x.core.burst ≡ x.bank.window.edges
+pub judged_answers : (x : World) (w m : ℕ) → Ground x → IsClosing (cap_seen x) w m → x.core.burst ≡ x.bank.window.edges
     → Answers x.loaded x.trace w m (so_far x).cap_entered x.bank.time (verdict_note x.bank.time
     (judged x.core.window x.core.burst x.core.orders.settings.input (servo_of x.core.orders.settings)))
-answers_is x w m g i e =
+judged_answers x w m g i e =
     let allowed : x.core.orders.settings.input ≡ x.loaded.settings.input = ap (λ (s : Settings). s.input) g.orders.settings_are
     ∙ input_kept x.loaded.settings x.back in
     let servo : servo_of x.core.orders.settings ≡ servo_of x.loaded.settings = ap servo_of g.orders.settings_are ∙ servo_kept x.loaded.settings x.back in
@@ -58,10 +58,10 @@ answers_is x w m g i e =
     }
 
 -- an act keeps a save asked for
-still_asked : (at : MainAt) (o : Orders) (a : Option Act) (saves : ℕ) → MainTied at o.save_asked saves → MainTied at (obeyed_if o a).save_asked saves
-still_asked main.Shut o a saves m = tt
-still_asked main.Back o a saves m = m
-still_asked main.Work o a saves m = (obeyed_save o a m.0, m.1)
+save_stays_asked : (at : MainAt) (o : Orders) (a : Option Act) (saves : ℕ) → MainTied at o.save_asked saves → MainTied at (obeyed_if o a).save_asked saves
+save_stays_asked main.Shut o a saves m = tt
+save_stays_asked main.Back o a saves m = m
+save_stays_asked main.Work o a saves m = (obeyed_save o a m.0, m.1)
   where
     obeyed_save : (o : Orders) (a : Option Act) → o.save_asked ≡ true → (obeyed_if o a).save_asked ≡ true
     obeyed_save o None e = e
@@ -72,7 +72,8 @@ still_asked main.Work o a saves m = (obeyed_save o a m.0, m.1)
     obeyed_save o (Some (Extended is_on)) e = e
     obeyed_save o (Some (Spin side)) e = e
 
-good : (o : Option Act) (x : World) (outer : List Kind) (frame : Frame) (w m : ℕ) → Ground x → PeriodTie x → WindowSound x.bank.window x.bank.time
+judge_good_preserves : (o : Option Act) (x : World) (outer : List Kind) (frame : Frame) (w m : ℕ) → Ground x → PeriodTie x
+    → WindowSound x.bank.window x.bank.time
     → (so_far x).signal ≡ Listens w m → IsClosing (cap_seen x) w m → x.core.burst ≡ x.bank.window.edges
     → AnswersAt x.loaded x.trace (so_far x).signal (so_far x).cap_entered x.bank.time (verdict_note x.bank.time (Good frame))
     → (so_far x).stack ≡ kind.Cap ∷ outer → x.core.comm_at ≡ comm.Shut
@@ -84,10 +85,14 @@ good : (o : Option Act) (x : World) (outer : List Kind) (frame : Frame) (w m : �
       notes = note.Good (as_tick x.bank.time) frame.value (bit_of frame.telemetry) ∷ command_note x.bank.time o;
       over = false;
     })
-good None x outer frame w m g per sound e k same answers on shut named st = record {
+judge_good_preserves None x outer frame w m g per sound e k same answers on shut named st = record {
   gates = quiet_gates kind.Cap x _ (λ e. cc) refl refl refl;
   fits = λ told. (
-    record { at = refl; owned = refl; keeps = record { laws = elim [ owed.Windows ↦ answers | owed.Nests ↦ inside (so_far x).stack kind.Cap outer on | l ↦ tt ]; waits = tt } },
+    record {
+      at = refl;
+      owned = refl;
+      keeps = record { laws = elim [ owed.Windows ↦ answers | owed.Nests ↦ inside (so_far x).stack kind.Cap outer on | l ↦ tt ]; waits = tt };
+    },
     tt,
   );
   ground = record {
@@ -105,7 +110,7 @@ good None x outer frame w m g per sound e k same answers on shut named st = reco
   others = elim [ kind.Cap ↦ λ ne t. absurd (ne refl) | j ↦ λ ne t. t ];
   stack_is = on;
 }
-good (Some act) x outer frame w m g per sound e k same answers on shut named st =
+judge_good_preserves (Some act) x outer frame w m g per sound e k same answers on shut named st =
     let n : Note = note.Good (as_tick x.bank.time) frame.value (bit_of frame.telemetry) in
     let here = inside (so_far x).stack kind.Cap outer on in
     record {
@@ -129,26 +134,30 @@ good (Some act) x outer frame w m g per sound e k same answers on shut named st 
       );
       others = elim [
         | kind.Cap ↦ λ ne t. absurd (ne refl)
-        | kind.Main ↦ λ ne t. still_asked x.core.main_at x.core.orders (Some act) (so_far x).saves t
+        | kind.Main ↦ λ ne t. save_stays_asked x.core.main_at x.core.orders (Some act) (so_far x).saves t
         | kind.Comm ↦ λ ne t. redirected (drive_seen x) (forward_at x.loaded.settings (note.Command (as_tick x.bank.time) (number_of act) ∷ n ∷ x.back)) shut t
         | j ↦ λ ne t. t
       ];
       stack_is = on;
     }
 
-pub judges : (j : Judgement) (x : World) (outer : List Kind) (w m : ℕ) → Ground x → PeriodTie x → WindowSound x.bank.window x.bank.time
+pub cap_judge_preserves : (j : Judgement) (x : World) (outer : List Kind) (w m : ℕ) → Ground x → PeriodTie x → WindowSound x.bank.window x.bank.time
     → (so_far x).signal ≡ Listens w m → IsClosing (cap_seen x) w m → x.core.burst ≡ x.bank.window.edges
     → AnswersAt x.loaded x.trace (so_far x).signal (so_far x).cap_entered x.bank.time (verdict_note x.bank.time j) → (so_far x).stack ≡ kind.Cap ∷ outer
     → x.core.comm_at ≡ comm.Shut
     → StepKeeps kind.Cap outer x (judge_step j x.core x.bank)
-judges (Good frame) x outer w m g per sound e k same answers on shut =
-    good (act_in x.core frame) x outer frame w m g per sound e k same answers on shut
+cap_judge_preserves (Good frame) x outer w m g per sound e k same answers on shut =
+    judge_good_preserves (act_in x.core frame) x outer frame w m g per sound e k same answers on shut
     (λ act e. acting_named (after_frame x.core.control frame.value).run.frames frame.value act e)
     (frame_stands x.core.control x.back (as_tick x.bank.time) frame.value (bit_of frame.telemetry) g.control)
-judges (Bad why) x outer w m g per sound e k same answers on shut = record {
+cap_judge_preserves (Bad why) x outer w m g per sound e k same answers on shut = record {
   gates = quiet_gates kind.Cap x _ (λ e. cc) refl refl refl;
   fits = λ told. (
-    record { at = refl; owned = refl; keeps = record { laws = elim [ owed.Windows ↦ answers | owed.Nests ↦ inside (so_far x).stack kind.Cap outer on | l ↦ tt ]; waits = tt } },
+    record {
+      at = refl;
+      owned = refl;
+      keeps = record { laws = elim [ owed.Windows ↦ answers | owed.Nests ↦ inside (so_far x).stack kind.Cap outer on | l ↦ tt ]; waits = tt };
+    },
     tt,
   );
   ground = ground_noted x (note.Bad (as_tick x.bank.time) (why_number why)) refl refl tt refl g;
@@ -161,10 +170,14 @@ judges (Bad why) x outer w m g per sound e k same answers on shut = record {
   others = elim [ kind.Cap ↦ λ ne t. absurd (ne refl) | j ↦ λ ne t. t ];
   stack_is = on;
 }
-judges (Found mode) x outer w m g per sound e k same answers on shut = record {
+cap_judge_preserves (Found mode) x outer w m g per sound e k same answers on shut = record {
   gates = quiet_gates kind.Cap x _ (λ e. cc) refl refl refl;
   fits = λ told. (
-    record { at = refl; owned = refl; keeps = record { laws = elim [ owed.Windows ↦ answers | owed.Nests ↦ inside (so_far x).stack kind.Cap outer on | l ↦ tt ]; waits = tt } },
+    record {
+      at = refl;
+      owned = refl;
+      keeps = record { laws = elim [ owed.Windows ↦ answers | owed.Nests ↦ inside (so_far x).stack kind.Cap outer on | l ↦ tt ]; waits = tt };
+    },
     tt,
   );
   ground = record {
@@ -191,10 +204,14 @@ judges (Found mode) x outer w m g per sound e k same answers on shut = record {
   others = elim [ kind.Cap ↦ λ ne t. absurd (ne refl) | j ↦ λ ne t. t ];
   stack_is = on;
 }
-judges Nothing x outer w m g per sound e k same answers on shut = record {
+cap_judge_preserves Nothing x outer w m g per sound e k same answers on shut = record {
   gates = quiet_gates kind.Cap x _ (λ e. cc) refl refl refl;
   fits = λ told. (
-    record { at = refl; owned = refl; keeps = record { laws = elim [ owed.Windows ↦ answers | owed.Nests ↦ inside (so_far x).stack kind.Cap outer on | l ↦ tt ]; waits = tt } },
+    record {
+      at = refl;
+      owned = refl;
+      keeps = record { laws = elim [ owed.Windows ↦ answers | owed.Nests ↦ inside (so_far x).stack kind.Cap outer on | l ↦ tt ]; waits = tt };
+    },
     tt,
   );
   ground = ground_noted x (note.Nothing (as_tick x.bank.time)) refl refl tt refl g;

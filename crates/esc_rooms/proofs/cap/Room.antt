@@ -36,8 +36,8 @@ shut_timer w t none =
 
 -- ---- time goes on, and events come
 
-later : (w : World) (u : ℕ) → w.bank.time ≤ u → CapTie w → CapTie (at_time w u)
-later w u from t = (
+cap_later : (w : World) (u : ℕ) → w.bank.time ≤ u → CapTie w → CapTie (at_time w u)
+cap_later w u from t = (
   signal_follows (so_far w).signal w.core.cap_at (cap_seen w) (cap_view w.trace w.core (at_time w u).bank (so_far w))
       (time_follows (cap_seen w) u from) t.0,
   record { past = All-later (λ e. e.t.0) w.bank.window.edges w.bank.time u from t.1.past; order = t.1.order; few = t.1.few },
@@ -45,8 +45,9 @@ later w u from t = (
   t.3,
 )
 
-plain : (w : World) (e : Event) → line (w.trace ++ e ∷ []) ≡ line w.trace → w.bank.time ≤ tick_of e → CapTie w → CapTie (record w { trace = w.trace ++ e ∷ [] })
-plain w e same le t = (
+cap_other_event : (w : World) (e : Event) → line (w.trace ++ e ∷ []) ≡ line w.trace → w.bank.time ≤ tick_of e → CapTie w
+    → CapTie (record w { trace = w.trace ++ e ∷ [] })
+cap_other_event w e same le t = (
   signal_follows (so_far w).signal w.core.cap_at (cap_seen w) (cap_view (w.trace ++ e ∷ []) w.core w.bank (so_far w))
       (plain_follows w.trace e w.core w.bank (so_far w) same le) t.0,
   t.1,
@@ -54,7 +55,7 @@ plain w e same le t = (
   t.3,
 )
 
-edge : (v : Bool) (w : World) (level : Bool) → differ w.bank.level level ≡ v → Ground w → CapTie w
+cap_edge : (v : Bool) (w : World) (level : Bool) → differ w.bank.level level ≡ v → Ground w → CapTie w
     → CapTie (record w {
       trace = w.trace ++ event.Edge
           (as_tick w.bank.time) level ∷ [];
@@ -67,10 +68,11 @@ edge : (v : Bool) (w : World) (level : Bool) → differ w.bank.level level ≡ v
             (if v then edge_bank w.bank level else w.bank).changed;
       };
     })
-edge true w level d g t = (
+cap_edge true w level d g t = (
   signal_follows (so_far w).signal w.core.cap_at (cap_seen w)
       (cap_view (w.trace ++ event.Edge (as_tick w.bank.time) level ∷ []) w.core (edge_bank w.bank level) (so_far w))
-      (edge_follows w.trace w.core w.bank (so_far w) level (rising_push (line w.trace).edges (edge_now w.bank level) 0 g.outside.edges.1 g.outside.edges.0 (omega arith))
+      (edge_follows w.trace w.core w.bank (so_far w) level
+      (rising_push (line w.trace).edges (edge_now w.bank level) 0 g.outside.edges.1 g.outside.edges.0 (omega arith))
       (ap (λ (l : Line). l.edges) (line_changes w.trace w.bank level (subst (λ (l : Bool). differ l level ≡ true) g.outside.level d)))) t.0,
   edge_sound w.bank.window (edge_now w.bank level) t.1,
   subst (λ (edges : List Edge). TimerTied (so_far w).signal w.core.cap_at edges w.made.cap_past (put_off w.bank.timer w.bank.time))
@@ -78,11 +80,12 @@ edge true w level d g t = (
       (timer_grows (so_far w).signal w.core.cap_at (line w.trace).edges (edge_now w.bank level) w.made.cap_past w.bank.timer g.outside.edges.0 t.2),
   t.3,
 )
-edge false w level d g t =
-    plain w (event.Edge (as_tick w.bank.time) level) (line_same w.trace w.bank level (subst (λ (l : Bool). differ l level ≡ false) g.outside.level d)) (omega arith) t
+cap_edge false w level d g t =
+    cap_other_event w (event.Edge (as_tick w.bank.time) level) (line_same w.trace w.bank level (subst (λ (l : Bool). differ l level
+    ≡ false) g.outside.level d)) (omega arith) t
 
-outside : (w : World) (e : Event) → tick_of e ≡ w.bank.time → Ground w → CapTie w → CapTie (after_outside w e)
-outside w (event.Edge at level) is g t =
+cap_outside : (w : World) (e : Event) → tick_of e ≡ w.bank.time → Ground w → CapTie w → CapTie (after_outside w e)
+cap_outside w (event.Edge at level) is g t =
     subst
     (λ (n : ℕ). CapTie
     (record w {
@@ -97,10 +100,10 @@ outside w (event.Edge at level) is g t =
       };
     }))
     (sym is)
-    (edge (differ w.bank.level level) w level refl g t)
-outside w (event.Comp at level) is g t = plain w (event.Comp at level) (line-push w.trace (event.Comp at level)) (omega arith) t
-outside w (event.Serial at byte) is g t = plain w (event.Serial at byte) (line-push w.trace (event.Serial at byte)) (omega arith) t
-outside w (event.Stall at n) is g t = plain w (event.Stall at n) (line-push w.trace (event.Stall at n)) (omega arith) t
+    (cap_edge (differ w.bank.level level) w level refl g t)
+cap_outside w (event.Comp at level) is g t = cap_other_event w (event.Comp at level) (line-push w.trace (event.Comp at level)) (omega arith) t
+cap_outside w (event.Serial at byte) is g t = cap_other_event w (event.Serial at byte) (line-push w.trace (event.Serial at byte)) (omega arith) t
+cap_outside w (event.Stall at n) is g t = cap_other_event w (event.Stall at n) (line-push w.trace (event.Stall at n)) (omega arith) t
 
 pub cap_law : HandlerLaw kind.Cap
 cap_law = record {
@@ -122,8 +125,9 @@ cap_law = record {
   );
   beside = λ w i. elim [ kind.Cap ↦ λ ne. absurd (ne refl) | j ↦ λ ne. i.rest.ties j ];
   steps = λ w answers outer given i.
-      cap_steps_preserve (so_far w).signal w.core.cap_at w outer i.rest.ground (i.rest.ties kind.Cap).3 (i.rest.ties kind.Cap).1 refl (i.rest.ties kind.Cap).0 (i.rest.ties kind.Cap).2 i.past.cap i.on
+      cap_steps_preserve (so_far w).signal w.core.cap_at w outer i.rest.ground (i.rest.ties kind.Cap).3 (i.rest.ties kind.Cap).1 refl (i.rest.ties kind.Cap).0
+      (i.rest.ties kind.Cap).2 i.past.cap i.on
       (comm_shut w.core.comm_at w.core.drive.turn.at (i.above kind.Comm (omega arith))) (i.alone kind.Tick (λ e. cc)) i.left;
-  later = λ w u from small i. later w u from (i.ties kind.Cap);
-  outside = λ w e i. outside w e i.now i.rest.ground (i.rest.ties kind.Cap);
+  later = λ w u from small i. cap_later w u from (i.ties kind.Cap);
+  outside = λ w e i. cap_outside w e i.now i.rest.ground (i.rest.ties kind.Cap);
 }

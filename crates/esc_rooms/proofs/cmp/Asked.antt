@@ -1,5 +1,5 @@
 -- What CMP is entered for.
-use Rattle.std.proofs.Common.{◌≡◌, ◌≤◌, ℕ, Bool, true, false, ◌&&◌, ◌||◌, Option, None, refl, arith}
+use Rattle.std.proofs.Common.{◌≡◌, ℕ, Bool, true, false, ◌&&◌, ◌||◌, Option, None, refl, arith}
 use Rattle.esc_base.specs.declared.kind.Kind.TheVariants as kind
 use Rattle.esc_base.specs.Times.{is_reached, least_blanking, rejected_blanking}
 use Rattle.zero_cross.specs.declared.phase.Phase.{Phase}

@@ -133,9 +133,9 @@ pub record Goes (v : CrossView) (at : CmpAt) (p : Phase) (changed enabled : Bool
   pub seldom : SeldomTied at p v.time v.entries v.looks
   pub watch : WatchTied at p changed (is_expected v.search v.level) v.looking v.looked v.time (v.time + 1)
 
-pub goes : (v : CrossView) (at : CmpAt) (p : Phase) (search : Kept) (changed enabled : Bool) (timer : Option ℕ) → search.phase ≡ p
+pub moves_by_phase : (v : CrossView) (at : CmpAt) (p : Phase) (search : Kept) (changed enabled : Bool) (timer : Option ℕ) → search.phase ≡ p
     → search.expects ≡ v.search.expects → Goes v at p changed enabled timer → Moves v at search changed enabled timer
-goes v at p search changed enabled timer e f g = record {
+moves_by_phase v at p search changed enabled timer e f g = record {
   open_still = g.open_still;
   expects_is = f;
   phase_is = subst (λ (x : Phase). PhaseTied x v.turn changed v.held.since v.blanked v.time (v.time + 1)) (sym e) g.phase_is;

@@ -71,7 +71,8 @@ look_watch_preserves w outer e i = cmp_wait_preserves w outer cmp.Look cmp.Ack p
 look_blanked_preserves : (end : Tick) (w : World) (outer : List Kind) → w.core.drive.crossing.phase ≡ phase.Blank end → nat_le end.0 w.bank.time ≡ true
     → IsCmp w outer cmp.Look → StepKeeps kind.Cmp outer w (blank_step true w.core w.bank)
 look_blanked_preserves end w outer e over i =
-    cmp_step_preserves w outer cmp.Look cmp.Read (phase.Blank end) w.core.drive.crossing w.core.hold (w.bank.comp_changed && false) (w.bank.comp_enabled || true)
+    cmp_step_preserves w outer cmp.Look cmp.Read (phase.Blank end) w.core.drive.crossing w.core.hold (w.bank.comp_changed && false)
+    (w.bank.comp_enabled || true)
     w.bank.crossing (Writes reg.CmpEn 1) i refl refl refl refl e refl
     (looked_blanked (cross_seen w) end.0 over (free_of w outer cmp.Look i) (stands_at w outer cmp.Look (phase.Blank end) i e))
 
@@ -158,8 +159,19 @@ crossed_drive v wait shut q on prompt same t =
     record {
       switches = t.switches;
       newest = t.newest;
-      next = record { idle = λ z. absurd (let l = q_drives v.turn v.demand q t.next.idle in omega arith); due = λ l. crossed_change v.turn wait v.time _ v.time q (ap (λ (x : ℕ). v.time + x) same); first = λ z l. absurd (omega arith) };
-      row = record { turned = λ l. unforced_now v.turn v.time q; forced = refl; unforced = λ x. refl; rest_unmarked = t.row.rest_unmarked; stuck = λ l. told_mark v.told_stuck v.stuck (is_stuck v.drive) (t.row.stuck l) (t.row.marked l (rw shut refl)); marked = λ l m x. cc };
+      next = record {
+        idle = λ z. absurd (let l = q_drives v.turn v.demand q t.next.idle in omega arith);
+        due = λ l. crossed_change v.turn wait v.time _ v.time q (ap (λ (x : ℕ). v.time + x) same);
+        first = λ z l. absurd (omega arith);
+      };
+      row = record {
+        turned = λ l. unforced_now v.turn v.time q;
+        forced = refl;
+        unforced = λ x. refl;
+        rest_unmarked = t.row.rest_unmarked;
+        stuck = λ l. told_mark v.told_stuck v.stuck (is_stuck v.drive) (t.row.stuck l) (t.row.marked l (rw shut refl));
+        marked = λ l m x. cc;
+      };
       place = subst (λ (x : CommAt). CommTied x (crossed_drive_view v (crossed v.drive v.time) wait)) (sym shut) tt;
       low = λ e l x. cc;
       crossed = λ e. (on, prompt);

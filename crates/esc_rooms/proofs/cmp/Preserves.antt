@@ -21,7 +21,7 @@ use Rattle.esc_laws.proofs.Comparator.{since_past}
 use Rattle.esc_rooms.proofs.shared.RoomSteps.{quiet_gates}
 use Rattle.esc_rooms.proofs.shared.DriveFacts.{low_kept}
 use Rattle.esc_rooms.proofs.cmp.CrossFacts.{tick_unmasked}
-use Rattle.esc_rooms.proofs.cmp.Facts.{Stands, Free, Goes, stands, goes, cmp_moves}
+use Rattle.esc_rooms.proofs.cmp.Facts.{Stands, Free, Goes, stands, moves_by_phase, cmp_moves}
 
 -- ---- what holds before each own step of CMP
 
@@ -114,7 +114,7 @@ cmp_step_preserves w outer place next p search hold changed enabled timer access
       ground = subst (λ (x : Bank). Ground (record w { core = c; bank = x; made = m })) (sym writes) i.ground;
       tie = λ told. subst (λ (x : Bank). Tie kind.Cmp (record w { core = c; bank = x; made = m })) (sym writes)
           (cmp_moves (cross_seen w) next search changed enabled timer (not_shut w outer place open_at i) (free_of w outer place i) (i.ties kind.Cmp)
-          (goes (cross_seen w) next p search changed enabled timer e f s));
+          (moves_by_phase (cross_seen w) next p search changed enabled timer e f s));
       others = λ j ne u. subst (λ (x : Bank). Tie j (record w { core = c; bank = x; made = m })) (sym writes) (beside j ne u);
       stack_is = i.on;
     }

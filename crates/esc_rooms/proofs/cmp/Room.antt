@@ -63,11 +63,11 @@ or_parts : (a b : Bool) → (a || b) ≡ true → (a ≡ true) ⊎ (b ≡ true)
 or_parts true b e = inl refl
 or_parts false b e = inr e
 
-called : (w : World) → Ties w → Unheld w → w.core.cmp_at ≡ cmp.Shut
+cmp_called : (w : World) → Ties w → Unheld w → w.core.cmp_at ≡ cmp.Shut
     → (calls_cmp (held w.trace w.bank.time) (expects_at (forward_at w.loaded.settings) w.back) (sight_at w.back) w.bank.time
     || calls_watch (held w.trace w.bank.time) (expects_at (forward_at w.loaded.settings) w.back) w.back w.bank.time) ≡ true
     → (is_reached w.bank.crossing w.bank.time || (w.bank.comp_enabled && w.bank.comp_changed)) ≡ true
-called w t unheld shut c =
+cmp_called w t unheld shut c =
     elim (or_parts (calls_cmp (held w.trace w.bank.time) (expects_at (forward_at w.loaded.settings) w.back) (sight_at w.back) w.bank.time)
     (calls_watch (held w.trace w.bank.time) (expects_at (forward_at w.loaded.settings) w.back) w.back w.bank.time) c) [
       | inl first ↦ by_search (begins_search w.core.comm_at w.core.drive.turn.at) refl first
@@ -111,16 +111,16 @@ called w t unheld shut c =
 -- ---- its entry
 
 -- blanking lasts for at least 300 ticks
-by_control : (a b : Bool) (turn : Turn) → HasQ (if a then Idle else if b then Started else turn) → HasQ turn
-by_control true b turn q = absurd q
-by_control false true turn q = absurd q
-by_control false false turn q = q
+control_leaves_q : (a b : Bool) (turn : Turn) → HasQ (if a then Idle else if b then Started else turn) → HasQ turn
+control_leaves_q true b turn q = absurd q
+control_leaves_q false true turn q = absurd q
+control_leaves_q false false turn q = q
 
-no_second : (turn : Turn) (z : ℕ) → HasQ (crossed_by turn z) → ⊥
-no_second Idle z q = q
-no_second Started z q = q
-no_second (Turned t) z q = q
-no_second (Crossed t y) z q = q
+no_second_z : (turn : Turn) (z : ℕ) → HasQ (crossed_by turn z) → ⊥
+no_second_z Idle z q = q
+no_second_z Started z q = q
+no_second_z (Turned t) z q = q
+no_second_z (Crossed t y) z q = q
 
 long_blank : (back : List Note) → HasQ (turn_at back) → turned_at back + least_blanking ≤ blanked_at back
 long_blank [] q = absurd q
@@ -128,8 +128,8 @@ long_blank (note.Step t s ∷ back) q = longer t.0 (interval_at back)
   where
     longer : (t interval : ℕ) → t + least_blanking ≤ t + blanking_of interval
     longer t interval = omega arith
-long_blank (note.Control t n s d ∷ back) q = long_blank back (by_control (d == 0) (rests_at back) (turn_at back) q)
-long_blank (note.Cross t ∷ back) q = absurd (no_second (turn_at back) t.0 q)
+long_blank (note.Control t n s d ∷ back) q = long_blank back (control_leaves_q (d == 0) (rests_at back) (turn_at back) q)
+long_blank (note.Cross t ∷ back) q = absurd (no_second_z (turn_at back) t.0 q)
 long_blank (n ∷ back) q = long_blank back q
 
 -- COMM isn't due: so a switch that is postponed would have been due since the Q, which is too long ago
@@ -169,7 +169,8 @@ late_entered (phase.Filter end) w e t unheld shut at none due s =
 
     by_sector : (n : ℕ) → w.bank.sector ≡ n → HasQ (turn_at w.back) → 0 < demand_at w.back → low_free w.core.drive ≤ w.bank.time
     by_sector zero z q some =
-        (let first : at_leg w.core.drive.gates.hi_free (low_of w.core.drive.turn.to) ≡ 0 = (t kind.Comm).switches.unused z (low_of w.core.drive.turn.to) in omega arith)
+        (let first : at_leg w.core.drive.gates.hi_free (low_of w.core.drive.turn.to) ≡ 0 =
+        (t kind.Comm).switches.unused z (low_of w.core.drive.turn.to) in omega arith)
     by_sector (suc n) z q some =
         let d = t kind.Comm in
         let on : 0 < w.bank.sector = omega arith in
@@ -183,32 +184,32 @@ late_entered (phase.Filter end) w e t unheld shut at none due s =
         let l = over in
         omega arith
 
-none_above : (since t q : ℕ) → t < since → (if nat_le since t then q + 1 else 0) ≡ 0
-none_above since t q l = by_test (nat_le since t) (grind (arith, nat_tests))
+quiet_none : (since t q : ℕ) → t < since → (if nat_le since t then q + 1 else 0) ≡ 0
+quiet_none since t q l = by_test (nat_le since t) (grind (arith, nat_tests))
   where
     by_test : (v : Bool) → v ≡ false → (if v then q + 1 else 0) ≡ 0
     by_test true e = cc
     by_test false e = refl
 
-one_more : (since t q : ℕ) → since ≤ t → (if nat_le since t then q + 1 else 0) ≡ q + 1
-one_more since t q l = rw (le-leb since t l) refl
+quiet_more : (since t q : ℕ) → since ≤ t → (if nat_le since t then q + 1 else 0) ≡ q + 1
+quiet_more since t q l = rw (le-leb since t l) refl
 
-entered : (w : World) → Ties w → Unheld w → w.core.cmp_at ≡ cmp.Shut
+cmp_entered : (w : World) → Ties w → Unheld w → w.core.cmp_at ≡ cmp.Shut
     → (is_reached w.bank.crossing w.bank.time || (w.bank.comp_enabled && w.bank.comp_changed)) ≡ true → Past w.made w.bank.time → w.core.comm_at ≡ comm.Shut
     → is_reached w.bank.comm w.bank.time ≡ false
     → Tie kind.Cmp (after_enter kind.Cmp w)
-entered w t unheld shut due past closed none =
+cmp_entered w t unheld shut due past closed none =
     let free = free_at w closed (unheld kind.Tick) past in
     let s = stands (cross_seen w) cmp.Shut w.core.drive.crossing.phase shut refl free (t kind.Cmp) in
     cross_entered (cross_seen w) (λ since. quiet_at since (enters kind.Cmp w.bank.time ∷ w.back)) free (t kind.Cmp) s due
     (late_entered w.core.drive.crossing.phase w refl t unheld closed shut none due s)
-    (λ since l. none_above since w.bank.time (quiet_at since w.back) l)
-    (one_more (held w.trace w.bank.time).since w.bank.time (quiet_at (held w.trace w.bank.time).since w.back) (since_past w.trace w.bank.time))
+    (λ since l. quiet_none since w.bank.time (quiet_at since w.back) l)
+    (quiet_more (held w.trace w.bank.time).since w.bank.time (quiet_at (held w.trace w.bank.time).since w.back) (since_past w.trace w.bank.time))
 
 -- ---- an event
 
-outside : (w : World) (e : Event) → tick_of e ≡ w.bank.time → w.made.cmp_past ≤ w.bank.time → CrossTied (cross_seen w) → Tie kind.Cmp (after_outside w e)
-outside w (event.Comp at level) is past t = by_test (differ w.bank.comp level) refl
+cmp_outside : (w : World) (e : Event) → tick_of e ≡ w.bank.time → w.made.cmp_past ≤ w.bank.time → CrossTied (cross_seen w) → Tie kind.Cmp (after_outside w e)
+cmp_outside w (event.Comp at level) is past t = by_test (differ w.bank.comp level) refl
   where
     same : held (w.trace ++ event.Comp at level ∷ []) w.bank.time ≡ held_to true at.0 (held w.trace w.bank.time) level
     same = held_now w.trace at level w.bank.time is
@@ -222,16 +223,17 @@ outside w (event.Comp at level) is past t = by_test (differ w.bank.comp level) r
         let h : held (w.trace ++ event.Comp at level ∷ []) w.bank.time ≡ held w.trace w.bank.time =
         same ∙ rw (subst (λ (x : Bool). differ x level ≡ false) t.level_is d) refl in
         rw (h, d) t
-outside w (event.Edge at level) is past t = rw (held-push w.trace (event.Edge at level) w.bank.time) t
-outside w (event.Serial at byte) is past t = rw (held-push w.trace (event.Serial at byte) w.bank.time) t
-outside w (event.Stall at n) is past t = rw (held-push w.trace (event.Stall at n) w.bank.time) t
+cmp_outside w (event.Edge at level) is past t = rw (held-push w.trace (event.Edge at level) w.bank.time) t
+cmp_outside w (event.Serial at byte) is past t = rw (held-push w.trace (event.Serial at byte) w.bank.time) t
+cmp_outside w (event.Stall at n) is past t = rw (held-push w.trace (event.Stall at n) w.bank.time) t
 
 pub cmp_law : HandlerLaw kind.Cmp
 cmp_law = record {
-  called = λ w i s. called w i.rest.ties i.unheld (cmp_shut w.core.cmp_at i.shut) s;
+  called = λ w i s. cmp_called w i.rest.ties i.unheld (cmp_shut w.core.cmp_at i.shut) s;
   asked = λ w i. (tt, cmp_asked w i);
   entered = λ w i.
-      entered w i.rest.ties i.unheld (cmp_shut w.core.cmp_at i.shut) i.due i.past (comm_shut w.core.comm_at w.core.drive.turn.at (i.highest.shut kind.Comm (omega arith)))
+      cmp_entered w i.rest.ties i.unheld (cmp_shut w.core.cmp_at i.shut) i.due i.past
+      (comm_shut w.core.comm_at w.core.drive.turn.at (i.highest.shut kind.Comm (omega arith)))
       (i.highest.none kind.Comm (omega arith));
   beside = λ w i. elim [
     | kind.Cmp ↦ λ ne. absurd (ne refl)
@@ -252,5 +254,5 @@ cmp_law = record {
   later = λ w u from small i.
       subst (λ (h : Held). CrossTied (record (cross_seen w) { time = u; held = h })) (sym (held_stays w.trace w.bank.time u from i.ground.outside.events))
       (cross_later (cross_seen w) u from (i.ties kind.Cmp));
-  outside = λ w e i. outside w e i.now i.past.cmp (i.rest.ties kind.Cmp);
+  outside = λ w e i. cmp_outside w e i.now i.past.cmp (i.rest.ties kind.Cmp);
 }

@@ -228,7 +228,8 @@ looked_reject v end over ill free t s =
       phase_is = (s.phase_is.0, (let a = f.after in let b : end ≡ f.begun + filter_time = f.end_is in let c = leb-true end v.time over in omega arith));
       regs = tt;
       few = few_reject (v.quiet v.held.since) v.changed (is_expected v.search v.level) ill s.few;
-      seen = seen_moves v.sight cmp.Look cmp.Arm (phase.Filter (as_tick end)) (phase.Blank (as_tick (v.time + rejected_blanking))) v.held v.expects v.blanked v.time v.past
+      seen = seen_moves v.sight cmp.Look cmp.Arm (phase.Filter (as_tick end)) (phase.Blank (as_tick (v.time + rejected_blanking))) v.held v.expects v.blanked
+          v.time v.past
           (v.time + 1) (let l = free.past in omega arith) refl (λ i l f. absurd f)
           (λ i z l g y. absurd (
           let q : i + filter_time ≤ end = (g y).1 in

@@ -35,7 +35,7 @@ use Rattle.esc_laws.specs.InTime.{IsInTime}
 use Rattle.esc_rooms.specs.Rooms.{StepKeeps, drive_seen, cross_seen}
 use Rattle.esc_laws.proofs.Comparator.{steady_by}
 use Rattle.esc_rooms.proofs.shared.RoomSteps.{quiet_gates, ground_noted, inside, popped}
-use Rattle.esc_rooms.proofs.cmp.Facts.{goes, cmp_moves}
+use Rattle.esc_rooms.proofs.cmp.Facts.{moves_by_phase, cmp_moves}
 use Rattle.esc_rooms.proofs.cmp.StepFacts.{read_ready, read_unready, acked, armed, commuted, lowered, returned}
 use Rattle.esc_rooms.proofs.cmp.Preserves.{IsCmp, free_of, stands_at, quiet_drive, not_shut, cmp_step_preserves, cmp_wait_preserves}
 use Rattle.esc_rooms.proofs.cmp.Looks.{cmp_raise_preserves, cmp_look_preserves}
@@ -82,7 +82,8 @@ cmp_read_preserves false w outer e i = absurd (
 
 ack_filter_preserves : (w : World) (outer : List Kind) → IsCmp w outer cmp.Ack → StepKeeps kind.Cmp outer w (ack_step true w.core w.bank)
 ack_filter_preserves w outer i =
-    cmp_step_preserves w outer cmp.Ack cmp.Arm (phase.Filter (as_tick (w.bank.time + filter_time))) (after_changed w.core.drive.crossing w.bank.time) w.core.hold false
+    cmp_step_preserves w outer cmp.Ack cmp.Arm (phase.Filter (as_tick (w.bank.time + filter_time))) (after_changed w.core.drive.crossing w.bank.time)
+    w.core.hold false
     w.bank.comp_enabled w.bank.crossing (Writes reg.CmpAck 0) i refl refl refl refl refl refl
     (acked (cross_seen w) w.core.drive.crossing.phase (free_of w outer cmp.Ack i) (stands_at w outer cmp.Ack w.core.drive.crossing.phase i refl))
 
@@ -163,7 +164,7 @@ cmp_commute_preserves w outer e i =
       ground = i.ground;
       tie = λ told. cmp_moves (cross_seen w) cmp.Lower w.core.drive.crossing w.bank.comp_changed w.bank.comp_enabled w.bank.crossing
           (not_shut w outer cmp.Commute refl i) (free_of w outer cmp.Commute i) (i.ties kind.Cmp)
-          (goes (cross_seen w) cmp.Lower phase.Done w.core.drive.crossing w.bank.comp_changed w.bank.comp_enabled w.bank.crossing e refl
+          (moves_by_phase (cross_seen w) cmp.Lower phase.Done w.core.drive.crossing w.bank.comp_changed w.bank.comp_enabled w.bank.crossing e refl
           (commuted (cross_seen w) (free_of w outer cmp.Commute i) st));
       others = elim [
         | kind.Cmp ↦ λ ne u. absurd (ne refl)
@@ -226,7 +227,8 @@ cmp_return_preserves w outer i = record {
 
 -- ---- all its steps
 
-pub cmp_steps_preserve : (place : CmpAt) (w : World) (outer : List Kind) → IsCmp w outer place → 0 < cmp_left place → StepKeeps kind.Cmp outer w (cmp_step place w.core w.bank)
+pub cmp_steps_preserve : (place : CmpAt) (w : World) (outer : List Kind) → IsCmp w outer place → 0 < cmp_left place
+    → StepKeeps kind.Cmp outer w (cmp_step place w.core w.bank)
 cmp_steps_preserve cmp.Shut w outer i left = absurd (omega arith)
 cmp_steps_preserve cmp.Raise w outer i left = cmp_raise_preserves w outer i
 cmp_steps_preserve cmp.Look w outer i left = cmp_look_preserves w.core.drive.crossing.phase w outer refl i

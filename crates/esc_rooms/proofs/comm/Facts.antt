@@ -86,7 +86,14 @@ comm_moves v since d place timer stuck postponed hi lo none t m = record {
   switches = m.words;
   newest = record { since = λ s. (let a = m.before s in let b = m.since_is in omega arith); to_is = m.to_is; at_low = m.at_low };
   next = rw m.change_is t.next;
-  row = record { turned = rw m.turned_is t.row.turned; forced = rw m.forced_is t.row.forced; unforced = t.row.unforced; rest_unmarked = t.row.rest_unmarked; stuck = m.stuck_is; marked = m.marked };
+  row = record {
+    turned = rw m.turned_is t.row.turned;
+    forced = rw m.forced_is t.row.forced;
+    unforced = t.row.unforced;
+    rest_unmarked = t.row.rest_unmarked;
+    stuck = m.stuck_is;
+    marked = m.marked;
+  };
   place = m.place_is;
   low = λ e l c. m.low e l;
   crossed = λ e. absurd (let z : false ≡ true = sym none ∙ e in cc);

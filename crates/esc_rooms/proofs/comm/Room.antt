@@ -43,22 +43,22 @@ not_shut place at l e = cc
 reached : (timer : Option ℕ) (at t : ℕ) → timer ≡ Some at → at ≤ t → is_reached timer t ≡ true
 reached timer at t e l = rw e (le-leb at t l)
 
-by_change : (late : Bool) (change free t : ℕ) → change ≤ t → (if late then min change free else change) ≤ t
-by_change true change free t l = omega arith
-by_change false change free t l = l
+due_by_change : (late : Bool) (change free t : ℕ) → change ≤ t → (if late then min change free else change) ≤ t
+due_by_change true change free t l = omega arith
+due_by_change false change free t l = l
 
-by_low : (late : Bool) (change free t : ℕ) → late ≡ true → free ≤ t → (if late then min change free else change) ≤ t
-by_low true change free t e l = omega arith
-by_low false change free t e l = cc
+due_by_low : (late : Bool) (change free t : ℕ) → late ≡ true → free ≤ t → (if late then min change free else change) ≤ t
+due_by_low true change free t e l = omega arith
+due_by_low false change free t e l = cc
 
 change_due : (v : DriveView) → TimerKept v → v.drive.change ≤ v.time → is_reached v.timer v.time ≡ true
-change_due v (inl (e, o)) l = reached v.timer (due_at v.drive) v.time e (by_change v.drive.postponed v.drive.change (low_free v.drive) v.time l)
+change_due v (inl (e, o)) l = reached v.timer (due_at v.drive) v.time e (due_by_change v.drive.postponed v.drive.change (low_free v.drive) v.time l)
 change_due v (inr (at, e, now, c)) l = reached v.timer at v.time e now
 
 low_due : (v : DriveView) → TimerKept v → low_on v ≡ false → low_free v.drive ≤ v.time → is_reached v.timer v.time ≡ true
 low_due v (inl (e, inl o)) off l = (let z : true ≡ false = sym o.0 ∙ off in cc)
 low_due v (inl (e, inr late)) off l =
-    reached v.timer (due_at v.drive) v.time e (by_low v.drive.postponed v.drive.change (low_free v.drive) v.time late.0 l)
+    reached v.timer (due_at v.drive) v.time e (due_by_low v.drive.postponed v.drive.change (low_free v.drive) v.time late.0 l)
 low_due v (inr (at, e, now, c)) off l = reached v.timer at v.time e now
 
 turn_due : (wait : ℕ) (turn : Turn) (change time : ℕ) → ChangeTied wait turn change time → turn_is_due wait turn time ≡ true → change ≤ time
@@ -81,9 +81,9 @@ or_parts : (a b : Bool) → (a || b) ≡ true → (a ≡ true) ⊎ (b ≡ true)
 or_parts true b e = inl refl
 or_parts false b e = inr e
 
-called : (w : World) → Ties w → WordTold w.core w.bank w.back → Unheld w → w.core.comm_at ≡ comm.Shut
+comm_called : (w : World) → Ties w → WordTold w.core w.bank w.back → Unheld w → w.core.comm_at ≡ comm.Shut
     → (calls_turn (advance_of w.loaded.settings) w.back w.bank.time || calls_low w.back w.bank.time) ≡ true → is_reached w.bank.comm w.bank.time ≡ true
-called w t told unheld shut e = elim (or_parts (calls_turn (advance_of w.loaded.settings) w.back w.bank.time) (calls_low w.back w.bank.time) e) [
+comm_called w t told unheld shut e = elim (or_parts (calls_turn (advance_of w.loaded.settings) w.back w.bank.time) (calls_low w.back w.bank.time) e) [
   | inl turn ↦ (
       let some = turn_drives w t turn in
       change_due (drive_seen w) (kept some) (turn_due (drive_seen w).wait (turn_at w.back) w.core.drive.change w.bank.time (d.next.due some) turn))
@@ -114,18 +114,29 @@ called w t told unheld shut e = elim (or_parts (calls_turn (advance_of w.loaded.
 
 -- ---- its entry
 
-entered : (w : World) → Ties w → Unheld w → w.core.comm_at ≡ comm.Shut → is_reached w.bank.comm w.bank.time ≡ true → w.made.comm_past ≤ w.bank.time
+comm_entered : (w : World) → Ties w → Unheld w → w.core.comm_at ≡ comm.Shut → is_reached w.bank.comm w.bank.time ≡ true → w.made.comm_past ≤ w.bank.time
     → Tie kind.Comm (after_enter kind.Comm w)
-entered w t unheld shut due past =
+comm_entered w t unheld shut due past =
     let d = t kind.Comm in
     let some = entry_drives w t unheld due in
     let kept = timer_kept w.core.tick_at (drive_seen w) (unheld kind.Tick)
     (d.low shut some (unmasked_commutes w.core.cmp_at (cmp_unmasked w.core.cmp_at (unheld kind.Cmp)))) in
     record {
       switches = d.switches;
-      newest = record { since = λ s. (let a : turned_at w.back + 4 ≤ w.made.comm_past = rw shut at (d.newest.since s) in omega arith); to_is = λ e. d.newest.to_is (rw shut refl); at_low = d.newest.at_low };
+      newest = record {
+        since = λ s. (let a : turned_at w.back + 4 ≤ w.made.comm_past = rw shut at (d.newest.since s) in omega arith);
+        to_is = λ e. d.newest.to_is (rw shut refl);
+        at_low = d.newest.at_low;
+      };
       next = d.next;
-      row = record { turned = d.row.turned; forced = d.row.forced; unforced = d.row.unforced; rest_unmarked = d.row.rest_unmarked; stuck = d.row.stuck; marked = λ l e. d.row.marked l (rw shut refl) };
+      row = record {
+        turned = d.row.turned;
+        forced = d.row.forced;
+        unforced = d.row.unforced;
+        rest_unmarked = d.row.rest_unmarked;
+        stuck = d.row.stuck;
+        marked = λ l e. d.row.marked l (rw shut refl);
+      };
       place = record {
         none = refl;
         due = brought (drive_seen w) kept due;
@@ -190,11 +201,24 @@ timer_later : (v : DriveView) (u : ℕ) → v.time ≤ u → TimerKept v → Tim
 timer_later v u l (inl k) = inl k
 timer_later v u l (inr (at, e, now, c)) = inr (at, e, omega arith, record { started = c.started; due = (let d = c.due in omega arith) })
 
-later : (v : DriveView) (u : ℕ) → v.time ≤ u → DriveTied v → DriveTied (record v { time = u })
-later v u l t = record {
-  switches = record { sector_is = t.switches.sector_is; sectors = t.switches.sectors; pair = t.switches.pair; held = λ x on. (let h = t.switches.held x on in omega arith); soon = λ x. (let s = t.switches.soon x in omega arith); outer = t.switches.outer; unused = t.switches.unused; past = (let p = t.switches.past in omega arith) };
+comm_later : (v : DriveView) (u : ℕ) → v.time ≤ u → DriveTied v → DriveTied (record v { time = u })
+comm_later v u l t = record {
+  switches = record {
+    sector_is = t.switches.sector_is;
+    sectors = t.switches.sectors;
+    pair = t.switches.pair;
+    held = λ x on. (let h = t.switches.held x on in omega arith);
+    soon = λ x. (let s = t.switches.soon x in omega arith);
+    outer = t.switches.outer;
+    unused = t.switches.unused;
+    past = (let p = t.switches.past in omega arith);
+  };
   newest = t.newest;
-  next = record { idle = t.next.idle; due = λ d. change_later v.wait v.turn v.drive.change v.time u l (t.next.due d); first = λ z d. (let f = t.next.first z d in omega arith) };
+  next = record {
+    idle = t.next.idle;
+    due = λ d. change_later v.wait v.turn v.drive.change v.time u l (t.next.due d);
+    first = λ z d. (let f = t.next.first z d in omega arith);
+  };
   row = t.row;
   place = place_later v.comm_at v u l t.place;
   low = λ e d s. low_kept v.tick_at v (record v { time = u }) (timer_later v u l) (λ c. record { started = c.started; due = (let x = c.due in omega arith) })
@@ -205,9 +229,9 @@ later v u l t = record {
 
 pub comm_law : HandlerLaw kind.Comm
 comm_law = record {
-  called = λ w i s. called w i.rest.ties i.told i.unheld (comm_shut w.core.comm_at w.core.drive.turn.at i.shut) s;
+  called = λ w i s. comm_called w i.rest.ties i.told i.unheld (comm_shut w.core.comm_at w.core.drive.turn.at i.shut) s;
   asked = λ w i. (tt, comm_asked w i);
-  entered = λ w i. entered w i.rest.ties i.unheld (comm_shut w.core.comm_at w.core.drive.turn.at i.shut) i.due i.past.comm;
+  entered = λ w i. comm_entered w i.rest.ties i.unheld (comm_shut w.core.comm_at w.core.drive.turn.at i.shut) i.due i.past.comm;
   beside = λ w i. elim [
     | kind.Comm ↦ λ ne. absurd (ne refl)
     | kind.Tick ↦ λ ne. (
@@ -237,6 +261,6 @@ comm_law = record {
     past = i.past.comm;
     alone = i.alone;
   }) i.left;
-  later = λ w u from small i. later (drive_seen w) u from (i.ties kind.Comm);
+  later = λ w u from small i. comm_later (drive_seen w) u from (i.ties kind.Comm);
   outside = λ w e i. i.rest.ties kind.Comm;
 }

@@ -54,7 +54,8 @@ acted_moved w place timer stuck a = record { some = a.some; done = done_kept a.d
     done_kept (inl d) = inl d
     done_kept (inr r) = inr (record { none = r.none; not_due = r.not_due; postponed = r.postponed; low = r.low; prompt = r.prompt })
 
-comm_blank_preserves : (at : ChangeAt) (w : World) (outer : List Kind) → IsComm w outer comm.Blank at → StepKeeps kind.Comm outer w (comm_step comm.Blank w.core w.bank)
+comm_blank_preserves : (at : ChangeAt) (w : World) (outer : List Kind) → IsComm w outer comm.Blank at
+    → StepKeeps kind.Comm outer w (comm_step comm.Blank w.core w.bank)
 comm_blank_preserves at w outer i =
     let t = i.ties kind.Comm in
     let u = i.ties kind.Cmp in
@@ -98,7 +99,8 @@ writes_period : (w : World) (outer : List Kind) (at : ChangeAt) → IsComm w out
     (rests_at w.back)
 writes_period w outer at i p = period_written _ _ _ _ w.bank.sector (turns_at w.back) (rests_at w.back) (driven_on w.back i.drives) p
 
-comm_period_preserves : (at : ChangeAt) (w : World) (outer : List Kind) → IsComm w outer comm.Period at → StepKeeps kind.Comm outer w (comm_step comm.Period w.core w.bank)
+comm_period_preserves : (at : ChangeAt) (w : World) (outer : List Kind) → IsComm w outer comm.Period at
+    → StepKeeps kind.Comm outer w (comm_step comm.Period w.core w.bank)
 comm_period_preserves at w outer i =
     let t = i.ties kind.Comm in
     let tied : HasActed (drive_seen w) = place_tie w outer comm.Period at i in
@@ -135,12 +137,14 @@ comm_period_preserves at w outer i =
 
 -- ---- it arms its timer, and returns
 
-comm_arm_preserves : (full : Bool) (at : ChangeAt) (w : World) (outer : List Kind) → nat_le stuck_changes w.core.drive.forced ≡ full → IsComm w outer comm.Arm at
+comm_arm_preserves : (full : Bool) (at : ChangeAt) (w : World) (outer : List Kind) → nat_le stuck_changes w.core.drive.forced ≡ full
+    → IsComm w outer comm.Arm at
     → StepKeeps kind.Comm outer w (goes_on (record w.core { comm_at = if full then comm.Stick else comm.Back }) (Writes reg.CommAt (due_at w.core.drive)))
 comm_arm_preserves true at w outer e i =
     let t = i.ties kind.Comm in
     let tied : HasActed (drive_seen w) = place_tie w outer comm.Arm at i in
-    comm_step_preserves w outer comm.Arm comm.Stick at w.core.drive.gates w.core.drive.turn w.core.drive.postponed (Some (due_at w.core.drive)) w.bank.stuck w.bank.hi w.bank.lo _ i refl (λ f. cc) (omega arith) refl refl (record {
+    comm_step_preserves w outer comm.Arm comm.Stick at w.core.drive.gates w.core.drive.turn w.core.drive.postponed (Some (due_at w.core.drive)) w.bank.stuck
+    w.bank.hi w.bank.lo _ i refl (λ f. cc) (omega arith) refl refl (record {
       gates = quiet_gates kind.Comm w _ (λ f. cc) refl refl refl;
       words = same_words (drive_seen w) w.core.drive refl t;
       to_is = λ f s. same_to w outer comm.Arm at i refl s;
@@ -153,7 +157,8 @@ comm_arm_preserves true at w outer e i =
 comm_arm_preserves false at w outer e i =
     let t = i.ties kind.Comm in
     let tied : HasActed (drive_seen w) = place_tie w outer comm.Arm at i in
-    comm_step_preserves w outer comm.Arm comm.Back at w.core.drive.gates w.core.drive.turn w.core.drive.postponed (Some (due_at w.core.drive)) w.bank.stuck w.bank.hi w.bank.lo _ i refl (λ f. cc) (omega arith) refl refl (record {
+    comm_step_preserves w outer comm.Arm comm.Back at w.core.drive.gates w.core.drive.turn w.core.drive.postponed (Some (due_at w.core.drive)) w.bank.stuck
+    w.bank.hi w.bank.lo _ i refl (λ f. cc) (omega arith) refl refl (record {
       gates = quiet_gates kind.Comm w _ (λ f. cc) refl refl refl;
       words = same_words (drive_seen w) w.core.drive refl t;
       to_is = λ f s. same_to w outer comm.Arm at i refl s;
@@ -164,13 +169,15 @@ comm_arm_preserves false at w outer e i =
       late = (i.ties kind.Cmp).late;
     })
 
-comm_stick_preserves : (at : ChangeAt) (w : World) (outer : List Kind) → IsComm w outer comm.Stick at → StepKeeps kind.Comm outer w (comm_step comm.Stick w.core w.bank)
+comm_stick_preserves : (at : ChangeAt) (w : World) (outer : List Kind) → IsComm w outer comm.Stick at
+    → StepKeeps kind.Comm outer w (comm_step comm.Stick w.core w.bank)
 comm_stick_preserves at w outer i =
     let t = i.ties kind.Comm in
     let tied = place_tie w outer comm.Stick at i in
     let stuck : Bool = w.bank.stuck || true in
     let set : stuck ≡ true = or_right w.bank.stuck true refl in
-    comm_step_preserves w outer comm.Stick comm.Back at w.core.drive.gates w.core.drive.turn w.core.drive.postponed w.bank.comm stuck w.bank.hi w.bank.lo _ i refl (λ f. cc) (omega arith) refl refl (record {
+    comm_step_preserves w outer comm.Stick comm.Back at w.core.drive.gates w.core.drive.turn w.core.drive.postponed w.bank.comm stuck w.bank.hi w.bank.lo _ i
+    refl (λ f. cc) (omega arith) refl refl (record {
       gates = quiet_gates kind.Comm w _ (λ f. cc) refl refl refl;
       words = same_words (drive_seen w) w.core.drive refl t;
       to_is = λ f s. same_to w outer comm.Stick at i refl s;
@@ -187,7 +194,8 @@ low_told : (w : World) (s : Stepped) → s.core.drive.gates ≡ w.core.drive.gat
     → low_is_on w.back ≡ low_on (drive_seen w)
 low_told w s e lo told sector = rw (told.lo_is, lo, ← sector) refl
 
-comm_return_preserves : (at : ChangeAt) (w : World) (outer : List Kind) → IsComm w outer comm.Back at → StepKeeps kind.Comm outer w (comm_step comm.Back w.core w.bank)
+comm_return_preserves : (at : ChangeAt) (w : World) (outer : List Kind) → IsComm w outer comm.Back at
+    → StepKeeps kind.Comm outer w (comm_step comm.Back w.core w.bank)
 comm_return_preserves at w outer i =
     let t = i.ties kind.Comm in
     let tied = place_tie w outer comm.Back at i in
@@ -196,7 +204,21 @@ comm_return_preserves at w outer i =
     record {
       gates = quiet_gates kind.Comm w _ (λ f. cc) refl refl refl;
       fits = λ told. (
-        record { at = refl; owned = refl; keeps = record { laws = elim [ owed.Windows ↦ λ k. cc | owed.Replies ↦ λ k. cc | owed.Drives ↦ λ k. cc | owed.Searches ↦ λ e. cc | owed.Nests ↦ (inside (so_far w).stack kind.Comm outer i.on, has_done told to tied.0.done) | l ↦ tt ]; waits = tt } },
+        record {
+          at = refl;
+          owned = refl;
+          keeps = record {
+            laws = elim [
+              | owed.Windows ↦ λ k. cc
+              | owed.Replies ↦ λ k. cc
+              | owed.Drives ↦ λ k. cc
+              | owed.Searches ↦ λ e. cc
+              | owed.Nests ↦ (inside (so_far w).stack kind.Comm outer i.on, has_done told to tied.0.done)
+              | l ↦ tt
+            ];
+            waits = tt;
+          };
+        },
         tt,
       );
       ground = ground_noted w (note.Leave (as_tick w.bank.time) 6) refl refl tt refl i.ground;
@@ -268,7 +290,8 @@ comm_return_preserves at w outer i =
     waits_so told late (inl (one, inr h)) = rw (one, low_same told, h.1) refl
     waits_so told late (inr r) = (let z : true ≡ false = sym late ∙ r.prompt in cc)
 
-pub comm_steps_preserve : (place : CommAt) (w : World) (outer : List Kind) → IsComm w outer place w.core.drive.turn.at → 0 < comm_left place w.core.drive.turn.at
+pub comm_steps_preserve : (place : CommAt) (w : World) (outer : List Kind) → IsComm w outer place w.core.drive.turn.at
+    → 0 < comm_left place w.core.drive.turn.at
     → StepKeeps kind.Comm outer w (comm_step place w.core w.bank)
 comm_steps_preserve comm.Shut w outer i left = absurd (omega arith)
 comm_steps_preserve comm.Decide w outer i left = comm_decide_preserves (nat_le w.core.drive.change w.bank.time) w outer refl i

@@ -44,7 +44,8 @@ low_waits : (w : World) (outer : List Kind) (place : CommAt) (at : ChangeAt) (un
     → (w.bank.time < low_free w.core.drive) × (low_on (drive_seen w) ≡ false)
 low_waits w outer place at until i some to e =
     let t = i.ties kind.Comm in
-    let off : is_on w.bank.hi (low_of w.core.drive.turn.to) ≡ false = rw to (low_leg_off w.bank.sector w.bank.hi w.bank.lo t.switches.sectors t.switches.pair) in
+    let off : is_on w.bank.hi (low_of w.core.drive.turn.to) ≡ false =
+    rw to (low_leg_off w.bank.sector w.bank.hi w.bank.lo t.switches.sectors t.switches.pair) in
     let later : w.bank.time < low_free w.core.drive =
     waits_free w.bank.hi (low_free w.core.drive) (low_of w.core.drive.turn.to) w.bank.time until off e in (
       later,
@@ -95,7 +96,10 @@ low_on_preserves None w outer e i =
     let after : Bank = written w.bank reg.GlSet (mask_of x) in
     let tied = turn_tie w outer change.Low i in
     let to : w.core.drive.turn.to ≡ w.bank.sector = same_to w outer comm.Turn change.Low i refl tied.1 in
-    comm_step_preserves w outer comm.Turn comm.Turn change.Low (gates_after g w.bank after) (record { to = w.core.drive.turn.to; at = change.Position }) false w.bank.comm
+    comm_step_preserves w outer comm.Turn comm.Turn change.Low (gates_after g w.bank after) (record {
+      to = w.core.drive.turn.to;
+      at = change.Position;
+    }) false w.bank.comm
     w.bank.stuck w.bank.hi (bit_or w.bank.lo (mask_of x)) _ i refl (λ f. cc) (omega arith) refl refl (record {
       gates = comm_gates w outer comm.Turn change.Low _ i refl
           (low_on_keeps g (gates_after g w.bank after) w.bank after x refl refl refl e
@@ -115,7 +119,8 @@ low_on_preserves (Some until) w outer e i =
     let tied = turn_tie w outer change.Low i in
     let to : w.core.drive.turn.to ≡ w.bank.sector = same_to w outer comm.Turn change.Low i refl tied.1 in
     let late = low_waits w outer comm.Turn change.Low until i tied.1 to e in
-    comm_step_preserves w outer comm.Turn comm.Blank change.Low w.core.drive.gates w.core.drive.turn true w.bank.comm w.bank.stuck w.bank.hi w.bank.lo _ i refl (λ f. cc)
+    comm_step_preserves w outer comm.Turn comm.Blank change.Low w.core.drive.gates w.core.drive.turn true w.bank.comm w.bank.stuck w.bank.hi w.bank.lo _ i
+    refl (λ f. cc)
     (omega arith) refl refl (record {
       gates = quiet_gates kind.Comm w _ (λ f. cc) refl refl refl;
       words = t.switches;
@@ -142,7 +147,10 @@ low_resumed_preserves None w outer e i =
     let after : Bank = written w.bank reg.GlSet (mask_of x) in
     let tied : Resumes (drive_seen w) = place_tie w outer comm.Low change.Low i in
     let to : w.core.drive.turn.to ≡ w.bank.sector = same_to w outer comm.Low change.Low i refl tied.some in
-    comm_step_preserves w outer comm.Low comm.Arm change.Low (gates_after g w.bank after) (record { to = w.core.drive.turn.to; at = change.Position }) false w.bank.comm
+    comm_step_preserves w outer comm.Low comm.Arm change.Low (gates_after g w.bank after) (record {
+      to = w.core.drive.turn.to;
+      at = change.Position;
+    }) false w.bank.comm
     w.bank.stuck w.bank.hi (bit_or w.bank.lo (mask_of x)) _ i refl (λ f. cc) (omega arith) refl refl (record {
       gates = comm_gates w outer comm.Low change.Low _ i refl
           (low_on_keeps g (gates_after g w.bank after) w.bank after x refl refl refl e
@@ -168,8 +176,10 @@ low_resumed_preserves (Some until) w outer e i =
 -- ---- the high switch
 
 -- a step that turns nothing on, in a change whose low switch is on: to the next place of the change, or behind it
-comm_quiet_preserves : (w : World) (outer : List Kind) (at to : ChangeAt) (next : CommAt) (access : Access) → IsComm w outer comm.Turn at → is_turning comm.Turn at ≡ false
-    → IsUp (drive_seen w) → accessed w.bank access ≡ record w.bank { accesses = (accessed w.bank access).accesses } → next ≢ comm.Shut → comm_since next to ≤ turn_since at + 1
+comm_quiet_preserves : (w : World) (outer : List Kind) (at to : ChangeAt) (next : CommAt) (access : Access) → IsComm w outer comm.Turn at
+    → is_turning comm.Turn at ≡ false
+    → IsUp (drive_seen w) → accessed w.bank access ≡ record w.bank { accesses = (accessed w.bank access).accesses } → next ≢ comm.Shut
+    → comm_since next to ≤ turn_since at + 1
     → sums_gaps next to ≡ sums_gaps comm.Turn at → begins_search next to ≡ begins_search comm.Turn at → is_marking next to ≡ true
     → CommTied next (moved_view (drive_seen w) (drive_by w w.core.drive.gates (record { to = w.core.drive.turn.to; at = to }) w.core.drive.postponed) next
     w.bank.comm w.bank.stuck (postponed_at w.back) w.bank.hi w.bank.lo)
@@ -179,7 +189,11 @@ comm_quiet_preserves : (w : World) (outer : List Kind) (at to : ChangeAt) (next 
     }) access)
 comm_quiet_preserves w outer at to next access i same up stays on since sums search marks place =
     let t = i.ties kind.Comm in
-    comm_step_preserves w outer comm.Turn next at w.core.drive.gates (record { to = w.core.drive.turn.to; at = to }) w.core.drive.postponed w.bank.comm w.bank.stuck
+    comm_step_preserves w outer comm.Turn next at w.core.drive.gates (record {
+      to = w.core.drive.turn.to;
+      at =
+          to;
+    }) w.core.drive.postponed w.bank.comm w.bank.stuck
     w.bank.hi w.bank.lo access i stays on since sums search (record {
       gates = quiet_gates kind.Comm w _ (λ f. cc) refl (ap (λ (b : Bank). b.hi) stays) (ap (λ (b : Bank). b.lo) stays);
       words = t.switches;
@@ -242,7 +256,8 @@ high_preserves (Some until) w outer e i =
     comm_quiet_preserves w outer change.High w.core.drive.turn.at comm.Blank _ i refl up refl (λ f. cc) (omega arith) refl refl refl
     (record { some = up.some; done = inl (up.one, inl (up.low, up.prompt)) })
 
-pub comm_turn_preserves : (at : ChangeAt) (w : World) (outer : List Kind) → IsComm w outer comm.Turn at → StepKeeps kind.Comm outer w (turn_step at w.core w.bank)
+pub comm_turn_preserves : (at : ChangeAt) (w : World) (outer : List Kind) → IsComm w outer comm.Turn at
+    → StepKeeps kind.Comm outer w (turn_step at w.core w.bank)
 comm_turn_preserves change.ClearHigh w outer i = clear_high_preserves w outer i
 comm_turn_preserves change.ClearLow w outer i = clear_low_preserves w outer i
 comm_turn_preserves change.SetSector w outer i = set_sector_preserves w outer i

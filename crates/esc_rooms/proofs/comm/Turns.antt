@@ -2,7 +2,7 @@
 use Rattle.std.proofs.Common.{◌≡◌, ◌≤◌, ◌<◌, ◌+◌, ◌-◌, inl, inr, ℕ, zero, suc, min, Bool, true, false, ◌&&◌, ◌||◌, ◌==◌, nat_le, bit_and, if◌then◌else◌, List, ◌∷◌, take, refl, sym, ◌∙◌, ap, subst, arith}
 use Rattle.std.proofs.lemmas.Bool.{cases_lt, leb-true, leb-false, le-leb}
 use Rattle.std.proofs.lemmas.Bool.Decides.{nat_tests}
-use Rattle.esc_base.specs.Times.{forced_limit, stuck_changes}
+use Rattle.esc_base.specs.Times.{forced_limit, stuck_changes, dead_time}
 use Rattle.esc_base.specs.declared.kind.Kind.{Kind}
 use Rattle.esc_base.specs.declared.kind.Kind.TheVariants as kind
 use Rattle.esc_base.specs.declared.note.Note.{Note}
@@ -79,14 +79,15 @@ direction_is w g =
     ap (λ (s : Settings). s.direction == w.core.orders.spin) g.orders.settings_are
     ∙ ap (λ (n : ℕ). (settings_at w.loaded.settings w.back).direction == n) g.orders.spin_is
 
-begins_turn : (w : World) (outer : List Kind) → w.core.drive.change ≤ w.bank.time → IsComm w outer comm.Decide w.core.drive.turn.at
+decide_turn_preserves : (w : World) (outer : List Kind) → w.core.drive.change ≤ w.bank.time → IsComm w outer comm.Decide w.core.drive.turn.at
     → StepKeeps kind.Comm outer w (begins w.core w.bank)
-begins_turn w outer due i =
+decide_turn_preserves w outer due i =
     let t = i.ties kind.Comm in
     let to : ℕ = next_sector w.bank.sector (is_forward w.core.orders) in
     let d : Drive = record w.core.drive { turn = change_to to; postponed = false } in
     let tied : Decides (drive_seen w) = place_tie w outer comm.Decide w.core.drive.turn.at i in
-    comm_step_preserves w outer comm.Decide comm.Turn w.core.drive.turn.at d.gates d.turn d.postponed w.bank.comm w.bank.stuck w.bank.hi w.bank.lo _ i refl (λ f. cc) (omega arith) refl refl (record {
+    comm_step_preserves w outer comm.Decide comm.Turn w.core.drive.turn.at d.gates d.turn d.postponed w.bank.comm w.bank.stuck w.bank.hi w.bank.lo _ i refl
+    (λ f. cc) (omega arith) refl refl (record {
       gates = quiet_gates kind.Comm w _ (λ e. cc) refl refl refl;
       words = same_words (drive_seen w) d refl t;
       to_is = λ e. cc;
@@ -104,16 +105,17 @@ begins_turn w outer due i =
     })
 
 -- where no change is due, the low switch is postponed
-resumes : (late : Bool) (w : World) (outer : List Kind) → w.core.drive.postponed ≡ late → w.bank.time < w.core.drive.change
+decide_low_preserves : (late : Bool) (w : World) (outer : List Kind) → w.core.drive.postponed ≡ late → w.bank.time < w.core.drive.change
     → IsComm w outer comm.Decide w.core.drive.turn.at
     → StepKeeps kind.Comm outer w (goes_on (record w.core { comm_at = waits_for late }) NoAccess)
-resumes false w outer e early i =
+decide_low_preserves false w outer e early i =
     let tied : Decides (drive_seen w) = place_tie w outer comm.Decide w.core.drive.turn.at i in
     absurd (elim tied.due [ inl l ↦ (let x = l in omega arith) | inr p ↦ (let z : true ≡ false = sym p.0 ∙ e in cc) ])
-resumes true w outer e early i =
+decide_low_preserves true w outer e early i =
     let t = i.ties kind.Comm in
     let tied : Decides (drive_seen w) = place_tie w outer comm.Decide w.core.drive.turn.at i in
-    comm_step_preserves w outer comm.Decide comm.Low w.core.drive.turn.at w.core.drive.gates w.core.drive.turn w.core.drive.postponed w.bank.comm w.bank.stuck w.bank.hi w.bank.lo _ i refl (λ f. cc) (omega arith) refl refl (record {
+    comm_step_preserves w outer comm.Decide comm.Low w.core.drive.turn.at w.core.drive.gates w.core.drive.turn w.core.drive.postponed w.bank.comm w.bank.stuck
+    w.bank.hi w.bank.lo _ i refl (λ f. cc) (omega arith) refl refl (record {
       gates = quiet_gates kind.Comm w _ (λ e. cc) refl refl refl;
       words = same_words (drive_seen w) w.core.drive refl t;
       to_is = λ f. same_to w outer comm.Decide w.core.drive.turn.at i refl;
@@ -135,10 +137,11 @@ resumes true w outer e early i =
     some zero z = absurd (let first = (i.ties kind.Comm).next.first z i.drives in omega arith)
     some (suc n) z = omega arith
 
-pub comm_decide_preserves : (v : Bool) (w : World) (outer : List Kind) → nat_le w.core.drive.change w.bank.time ≡ v → IsComm w outer comm.Decide w.core.drive.turn.at
+pub comm_decide_preserves : (v : Bool) (w : World) (outer : List Kind) → nat_le w.core.drive.change w.bank.time ≡ v
+    → IsComm w outer comm.Decide w.core.drive.turn.at
     → StepKeeps kind.Comm outer w (decided v w.core w.bank)
-comm_decide_preserves true w outer e i = begins_turn w outer (leb-true w.core.drive.change w.bank.time e) i
-comm_decide_preserves false w outer e i = resumes w.core.drive.postponed w outer refl (leb-false w.core.drive.change w.bank.time e) i
+comm_decide_preserves true w outer e i = decide_turn_preserves w outer (leb-true w.core.drive.change w.bank.time e) i
+comm_decide_preserves false w outer e i = decide_low_preserves w.core.drive.postponed w outer refl (leb-false w.core.drive.change w.bank.time e) i
 
 -- ---- the change of sector
 
@@ -157,9 +160,11 @@ clear_high_preserves w outer i =
     let d : Drive = record w.core.drive { gates = gates_after g w.bank after; turn = record { to = to; at = change.ClearLow } } in
     let tied : Turns (drive_seen w) = turn_tie w outer change.ClearHigh i in
     let pair : InPair w.bank.sector hi w.bank.lo = record { high = λ x on. t.switches.pair.high x (on_and w.bank.hi mask x on); low = t.switches.pair.low } in
-    comm_step_preserves w outer comm.Turn comm.Turn change.ClearHigh d.gates d.turn d.postponed w.bank.comm w.bank.stuck hi w.bank.lo _ i refl (λ f. cc) (omega arith) refl refl (record {
+    comm_step_preserves w outer comm.Turn comm.Turn change.ClearHigh d.gates d.turn d.postponed w.bank.comm w.bank.stuck hi w.bank.lo _ i refl (λ f. cc)
+    (omega arith) refl refl (record {
       gates = comm_gates w outer comm.Turn change.ClearHigh _ i refl
-          (high_off_keeps (gates_after g w.bank after) w.bank after mask refl refl (pair_apart w.bank.sector w.bank.hi w.bank.lo t.switches.sectors t.switches.pair)) pair;
+          (high_off_keeps (gates_after g w.bank after) w.bank after mask refl refl
+          (pair_apart w.bank.sector w.bank.hi w.bank.lo t.switches.sectors t.switches.pair)) pair;
       words = high_words (drive_seen w) d hi refl pair t;
       to_is = λ e. cc;
       at_low = λ e. (let z : true ≡ false = sym e ∙ tied.prompt in cc);
@@ -181,9 +186,11 @@ clear_low_preserves w outer i =
     let d : Drive = record w.core.drive { gates = gates_after g w.bank after; turn = record { to = to; at = change.SetSector } } in
     let tied = turn_tie w outer change.ClearLow i in
     let pair : InPair w.bank.sector w.bank.hi lo = record { high = t.switches.pair.high; low = λ x on. t.switches.pair.low x (on_and w.bank.lo mask x on) } in
-    comm_step_preserves w outer comm.Turn comm.Turn change.ClearLow d.gates d.turn d.postponed w.bank.comm w.bank.stuck w.bank.hi lo _ i refl (λ f. cc) (omega arith) refl refl (record {
+    comm_step_preserves w outer comm.Turn comm.Turn change.ClearLow d.gates d.turn d.postponed w.bank.comm w.bank.stuck w.bank.hi lo _ i refl (λ f. cc)
+    (omega arith) refl refl (record {
       gates = comm_gates w outer comm.Turn change.ClearLow _ i refl
-          (low_off_keeps (gates_after g w.bank after) w.bank after mask refl refl (pair_apart w.bank.sector w.bank.hi w.bank.lo t.switches.sectors t.switches.pair)) pair;
+          (low_off_keeps (gates_after g w.bank after) w.bank after mask refl refl
+          (pair_apart w.bank.sector w.bank.hi w.bank.lo t.switches.sectors t.switches.pair)) pair;
       words = low_words (drive_seen w) d lo refl pair (λ x on. inl (on_and w.bank.lo mask x on)) t;
       to_is = λ e. cc;
       at_low = λ e. (let z : true ≡ false = sym e ∙ tied.0.prompt in cc);
@@ -206,7 +213,8 @@ may_turn Started advance interval change time c l = tt
 may_turn (Turned q) advance interval change time c l = (let e : change ≡ q + forced_limit = c in omega arith)
 may_turn (Crossed q z) advance interval change time c l = (let e : change ≡ z + wait_of advance interval = c in omega arith)
 
-forced_next : (turn : Turn) (turned : Bool) (forced f wait change time : ℕ) → ChangeTied wait turn change time → turned ≡ is_forced turn → forced ≡ min stuck_changes f
+forced_next : (turn : Turn) (turned : Bool) (forced f wait change time : ℕ) → ChangeTied wait turn change time → turned ≡ is_forced turn
+    → forced ≡ min stuck_changes f
     → (IsUnforced turn → f ≡ 0)
     → (if turned then min stuck_changes (forced + 1) else forced) ≡ min stuck_changes (if is_forced turn then f + 1 else 0)
 forced_next Idle turned forced f wait change time c e g z = absurd c
@@ -264,10 +272,10 @@ resumes_pwm (pwm.Run chop.Lower) own sampled demand sector sector' l t = absurd 
 
 -- at a Q the high switch of the new pair's low leg has been off for 8 ticks
 long_off : (w : World) (outer : List Kind) → IsComm w outer comm.Turn change.SetSector
-    → at_leg w.core.drive.gates.hi_free (low_of w.core.drive.turn.to) ≤ w.bank.time + 40
+    → at_leg w.core.drive.gates.hi_free (low_of w.core.drive.turn.to) ≤ w.bank.time + (dead_time - 8)
 long_off w outer i = by_sector w.bank.sector refl
   where
-    by_sector : (s : ℕ) → w.bank.sector ≡ s → at_leg w.core.drive.gates.hi_free (low_of w.core.drive.turn.to) ≤ w.bank.time + 40
+    by_sector : (s : ℕ) → w.bank.sector ≡ s → at_leg w.core.drive.gates.hi_free (low_of w.core.drive.turn.to) ≤ w.bank.time + (dead_time - 8)
     by_sector zero z = (let e = (i.ties kind.Comm).switches.unused z (low_of w.core.drive.turn.to) in omega arith)
     by_sector (suc n) z =
         let t = i.ties kind.Comm in
@@ -330,7 +338,16 @@ set_sector_preserves w outer i =
       );
       ground = ground_noted w n refl refl tt refl i.ground;
       tie = λ told. record {
-        switches = record { sector_is = refl; sectors = most; pair = pair; held = t.switches.held; soon = t.switches.soon; outer = λ s x ne. t.switches.soon x; unused = λ z x. absurd (omega arith); past = omega arith };
+        switches = record {
+          sector_is = refl;
+          sectors = most;
+          pair = pair;
+          held = t.switches.held;
+          soon = t.switches.soon;
+          outer = λ s x ne. t.switches.soon x;
+          unused = λ z x. absurd (omega arith);
+          past = omega arith;
+        };
         newest = record { since = λ s. omega arith; to_is = λ e s. refl; at_low = λ e. refl };
         next = record { idle = λ z. absurd (let l = i.drives in omega arith); due = λ l. refl; first = λ z l. absurd (omega arith) };
         row = record {

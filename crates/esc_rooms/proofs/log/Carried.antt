@@ -1,9 +1,8 @@
 -- What carries `Logged` on: a step, time, an idle jump, an event; and what it says of the journal.
-use Rattle.std.proofs.Common.{◌≡◌, ◌≢◌, ◌<◌, ◌≤◌, ◌+◌, ℕ, Bool, true, false, not, ◌&&◌, List, [], ◌∷◌, ◌++◌, Option, Some, None, All, is_none, refl, sym, ◌∙◌, ap, subst, arith, inl, inr, append_assoc, append-nil, reverse}
+use Rattle.std.proofs.Common.{◌≡◌, ◌≢◌, ◌<◌, ◌≤◌, ◌+◌, ℕ, true, false, List, [], ◌∷◌, ◌++◌, Option, Some, None, All, refl, sym, ◌∙◌, ap, subst, arith, inl, inr, append_assoc, append-nil, reverse}
 use Rattle.std.proofs.lemmas.Bool.{cases_lt}
 use Rattle.std.proofs.lemmas.List.Elements.{All-push}
 use Rattle.esc_base.specs.declared.kind.Kind.{Kind}
-use Rattle.esc_base.specs.declared.kind.Kind.TheVariants as kind
 use Rattle.esc_base.specs.declared.event.Event.{Event}
 use Rattle.esc_base.specs.declared.note.Note.{Note}
 use Rattle.esc_base.specs.Flash.{Told}
@@ -12,15 +11,13 @@ use Rattle.esc_base.specs.Range.{InRange}
 use Rattle.esc_base.specs.Trace.{tick_of}
 use Rattle.settings_block.specs.declared.stored.Loaded.{Loaded}
 use Rattle.timer_regs.specs.Bank.{Bank}
-use Rattle.timer_regs.specs.Effects.{advanced, after_entry, is_due}
+use Rattle.timer_regs.specs.Effects.{advanced, after_entry}
 use Rattle.timer_regs.specs.NextDue.{IsNextDue, becomes_due}
-use Rattle.timer_regs.proofs.Advance.{advanced-now}
 use Rattle.interrupt_machine.specs.declared.nest.Nest.{Nest}
 use Rattle.interrupt_machine.specs.declared.nest.Nest.TheVariants.{Full}
 use Rattle.interrupt_machine.specs.declared.firmware.Did.{Did}
-use Rattle.interrupt_machine.specs.Open.{due_now, highest, is_idle, is_open, next_entry}
+use Rattle.interrupt_machine.specs.Open.{due_now, is_idle, is_open, next_entry}
 use Rattle.interrupt_machine.specs.Turn.{own_notes, open_after}
-use Rattle.interrupt_machine.proofs.Waiting.{highest_none}
 use Rattle.arming.proofs.InOrder.{each_front, in_order}
 use Rattle.arming.specs.Controlled.{Controlled, FitsControl}
 use Rattle.esc_core.specs.Brain.{Brain}
@@ -28,12 +25,11 @@ use Rattle.esc_core.specs.Calls.{Call, Answer, DeviceDid}
 use Rattle.esc_core.specs.Firmware.{entered_core, core_step, core_asked, counted_down, is_stray, waits_of}
 use Rattle.esc_core.specs.Stepped.{IsStepped}
 use Rattle.esc_core.proofs.Bounds.{core_step-goes, core_asked-goes, counted_asked}
-use Rattle.esc_rooms.proofs.shared.Law.{AtRest, Given}
-use Rattle.esc_laws.specs.Seen.{sees}
+use Rattle.esc_rooms.proofs.shared.Law.{Given}
 use Rattle.esc_laws.specs.Steps.{Turned, stall_end, opening, journal, notes_in, open_in, past_stall, free, after, steps_since, entered_at, EachStep, StepFits, Awaits, Below, OpenFew}
 use Rattle.esc_rooms.proofs.log.Turns.{at_rest, made_below}
 use Rattle.esc_laws.proofs.CrossGrowth.{notes_below}
-use Rattle.esc_rooms.specs.Tied.{Keeps, WordTold}
+use Rattle.esc_rooms.specs.Tied.{Keeps}
 use Rattle.esc_laws.specs.Legal.{Legal, LegalFront}
 use Rattle.esc_rooms.specs.Logged.{Logged, CoreTurn, turned}
 use Rattle.esc_laws.specs.Looks.{Made, made}
@@ -47,14 +43,14 @@ use Rattle.esc_laws.proofs.Growth.{sees_before}
 use Rattle.esc_laws.proofs.StepGrowth.{fits_grow}
 use Rattle.esc_rooms.proofs.log.Laws.{law}
 use Rattle.esc_rooms.proofs.log.Outside.{later_ground, event_ground, event_tie}
-use Rattle.esc_rooms.proofs.log.Entries.{unheld_idle}
 use Rattle.esc_rooms.proofs.log.OwnTurns.{steady, own_are, own_few}
-use Rattle.esc_rooms.proofs.log.Stepping.{sees_due, entry_turn, own_turn, left_is, stepped_by}
+use Rattle.esc_rooms.proofs.log.Stepping.{entry_turn, own_turn, left_is, stepped_by}
 use Rattle.esc_laws.specs.Said.{NoteFits}
 use Rattle.esc_laws.proofs.Notes.{all_front, lawful_of}
 use Rattle.esc_rooms.proofs.log.ChopLegal.{chopped_log}
 use Rattle.esc_laws.proofs.ChopFront.{chopped_front}
 use Rattle.esc_rooms.proofs.log.Events.{keeps_later, marks_later, patient_later, event_time, told_grows, patient_grows, marks_grow, keeps_grow}
+use Rattle.esc_rooms.proofs.log.Idle.{none_open, none_seen}
 
 -- ---- a step
 
@@ -95,7 +91,8 @@ own_told loaded nest cost trace c c' b b' stack stack' log notes k outer did ans
     let told = notes_are ∙ own_are k b b' (stepped_by k answers c b) did c' i in
     let left = open_is ∙ left_is k outer did (stepped_by k answers c b).over i.over_is in
     rw (i.core_is, i.bank_is, left, told) (own_turn loaded nest cost trace c b outer log k answers some
-    (given_by k c b answers (steady k c b (k ∷ outer) l'.keeps refl) asked) l' none' (rw (← own_are k b b' (stepped_by k answers c b) did c' i) (own_few b.hi b.lo b' k did)))
+    (given_by k c b answers (steady k c b (k ∷ outer) l'.keeps refl) asked) l' none'
+    (rw (← own_are k b b' (stepped_by k answers c b) did c' i) (own_few b.hi b.lo b' k did)))
 
 pub turn_logged : (loaded : Loaded) (nest : Nest) (cost : ℕ) (trace : List Event) (c c' : Brain) (b b' : Bank) (flash flash' : Told)
     (stack stack' : List Kind) (log : List Turned) (notes : List Note)
@@ -106,7 +103,8 @@ turn_logged loaded nest cost trace c c' b b' flash flash' stack stack' log notes
     entry_told loaded nest cost trace c c' b b' stack stack' log notes e.0 e.1.entered e.1.regs_are e.1.stack_is e.1.notes_are
     (entry_turn loaded nest cost trace c b stack log e.0 some l e.1.unmasked e.1.chosen)
 turn_logged loaded nest cost trace c c' b b' flash flash' stack stack' log notes some small l busy (inr e) =
-    own_told loaded nest cost trace c c' b b' stack stack' log notes e.0 e.1 e.2 e.3.stepped.answers some (flash, (flash', e.3.stepped.flash_is)) l e.3.none_enters e.3.innermost_is
+    own_told loaded nest cost trace c c' b b' stack stack' log notes e.0 e.1 e.2 e.3.stepped.answers some (flash, (flash', e.3.stepped.flash_is)) l
+    e.3.none_enters e.3.innermost_is
     e.3.stepped.stepped e.3.stack_is e.3.notes_are
 
 -- ---- time
@@ -139,62 +137,10 @@ time_logged loaded nest cost trace next c b stack log t later le small l = recor
 past_later : (m : Made) (t u : ℕ) → t ≤ u → Past m t → Past m u
 past_later m t u le p = record { cap = (let a = p.cap in omega arith); comm = (let a = p.comm in omega arith); cmp = (let a = p.cmp in omega arith) }
 
-none_open : (stack : List Kind) (due : Kind → Bool) → is_idle stack due ≡ true → (stack ≡ []) × (highest due ≡ None)
-none_open [] due idle = (refl, none_of (highest due) idle)
-  where
-    none_of : (o : Option Kind) → is_none o ≡ true → o ≡ None
-    none_of None e = refl
-    none_of (Some k) e = cc
-none_open (k ∷ outer) due idle = cc
-
--- time makes a kind due by the registers alone
-due_by_regs : (w : Bool) (b : Bank) (u : ℕ) (k : Kind) → due_now w b k ≡ false → (is_due b k ≡ false → is_due (advanced b u) k ≡ false)
-    → due_now w (advanced b u) k ≡ false
-due_by_regs w b u kind.Main e f = e
-due_by_regs w b u k e f = f e
-
-stays_shut : (x y : Bool) → x ≡ false → (not x && y) ≡ false → y ≡ false
-stays_shut true y e f = cc
-stays_shut false y e f = f
-
 pub none_before : (due : Option ℕ) (b : Bank) (k : Kind) (t u : ℕ) → IsNextDue b due → ((d : ℕ) → due ≡ Some d → t ≤ d) → b.time < u → u < t
     → becomes_due b k u ≡ false
 none_before None b k t u is le from below = is k u from
 none_before (Some d) b k t u is le from below = is.none_before k u from (let m = le d refl in omega arith)
-
--- while nothing is due nothing is seen due
-none_seen : (loaded : Loaded) (nest : Nest) (trace : List Event) (c : Brain) (b : Bank) (log : List Turned) (t u : ℕ) (k : Kind)
-    → Keeps c b [] → AtRest (world loaded nest trace c b log)
-    → WordTold c b (reverse (journal loaded log))
-    → highest (due_now (waits_of c) b) ≡ None → ((j : Kind) (v : ℕ) → b.time < v → v < t → becomes_due b j v ≡ false) → b.time ≤ u → u < t
-    → t < 2147483648 → sees loaded trace (journal loaded log) u k ≡ false
-none_seen loaded nest trace c b log t u k keeps rest told none quiet from below small = by_seen (sees loaded trace (journal loaded log) u k) refl
-  where
-    shut_now : due_now (waits_of c) (advanced b u) k ≡ false
-    shut_now = elim (cases_lt b.time u) [
-      | inl later ↦ due_by_regs (waits_of c) b u k (highest_none (due_now (waits_of c) b) k none)
-          (λ e. stays_shut (is_due b k) (is_due (advanced b u) k) e (quiet k u later below))
-      | inr not_later ↦ (let same : b.time ≡ u = omega arith in subst (λ (v : ℕ). due_now (waits_of c) (advanced b v) k ≡ false) same
-          (subst (λ (x : Bank). due_now (waits_of c) x k ≡ false) (advanced-now b) (highest_none (due_now (waits_of c) b) k none)))
-    ]
-
-    by_seen : (v : Bool) → sees loaded trace (journal loaded log) u k ≡ v → sees loaded trace (journal loaded log) u k ≡ false
-    by_seen true e =
-        let d =
-        sees_due loaded nest trace c (advanced b u) [] log (keeps_later c b [] u keeps)
-        (record {
-          ground = later_ground (world loaded nest trace c b log) u from (omega arith) rest.ground;
-          ties = λ j. (law j).later (world loaded nest trace c b log) u from (omega arith) rest;
-        }) (record {
-          hi_is = told.hi_is;
-          lo_is = told.lo_is;
-          hi_free =
-              told.hi_free;
-          lo_free = told.lo_free;
-        })
-        (unheld_idle c b keeps) k (rw e refl) in
-        absurd (let z : true ≡ false = sym d ∙ shut_now in cc)
-    by_seen false e = e
 
 -- nothing is due, and nothing becomes due before t
 pub quiet_logged : (loaded : Loaded) (nest : Nest) (cost : ℕ) (trace : List Event) (c : Brain) (b : Bank) (stack : List Kind) (log : List Turned) (t : ℕ)
@@ -278,7 +224,11 @@ module _ (loaded : Loaded) (nest : Nest) (cost : ℕ) (trace : List Event) (e : 
         marks = marks_grow loaded nest trace e b stack log at (notes_below loaded nest cost trace (tick_of e) [] log l.fits before) l.marks;
         gates = told_grows e c b (reverse (journal loaded log)) l.gates;
         ground = event_ground (world loaded nest trace c b log) e at l.ground;
-        ties = λ k. event_tie k (world loaded nest trace c b log) e (record { rest = at_rest loaded nest cost trace next c b stack log l; past = made_below log b.time below; now = at });
+        ties = λ k. event_tie k (world loaded nest trace c b log) e (record {
+          rest = at_rest loaded nest cost trace next c b stack log l;
+          past = made_below log b.time below;
+          now = at;
+        });
         patient = patient_grows loaded nest trace e c b stack log at before l.patient;
         owes = l.owes;
         reached = λ k o. reached_grows cost trace e log (steps_since k log) (entered_at k log) (l.reached k o) (l.reached_by k o (tick_of e) before);

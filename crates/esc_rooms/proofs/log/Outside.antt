@@ -77,7 +77,8 @@ events_now : (w : World) (e : Event) → tick_of e ≡ w.bank.time → Ground w 
 events_now w e is g = All-push (λ x. tick_of x ≤ w.bank.time) w.trace e g.outside.events (omega arith)
 
 in_time_now : (w : World) (e : Event) → tick_of e ≡ w.bank.time → Ground w → IsInTime 0 (w.trace ++ e ∷ [])
-in_time_now w e is g = in_time_push w.trace e 0 (omega arith) g.outside.in_time (All-later tick_of w.trace w.bank.time (tick_of e) (omega arith) g.outside.events)
+in_time_now w e is g = in_time_push w.trace e 0 (omega arith) g.outside.in_time
+    (All-later tick_of w.trace w.bank.time (tick_of e) (omega arith) g.outside.events)
 
 edge_ground : (v : Bool) (w : World) (level : Bool) → differ w.bank.level level ≡ v → Ground w
     → Ground (record w {
@@ -147,7 +148,8 @@ outside_ground w (event.Comp at level) is g = record {
     rested = rw (line-push w.trace (event.Comp at level)) g.outside.rested;
     events = events_now w (event.Comp at level) is g;
     in_time = in_time_now w (event.Comp at level) is g;
-    comparator = comp_now w.bank (held w.trace w.bank.time) at.0 level g.outside.comparator ∙ ap (λ (h : Held). h.level) (sym (held_now w.trace at level w.bank.time is));
+    comparator = comp_now w.bank (held w.trace w.bank.time) at.0 level g.outside.comparator
+        ∙ ap (λ (h : Held). h.level) (sym (held_now w.trace at level w.bank.time is));
     small = g.outside.small;
   };
   line = g.line;

@@ -74,7 +74,8 @@ start_marks loaded nest = record { said = start_said loaded nest [] 0; stack_is 
 no_burst : [] ≡ burst (line []).edges 0 (mode_of 0)
 no_burst = sym (ap (λ (l : Line). burst l.edges 0 (mode_of 0)) line-none ∙ burst-nil 0 (mode_of 0))
 
-start_ground : (loaded : Loaded) (packets : Queue) (nest : Nest) → packets.waiting ≡ [] → Ground (world loaded nest [] (new_core loaded.settings packets) first_bank [])
+start_ground : (loaded : Loaded) (packets : Queue) (nest : Nest) → packets.waiting ≡ []
+    → Ground (world loaded nest [] (new_core loaded.settings packets) first_bank [])
 start_ground loaded packets nest none = record {
   control = opening_stands loaded;
   orders = record { settings_are = refl; spin_is = refl; save_is = refl };
@@ -98,10 +99,26 @@ none_on leg.C e = cc
 -- nothing drives
 start_drive : (loaded : Loaded) (packets : Queue) (nest : Nest) → DriveTied (drive_seen (world loaded nest [] (new_core loaded.settings packets) first_bank []))
 start_drive loaded packets nest = record {
-  switches = record { sector_is = refl; sectors = omega arith; pair = record { high = λ x e. absurd (none_on x e); low = λ x e. absurd (none_on x e) }; held = λ x e. absurd (none_on x e); soon = λ x. rw (← none_free x) (omega arith); outer = λ s x ne. absurd (omega arith); unused = λ z x. sym (none_free x); past = omega arith };
+  switches = record {
+    sector_is = refl;
+    sectors = omega arith;
+    pair = record { high = λ x e. absurd (none_on x e); low = λ x e. absurd (none_on x e) };
+    held = λ x e. absurd (none_on x e);
+    soon = λ x. rw (← none_free x) (omega arith);
+    outer = λ s x ne. absurd (omega arith);
+    unused = λ z x. sym (none_free x);
+    past = omega arith;
+  };
   newest = record { since = λ s. absurd (omega arith); to_is = λ e s. absurd (omega arith); at_low = λ e. cc };
   next = record { idle = λ z. refl; due = λ d. absurd (omega arith); first = λ z d. absurd (omega arith) };
-  row = record { turned = λ d. absurd (omega arith); forced = refl; unforced = λ e. refl; rest_unmarked = λ z. refl; stuck = λ d. absurd (omega arith); marked = λ d. absurd (omega arith) };
+  row = record {
+    turned = λ d. absurd (omega arith);
+    forced = refl;
+    unforced = λ e. refl;
+    rest_unmarked = λ z. refl;
+    stuck = λ d. absurd (omega arith);
+    marked = λ d. absurd (omega arith);
+  };
   place = tt;
   low = λ e d s. absurd (omega arith);
   crossed = λ e. cc;
@@ -168,7 +185,8 @@ start_patient loaded nest = record {
 after_start : (cost : ℕ) → after cost [] [] ≡ 0
 after_start cost = after-none cost [] ∙ free-none 0
 
-pub logged_start : (loaded : Loaded) (packets : Queue) (nest : Nest) (cost : ℕ) → packets.waiting ≡ [] → Logged loaded nest cost [] 0 (new_core loaded.settings packets) first_bank [] []
+pub logged_start : (loaded : Loaded) (packets : Queue) (nest : Nest) (cost : ℕ) → packets.waiting ≡ []
+    → Logged loaded nest cost [] 0 (new_core loaded.settings packets) first_bank [] []
 logged_start loaded packets nest cost none =
     let zero_after = after_start cost in
     record {

@@ -83,7 +83,8 @@ entry_fits loaded nest cost trace c b stack log k l down chosen calls = record {
   first = λ o. (
     refl,
     λ j s. highest_most (due_now (waits_of c) b) k j
-        (waits_due loaded nest trace c b stack log l.keeps (at_rest loaded nest cost trace b.time c b stack log l) l.gates (unheld_down c b stack l.keeps down) j s
+        (waits_due loaded nest trace c b stack log l.keeps (at_rest loaded nest cost trace b.time c b stack log l) l.gates
+        (unheld_down c b stack l.keeps down) j s
         (empty_open stack j (l.marks.stack_is ∙ o)))
         (entry_highest nest stack (due_now (waits_of c) b) k chosen),
   );
@@ -175,7 +176,8 @@ entry_turn loaded nest cost trace c b stack log k some l down chosen =
           rw still
           (entry_patient nest stack (due_now (waits_of c) b) (sees loaded trace (journal loaded log) b.time)
           (sees loaded trace (journal loaded (log ++ entry_of b.time k ∷ [])) b.time) k c.hold (entered_core c k).hold (called loaded nest trace log)
-          (sees_due loaded nest trace c b stack log l.keeps (at_rest loaded nest cost trace b.time c b stack log l) l.gates (unheld_down c b stack l.keeps down)) chosen (rw down at l.patient));
+          (sees_due loaded nest trace c b stack log l.keeps (at_rest loaded nest cost trace b.time c b stack log l) l.gates
+          (unheld_down c b stack l.keeps down)) chosen (rw down at l.patient));
       owes = entry_owes c b stack log k l.owes;
       reached = entry_reached cost trace b stack log k l.at_next l.reached;
       reached_by = entry_by cost trace b stack log k l.at_next l.reached;
@@ -211,7 +213,8 @@ own_owes c c' outer log k t notes v owes less others j o = elim (same_kind j k) 
 own_fits : (loaded : Loaded) (nest : Nest) (cost : ℕ) (trace : List Event) (c : Brain) (b : Bank) (outer : List Kind) (log : List Turned) (k : Kind)
     (notes : List Note)
     → Logged loaded nest cost trace b.time c b (k ∷ outer) log
-    → All (IsOwn k b.time) notes → ReturnsLast k notes → GateFirst notes → length notes ≤ most_notes → ((j : Kind) → called loaded nest trace (log ++ own_of b.time k notes ∷ []) j ≤ 8)
+    → All (IsOwn k b.time) notes → ReturnsLast k notes → GateFirst notes → length notes ≤ most_notes
+    → ((j : Kind) → called loaded nest trace (log ++ own_of b.time k notes ∷ []) j ≤ 8)
     → StepFits loaded nest cost trace log (own_of b.time k notes)
 own_fits loaded nest cost trace c b outer log k notes l own back first short calls =
     let inside : is_open (k ∷ outer) k ≡ true = self_open k outer in
@@ -263,7 +266,8 @@ own_turn loaded nest cost trace c b outer log k answers some given l none short 
       patient =
           own_patient nest k outer (open_left k outer s) (due_now (waits_of c) b) (sees loaded trace (journal loaded log) b.time)
           (sees loaded trace (journal loaded (log ++ own_of b.time k notes ∷ [])) b.time) b.masked b'.masked c.hold s.core.hold (called loaded nest trace log)
-          (λ m. sees_due loaded nest trace c b (k ∷ outer) log l.keeps (at_rest loaded nest cost trace b.time c b (k ∷ outer) log l) l.gates (unheld_down c b (k ∷ outer) l.keeps m)) none
+          (λ m. sees_due loaded nest trace c b (k ∷ outer) log l.keeps (at_rest loaded nest cost trace b.time c b (k ∷ outer) log l) l.gates
+          (unheld_down c b (k ∷ outer) l.keeps m)) none
           (left_goes s.over b'.masked k outer (mask_down k (need_of c k) c.hold b s bound.mask)) held (λ m. bound.mask.most) bound.mask.less l.patient;
       owes = own_owes c s.core outer log k b.time notes s.over l.owes bound.moves.less (λ j ne. (bound.moves.others j ne).0);
       reached = λ j o. reached_on cost trace log (own_of b.time k notes) j refl (l.at_next (λ e. cc)) (l.reached j (left_open s.over k j outer o));

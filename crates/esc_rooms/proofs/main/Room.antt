@@ -20,10 +20,10 @@ use Rattle.esc_laws.specs.NoteLaw as owed
 use Rattle.esc_core.specs.Brain.{Brain}
 use Rattle.esc_core.specs.Line.{line_waits}
 
-saves : (w : World) (saved : Bool) (outer : List Kind) → Ground w → w.core.orders.save_asked ≡ true → (so_far w).saves ≡ 0
+main_save_preserves : (w : World) (saved : Bool) (outer : List Kind) → Ground w → w.core.orders.save_asked ≡ true → (so_far w).saves ≡ 0
     → (so_far w).stack ≡ kind.Main ∷ outer
     → StepKeeps kind.Main outer w (saving_step saved (record w.core { main_at = main.Back }) w.bank)
-saves w saved outer g asked none on = record {
+main_save_preserves w saved outer g asked none on = record {
   gates = quiet_gates kind.Main w _ (λ e. cc) refl refl refl;
   fits = λ told. (
     record { at = refl; owned = refl; keeps = record { laws = elim [ owed.Nests ↦ inside (so_far w).stack kind.Main outer on | l ↦ tt ]; waits = tt } },
@@ -44,11 +44,26 @@ main_steps_preserve : (at : MainAt) (w : World) (answers : List Answer) (outer :
     → (so_far w).stack ≡ kind.Main ∷ outer → 0 < main_left at
     → StepKeeps kind.Main outer w (main_step answers at w.core w.bank)
 main_steps_preserve main.Shut w answers outer g t on left = absurd (omega arith)
-main_steps_preserve main.Work w answers outer g t on left = if_true w.core.orders.save_asked kind.Main outer w _ _ t.0 (saves w (took_first answers) outer g t.0 t.1 on)
+main_steps_preserve main.Work w answers outer g t on left =
+    if_true w.core.orders.save_asked kind.Main outer w _ _ t.0 (main_save_preserves w (took_first answers) outer g t.0 t.1 on)
 main_steps_preserve main.Back w answers outer g t on left = record {
   gates = quiet_gates kind.Main w _ (λ e. cc) refl refl refl;
   fits = λ told. (
-    record { at = refl; owned = refl; keeps = record { laws = elim [ owed.Windows ↦ λ e. cc | owed.Replies ↦ λ e. cc | owed.Drives ↦ λ e. cc | owed.Searches ↦ λ e. cc | owed.Nests ↦ (inside (so_far w).stack kind.Main outer on, t) | l ↦ tt ]; waits = tt } },
+    record {
+      at = refl;
+      owned = refl;
+      keeps = record {
+        laws = elim [
+          | owed.Windows ↦ λ e. cc
+          | owed.Replies ↦ λ e. cc
+          | owed.Drives ↦ λ e. cc
+          | owed.Searches ↦ λ e. cc
+          | owed.Nests ↦ (inside (so_far w).stack kind.Main outer on, t)
+          | l ↦ tt
+        ];
+        waits = tt;
+      };
+    },
     tt,
   );
   ground = ground_noted w (note.Leave (as_tick w.bank.time) 0) refl refl tt refl g;

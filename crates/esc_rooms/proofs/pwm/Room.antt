@@ -23,9 +23,9 @@ or_parts : (a b : Bool) → (a || b) ≡ true → (a ≡ true) ⊎ ((a ≡ false
 or_parts true b e = inl refl
 or_parts false b e = inr (refl, e)
 
-called_flag : (at : TickAt) (flag asked : Bool) (demand entered time : ℕ) → 8 < tick_need at → FlagTied at flag asked demand entered time
+pwm_called : (at : TickAt) (flag asked : Bool) (demand entered time : ℕ) → 8 < tick_need at → FlagTied at flag asked demand entered time
     → (nat_lt 0 demand && (asked || nat_lt (edges demand entered) (edges demand time))) ≡ true → flag ≡ true
-called_flag at flag asked demand entered time unheld t e =
+pwm_called at flag asked demand entered time unheld t e =
     let parts = and_parts (nat_lt 0 demand) (asked || nat_lt (edges demand entered) (edges demand time)) e in
     let some : 0 < demand = ltb-true 0 demand parts.0 in
     elim (or_parts asked (nat_lt (edges demand entered) (edges demand time)) parts.1) [
@@ -102,10 +102,12 @@ flag_later at flag asked duty demand entered t u le d f = record {
 pub pwm_law : HandlerLaw kind.Pwm
 pwm_law = record {
   called = λ w i s.
-      called_flag w.core.tick_at w.bank.flag (pwm_asked_at w.back) (demand_at w.back) (pwm_entered_at w.back) w.bank.time (i.unheld kind.Tick) (i.rest.ties kind.Pwm).1 s;
+      pwm_called w.core.tick_at w.bank.flag (pwm_asked_at w.back) (demand_at w.back) (pwm_entered_at w.back) w.bank.time (i.unheld kind.Tick)
+      (i.rest.ties kind.Pwm).1 s;
   asked = λ w i. (
     tt,
-    flag_calls w.core.tick_at w.bank.flag (pwm_asked_at w.back) (demand_at w.back) (pwm_entered_at w.back) w.bank.time (flag_drives w i.rest.ties i.unheld i.due)
+    flag_calls w.core.tick_at w.bank.flag (pwm_asked_at w.back) (demand_at w.back) (pwm_entered_at w.back) w.bank.time
+        (flag_drives w i.rest.ties i.unheld i.due)
         (i.rest.ties kind.Pwm).1 i.due,
   );
   entered = λ w i. (

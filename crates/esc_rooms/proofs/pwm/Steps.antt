@@ -76,9 +76,9 @@ record AtWrite (leg : Option Leg) (w : World) (outer : List Kind) : Type 0 where
   leg_is : leg ≡ chopped_leg (nat_lt (w.made.sampled % pwm_period) (demand_at w.back)) w.bank.sector
   drives : 0 < demand_at w.back
 
-chops_so : (leg : Option Leg) (w : World) (outer : List Kind) (after : Bank) → AtWrite leg w outer → HasChopped leg w.core.drive.gates w.bank after
+write_chops : (leg : Option Leg) (w : World) (outer : List Kind) (after : Bank) → AtWrite leg w outer → HasChopped leg w.core.drive.gates w.bank after
     → Chops w after
-chops_so leg w outer after i h =
+write_chops leg w outer after i h =
     let by = chops_of leg (nat_lt (w.made.sampled % pwm_period) (demand_at w.back)) w.bank.sector w.core.drive.gates w.bank after i.leg_is h in
     record {
       on = λ l s none. by.0 (lt-ltb (w.made.sampled % pwm_period) (demand_at w.back) l) s none;
@@ -104,15 +104,15 @@ write_word leg w outer s after i off_times same over silent lo pair dead h = rec
   drive = record {
     low = λ o d. subst (λ (b : Bank). b.lo ≡ w.bank.lo) same lo;
     high = λ o p d. absurd (p refl i.own);
-    chops = λ is own. subst (λ (b : Bank). Chops w b) same (chops_so leg w outer after i h);
+    chops = λ is own. subst (λ (b : Bank). Chops w b) same (write_chops leg w outer after i h);
     back = λ is e. (let z : false ≡ true = sym over ∙ e in cc);
     silent = λ is. silent;
   };
 }
 
-on_places : (wait : Option ℕ) (x : Leg) (w : World) (outer : List Kind) → high_wait w.core.drive.gates w.bank x ≡ wait → AtWrite (Some x) w outer
+write_on_preserves : (wait : Option ℕ) (x : Leg) (w : World) (outer : List Kind) → high_wait w.core.drive.gates w.bank x ≡ wait → AtWrite (Some x) w outer
     → StepKeeps kind.Pwm outer w (chopped (chop.Write (Some x)) (on_step wait x w.core.drive.gates w.bank) w.core)
-on_places None x w outer e i =
+write_on_preserves None x w outer e i =
     let t : Ties w = i.at.ties in
     let d = t kind.Comm in
     let hi : ℕ = bit_or w.bank.hi (mask_of x) in
@@ -128,7 +128,8 @@ on_places None x w outer e i =
     } in
     record {
       gates = write_word (Some x) w outer _ after i refl refl refl refl refl pair
-          (high_on_keeps g (gates_after g w.bank after) w.bank after x refl refl refl e (pair_apart w.bank.sector w.bank.hi w.bank.lo d.switches.sectors d.switches.pair))
+          (high_on_keeps g (gates_after g w.bank after) w.bank after x refl refl refl e
+          (pair_apart w.bank.sector w.bank.hi w.bank.lo d.switches.sectors d.switches.pair))
           (λ none. or_on w.bank.hi x);
       fits = λ told. tt;
       ground = i.at.ground;
@@ -141,7 +142,7 @@ on_places None x w outer e i =
       ];
       stack_is = i.at.on;
     }
-on_places (Some until) x w outer e i =
+write_on_preserves (Some until) x w outer e i =
     let t : Ties w = i.at.ties in
     let d = t kind.Comm in
     record {
@@ -159,10 +160,10 @@ on_places (Some until) x w outer e i =
       stack_is = i.at.on;
     }
 
-write_places : (leg : Option Leg) (w : World) (outer : List Kind) → AtWrite leg w outer
+pwm_write_preserves : (leg : Option Leg) (w : World) (outer : List Kind) → AtWrite leg w outer
     → StepKeeps kind.Pwm outer w (chopped (chop.Write leg) (write_step leg w.core.drive.gates w.bank) w.core)
-write_places (Some x) w outer i = on_places (high_wait w.core.drive.gates w.bank x) x w outer refl i
-write_places None w outer i =
+pwm_write_preserves (Some x) w outer i = write_on_preserves (high_wait w.core.drive.gates w.bank x) x w outer refl i
+pwm_write_preserves None w outer i =
     let t : Ties w = i.at.ties in
     let d = t kind.Comm in
     let hi : ℕ = bit_and w.bank.hi 0 in
@@ -174,7 +175,8 @@ write_places None w outer i =
     } in
     record {
       gates = write_word None w outer _ after i refl refl refl refl refl pair
-          (high_off_keeps (gates_after g w.bank after) w.bank after 0 refl refl (pair_apart w.bank.sector w.bank.hi w.bank.lo d.switches.sectors d.switches.pair))
+          (high_off_keeps (gates_after g w.bank after) w.bank after 0 refl refl
+          (pair_apart w.bank.sector w.bank.hi w.bank.lo d.switches.sectors d.switches.pair))
           (and_zero_r w.bank.hi);
       fits = λ told. tt;
       ground = i.at.ground;
@@ -192,9 +194,24 @@ write_places None w outer i =
 
 pwm_return_preserves : (w : World) (outer : List Kind) → IsPwm w outer pwm.Back → StepKeeps kind.Pwm outer w (pwm_step pwm.Back w.core w.bank)
 pwm_return_preserves w outer i = record {
-  gates = still_gates w _ refl refl refl (λ own. (let o = own_tie w outer pwm.Back i in omega arith)) (λ over. (let o = own_tie w outer pwm.Back i in omega arith)) refl;
+  gates = still_gates w _ refl refl refl (λ own. (let o = own_tie w outer pwm.Back i in omega arith)) (λ over. (let o =
+      own_tie w outer pwm.Back i in omega arith)) refl;
   fits = λ told. (
-    record { at = refl; owned = refl; keeps = record { laws = elim [ owed.Windows ↦ λ k. cc | owed.Replies ↦ λ k. cc | owed.Drives ↦ λ k. cc | owed.Searches ↦ λ e. cc | owed.Nests ↦ (inside (so_far w).stack kind.Pwm outer i.on, tt) | l ↦ tt ]; waits = tt } },
+    record {
+      at = refl;
+      owned = refl;
+      keeps = record {
+        laws = elim [
+          | owed.Windows ↦ λ k. cc
+          | owed.Replies ↦ λ k. cc
+          | owed.Drives ↦ λ k. cc
+          | owed.Searches ↦ λ e. cc
+          | owed.Nests ↦ (inside (so_far w).stack kind.Pwm outer i.on, tt)
+          | l ↦ tt
+        ];
+        waits = tt;
+      };
+    },
     tt,
   );
   ground = ground_noted w (note.Leave (as_tick w.bank.time) 5) refl refl tt refl i.ground;
@@ -227,7 +244,7 @@ pwm_steps_preserve (pwm.Run (chop.Sector below)) w outer i left =
     (λ s. cc) (λ o. (let n = own.0 in omega arith)) (rw own.0 (refl, ap (λ (v : Bool). chopped_leg v w.bank.sector) own.1))
 pwm_steps_preserve (pwm.Run (chop.Write leg)) w outer i left =
     let own = own_tie w outer (pwm.Run (chop.Write leg)) i in
-    write_places leg w outer (record { at = i; own = own.0; leg_is = own.1; drives = open_drives w outer (pwm.Run (chop.Write leg)) i (λ s. cc) })
+    pwm_write_preserves leg w outer (record { at = i; own = own.0; leg_is = own.1; drives = open_drives w outer (pwm.Run (chop.Write leg)) i (λ s. cc) })
 pwm_steps_preserve (pwm.Run chop.Lower) w outer i left =
     let own = own_tie w outer (pwm.Run chop.Lower) i in
     pwm_step_preserves w outer (pwm.Run chop.Lower) pwm.Back w.core.hold (Writes reg.Mask 0) i refl (λ s. cc) (λ o. omega arith) (rw own refl)

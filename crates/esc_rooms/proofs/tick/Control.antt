@@ -119,7 +119,8 @@ no_drive : (w : World) → Ties w → rests_at w.back ≡ true → HasNoQ (turn_
 no_drive w t e = rw ((t kind.Comm).next.idle (eqb-true (demand_at w.back) 0 (rests_is w.back ∙ e))) tt
 
 -- it asks control: a K, then an A or an X
-asks : (lost : Option Cause) (armed_now start : Bool) (w : World) (outer : List Kind) (marks demand : ℕ) (kept : Kept) → IsTick w outer tick.Read
+ask_control_preserves : (lost : Option Cause) (armed_now start : Bool) (w : World) (outer : List Kind) (marks demand : ℕ) (kept : Kept)
+    → IsTick w outer tick.Read
     → start ≡ (nat_lt 0 demand && rests_at w.back) → (so_far w).ticks ≡ 0
     → Stands kept (with_outcome (as_tick w.bank.time) lost armed_now (note.Control (as_tick w.bank.time) (w.bank.time / control_period) marks demand ∷ w.back))
     → kept.number ≡ w.bank.time / control_period
@@ -133,7 +134,7 @@ asks : (lost : Option Cause) (armed_now start : Bool) (w : World) (outer : List 
       notes = note.Control (as_tick w.bank.time) (w.bank.time / control_period) marks demand ∷ outcome_note w.bank.time lost armed_now;
       over = false;
     })
-asks lost armed_now start w outer marks demand kept i begins none st number = by_outcome lost armed_now st
+ask_control_preserves lost armed_now start w outer marks demand kept i begins none st number = by_outcome lost armed_now st
   where
     k : Note
     k = note.Control (as_tick w.bank.time) (w.bank.time / control_period) marks demand
@@ -188,7 +189,8 @@ asks lost armed_now start w outer marks demand kept i begins none st number = by
     here = inside (so_far w).stack kind.Tick outer i.on
 
     by_outcome : (lost : Option Cause) (armed_now : Bool)
-        → Stands kept (with_outcome (as_tick w.bank.time) lost armed_now (note.Control (as_tick w.bank.time) (w.bank.time / control_period) marks demand ∷ w.back))
+        → Stands kept (with_outcome (as_tick w.bank.time) lost armed_now
+        (note.Control (as_tick w.bank.time) (w.bank.time / control_period) marks demand ∷ w.back))
         → StepKeeps kind.Tick outer w (record {
           core = record w.core {
             tick_at = if demand == 0 then tick.Off off.High else tick.DutyOn start;
@@ -296,10 +298,10 @@ outcome_number (Some cause) armed_now t n s d back = refl
 outcome_number None true t n s d back = refl
 outcome_number None false t n s d back = refl
 
-reads_as : (n marks : ℕ) (w : World) (outer : List Kind) → IsTick w outer tick.Read → n ≡ w.bank.time / control_period → marks ≡ marks_at w.back
+read_number_preserves : (n marks : ℕ) (w : World) (outer : List Kind) → IsTick w outer tick.Read → n ≡ w.bank.time / control_period → marks ≡ marks_at w.back
     → w.bank.number_read < w.bank.time / control_period → (so_far w).ticks ≡ 0
     → StepKeeps kind.Tick outer w (number_step n marks w.core w.bank)
-reads_as n marks w outer i is marks_are below none = subst (λ (m : ℕ). StepKeeps kind.Tick outer w (number_step m marks w.core w.bank)) (sym is) (
+read_number_preserves n marks w outer i is marks_are below none = subst (λ (m : ℕ). StepKeeps kind.Tick outer w (number_step m marks w.core w.bank)) (sym is) (
     let m : ℕ = w.bank.time / control_period in
     let answer = ticked w.core m marks in
     let less : w.core.control.number < m = (let same = (i.ties kind.Tick).1 in omega arith) in
@@ -308,24 +310,27 @@ reads_as n marks w outer i is marks_are below none = subst (λ (m : ℕ). StepKe
     ∙ ap (λ (d : ℕ). nat_lt 0 answer.demand && (d == 0)) i.ground.control.ties.demand_is
     ∙ ap (λ (b : Bool). nat_lt 0 answer.demand && b) (rests_is w.back) in
     if_true (nat_lt w.core.control.number m) kind.Tick outer w _ _ (lt-ltb w.core.control.number m less)
-    (asks answer.lost answer.armed_now answer.start w outer marks answer.demand (after_tick w.core.control m (decide (view_of w.core.control) m marks)) i
+    (ask_control_preserves answer.lost answer.armed_now answer.start w outer marks answer.demand
+    (after_tick w.core.control m (decide (view_of w.core.control) m marks)) i
     begins none
     st (st.ties.number_is ∙ outcome_number answer.lost answer.armed_now w.bank.time m marks answer.demand w.back)))
 
-pub reads : (stuck : Bool) (w : World) (outer : List Kind) → w.bank.stuck ≡ stuck → IsTick w outer tick.Read
+pub tick_read_preserves : (stuck : Bool) (w : World) (outer : List Kind) → w.bank.stuck ≡ stuck → IsTick w outer tick.Read
     → StepKeeps kind.Tick outer w
     (number_step (number_in (if stuck then w.bank.time / control_period + 1073741824 else w.bank.time / control_period))
     (marks_in (if stuck then w.bank.time / control_period + 1073741824 else w.bank.time / control_period) w.core.line.active) w.core w.bank)
-reads true w outer e i =
+tick_read_preserves true w outer e i =
     let tied = ticks_tie w outer tick.Read i in
-    reads_as (number_in (w.bank.time / control_period + 1073741824)) (marks_in (w.bank.time / control_period + 1073741824) w.core.line.active) w outer i
+    read_number_preserves (number_in (w.bank.time / control_period + 1073741824)) (marks_in (w.bank.time / control_period + 1073741824) w.core.line.active) w
+    outer i
     (rw (le-ltb (w.bank.time / control_period + 1073741824) 1073741824 (omega arith)) (back (w.bank.time / control_period)))
     (rw (le-ltb (w.bank.time / control_period + 1073741824) 1073741824 (omega arith), mark_is w outer i ∙ e, i.ground.line.session_is) refl) tied.0 tied.1
   where
     back : (t : ℕ) → (t + 1073741824) - 1073741824 ≡ t
     back t = omega arith
-reads false w outer e i =
+tick_read_preserves false w outer e i =
     let tied = ticks_tie w outer tick.Read i in
     let small : w.bank.time < 2147483648 = i.ground.outside.small in
-    reads_as (number_in (w.bank.time / control_period)) (marks_in (w.bank.time / control_period) w.core.line.active) w outer i (rw (lt-ltb (w.bank.time / control_period) 1073741824 (omega arith)) refl)
+    read_number_preserves (number_in (w.bank.time / control_period)) (marks_in (w.bank.time / control_period) w.core.line.active) w outer i
+    (rw (lt-ltb (w.bank.time / control_period) 1073741824 (omega arith)) refl)
     (rw (lt-ltb (w.bank.time / control_period) 1073741824 (omega arith), mark_is w outer i ∙ e, i.ground.line.session_is) refl) tied.0 tied.1

@@ -143,7 +143,16 @@ with_low v lo place shut none zero fewer t =
     let f : Legs = v.drive.gates.hi_free in
     let same = offs_same f v.hi v.time in
     record {
-      switches = record { sector_is = t.switches.sector_is; sectors = t.switches.sectors; pair = record { high = t.switches.pair.high; low = λ x on. t.switches.pair.low x (fewer x on) }; held = λ x on. rw same (t.switches.held x (fewer x on)); soon = rw same t.switches.soon; outer = rw same t.switches.outer; unused = rw same t.switches.unused; past = t.switches.past };
+      switches = record {
+        sector_is = t.switches.sector_is;
+        sectors = t.switches.sectors;
+        pair = record { high = t.switches.pair.high; low = λ x on. t.switches.pair.low x (fewer x on) };
+        held = λ x on. rw same (t.switches.held x (fewer x on));
+        soon = rw same t.switches.soon;
+        outer = rw same t.switches.outer;
+        unused = rw same t.switches.unused;
+        past = t.switches.past;
+      };
       newest = t.newest;
       next = t.next;
       row = t.row;
@@ -162,7 +171,14 @@ driven_off v shut zero t = record {
   switches = t.switches;
   newest = record { since = t.newest.since; to_is = t.newest.to_is; at_low = λ e. cc };
   next = t.next;
-  row = record { turned = t.row.turned; forced = t.row.forced; unforced = t.row.unforced; rest_unmarked = t.row.rest_unmarked; stuck = λ l. absurd (omega arith); marked = λ l. absurd (omega arith) };
+  row = record {
+    turned = t.row.turned;
+    forced = t.row.forced;
+    unforced = t.row.unforced;
+    rest_unmarked = t.row.rest_unmarked;
+    stuck = λ l. absurd (omega arith);
+    marked = λ l. absurd (omega arith);
+  };
   place = subst (λ (x : CommAt). CommTied x (off_view v)) (sym shut) tt;
   low = λ e l s. absurd (omega arith);
   crossed = λ e. ((t.crossed e).0, refl);
@@ -204,7 +220,14 @@ asked_drive true was false start v d wait y e f g h i t = subst (λ (s : Bool). 
   switches = t.switches;
   newest = t.newest;
   next = record { idle = λ z. refl; due = λ l. absurd (let z = eqb-true d 0 e in omega arith); first = λ s l. absurd (let z = eqb-true d 0 e in omega arith) };
-  row = record { turned = λ l. absurd (let z = eqb-true d 0 e in omega arith); forced = t.row.forced; unforced = λ z. absurd z; rest_unmarked = λ z. refl; stuck = λ l. absurd (let z = eqb-true d 0 e in omega arith); marked = λ l. absurd (let z = eqb-true d 0 e in omega arith) };
+  row = record {
+    turned = λ l. absurd (let z = eqb-true d 0 e in omega arith);
+    forced = t.row.forced;
+    unforced = λ z. absurd z;
+    rest_unmarked = λ z. refl;
+    stuck = λ l. absurd (let z = eqb-true d 0 e in omega arith);
+    marked = λ l. absurd (let z = eqb-true d 0 e in omega arith);
+  };
   place = subst (λ (x : CommAt). CommTied x (asked_view v true was false false d wait)) (sym i.shut) tt;
   low = λ s l m. tt;
   crossed = t.crossed;
@@ -215,7 +238,14 @@ asked_drive false true true start v d wait y e f g h i t = subst (λ (s : Bool).
   switches = t.switches;
   newest = t.newest;
   next = record { idle = λ z. absurd (let l = above_zero d e in omega arith); due = λ l. omega arith; first = λ s l. omega arith };
-  row = record { turned = λ l. refl; forced = refl; unforced = λ z. refl; rest_unmarked = λ z. absurd (let l = above_zero d e in omega arith); stuck = λ l. rw (t.row.rest_unmarked (eqb-true v.demand 0 f), i.unmarked (eqb-true v.demand 0 f)) refl; marked = λ l m s. cc };
+  row = record {
+    turned = λ l. refl;
+    forced = refl;
+    unforced = λ z. refl;
+    rest_unmarked = λ z. absurd (let l = above_zero d e in omega arith);
+    stuck = λ l. rw (t.row.rest_unmarked (eqb-true v.demand 0 f), i.unmarked (eqb-true v.demand 0 f)) refl;
+    marked = λ l m s. cc;
+  };
   place = subst (λ (x : CommAt). CommTied x (asked_view v false true true true d wait)) (sym i.shut) tt;
   low = λ s l m. inl (refl, record { started = refl; due = omega arith });
   crossed = t.crossed;
@@ -224,8 +254,19 @@ asked_drive false true true start v d wait y e f g h i t = subst (λ (s : Bool).
 asked_drive false false true start v d wait y e f g h i t = subst (λ (s : Bool). DriveTied (asked_view v false false true s d wait)) (sym h) (record {
   switches = t.switches;
   newest = t.newest;
-  next = record { idle = λ z. absurd (let l = above_zero d e in omega arith); due = λ l. subst (λ (x : ℕ). ChangeTied x v.turn v.drive.change v.time) (sym (y refl)) (t.next.due (above_zero v.demand f)); first = λ s l. t.next.first s (above_zero v.demand f) };
-  row = record { turned = λ l. t.row.turned (above_zero v.demand f); forced = t.row.forced; unforced = t.row.unforced; rest_unmarked = λ z. absurd (let l = above_zero d e in omega arith); stuck = λ l. t.row.stuck (above_zero v.demand f); marked = λ l. t.row.marked (above_zero v.demand f) };
+  next = record {
+    idle = λ z. absurd (let l = above_zero d e in omega arith);
+    due = λ l. subst (λ (x : ℕ). ChangeTied x v.turn v.drive.change v.time) (sym (y refl)) (t.next.due (above_zero v.demand f));
+    first = λ s l. t.next.first s (above_zero v.demand f);
+  };
+  row = record {
+    turned = λ l. t.row.turned (above_zero v.demand f);
+    forced = t.row.forced;
+    unforced = t.row.unforced;
+    rest_unmarked = λ z. absurd (let l = above_zero d e in omega arith);
+    stuck = λ l. t.row.stuck (above_zero v.demand f);
+    marked = λ l. t.row.marked (above_zero v.demand f);
+  };
   place = subst (λ (x : CommAt). CommTied x (asked_view v false false true false d wait)) (sym i.shut) tt;
   low = λ s l m. inr (refl, kept (i.kept (above_zero v.demand f)));
   crossed = t.crossed;

@@ -25,11 +25,11 @@ use Rattle.esc_rooms.proofs.tick.Steps.{tick_steps_preserve}
 
 -- ---- time
 
-later : (at : TickAt) (read t u ticks : ℕ) → t ≤ u → TickTied at read t ticks → TickTied at read u ticks
-later tick.Shut read t u ticks le i = tt
-later tick.Raise read t u ticks le i = (let a : read < t / control_period = i.0 in omega arith, i.1)
-later tick.Read read t u ticks le i = (let a : read < t / control_period = i.0 in omega arith, i.1)
-later at read t u ticks le i = i
+ticks_later : (at : TickAt) (read t u ticks : ℕ) → t ≤ u → TickTied at read t ticks → TickTied at read u ticks
+ticks_later tick.Shut read t u ticks le i = tt
+ticks_later tick.Raise read t u ticks le i = (let a : read < t / control_period = i.0 in omega arith, i.1)
+ticks_later tick.Read read t u ticks le i = (let a : read < t / control_period = i.0 in omega arith, i.1)
+ticks_later at read t u ticks le i = i
 
 -- with the duty at 0 time brings no PWM event
 no_edge : (flag : Bool) (duty t u : ℕ) → duty ≡ 0 → flag ≡ false → (flag || has_edge duty t u) ≡ false
@@ -69,8 +69,12 @@ shut_at w none t = subst (λ (p : TickAt). DutyTied p w.bank.duty (demand_at w.b
 pub tick_law : HandlerLaw kind.Tick
 tick_law = record {
   called = λ w i s.
-      tick_due (waits_of w.core) w.bank (rw ((i.rest.ties kind.Tick).1, i.rest.ground.control.ties.number_is) (ltb-true (number_at w.back) (w.bank.time / control_period) s));
-  asked = λ w i. (tt, rw (sym i.rest.ground.control.ties.number_is, ← (i.rest.ties kind.Tick).1) (due_tick (waits_of w.core) w.bank (i.rest.ties kind.Tick).2 i.due));
+      tick_due (waits_of w.core) w.bank
+      (rw ((i.rest.ties kind.Tick).1, i.rest.ground.control.ties.number_is) (ltb-true (number_at w.back) (w.bank.time / control_period) s));
+  asked = λ w i. (
+    tt,
+    rw (sym i.rest.ground.control.ties.number_is, ← (i.rest.ties kind.Tick).1) (due_tick (waits_of w.core) w.bank (i.rest.ties kind.Tick).2 i.due),
+  );
   entered = λ w i. (
     (due_tick (waits_of w.core) w.bank (i.rest.ties kind.Tick).2 i.due, refl),
     (i.rest.ties kind.Tick).1,
@@ -113,7 +117,7 @@ tick_law = record {
     cmp_is = cmp_shut w.core.cmp_at (i.above kind.Cmp (omega arith));
   }) i.left;
   later = λ w u from small i. (
-    later w.core.tick_at w.bank.number_read w.bank.time u (so_far w).ticks from (i.ties kind.Tick).0,
+    ticks_later w.core.tick_at w.bank.number_read w.bank.time u (so_far w).ticks from (i.ties kind.Tick).0,
     (i.ties kind.Tick).1,
     (let r = (i.ties kind.Tick).2 in omega arith),
     (i.ties kind.Tick).3,

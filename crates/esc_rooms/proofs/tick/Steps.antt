@@ -36,7 +36,7 @@ use Rattle.esc_rooms.proofs.cmp.CrossFacts.{cross_retimed, driven_cross}
 use Rattle.commutation.specs.Drive.{turns_at, rests_at}
 use Rattle.esc_rooms.proofs.cap.Period.{period_retimed, period_off, rests_now}
 use Rattle.esc_rooms.proofs.tick.Preserves.{IsTick, ticks_tie, duty_tie, rest_tie, low_tie, flag_tie, tick_step_preserves}
-use Rattle.esc_rooms.proofs.tick.Control.{reads}
+use Rattle.esc_rooms.proofs.tick.Control.{tick_read_preserves}
 use Rattle.esc_laws.specs.NoteLaw as owed
 
 -- ---- all goes off
@@ -206,8 +206,8 @@ duty_on_preserves w outer i =
       ]) (i.ties kind.Comm);
     })
 
-start_preserves : (w : World) (outer : List Kind) → IsTick w outer tick.Start → StepKeeps kind.Tick outer w (tick_step tick.Start w.core w.bank)
-start_preserves w outer i =
+tick_start_preserves : (w : World) (outer : List Kind) → IsTick w outer tick.Start → StepKeeps kind.Tick outer w (tick_step tick.Start w.core w.bank)
+tick_start_preserves w outer i =
     let duty = duty_tie w outer tick.Start i in
     tick_step_preserves w outer tick.Start tick.Lower w.core.drive.gates w.core.hold w.bank.hi w.bank.lo w.bank.duty w.bank.flag (Some w.bank.time)
     (Writes reg.CommAt w.bank.time) i refl refl (record {
@@ -259,7 +259,21 @@ tick_return_preserves : (w : World) (outer : List Kind) → IsTick w outer tick.
 tick_return_preserves w outer i = record {
   gates = quiet_gates kind.Tick w _ (λ e. cc) refl refl refl;
   fits = λ told. (
-    record { at = refl; owned = refl; keeps = record { laws = elim [ owed.Windows ↦ λ e. cc | owed.Replies ↦ λ e. cc | owed.Drives ↦ λ e z. (told.hi_is ∙ (rest_tie w outer tick.Back i z).high_off, told.lo_is ∙ (rest_tie w outer tick.Back i z).low_off) | owed.Searches ↦ λ e. cc | owed.Nests ↦ (inside (so_far w).stack kind.Tick outer i.on, ticks_tie w outer tick.Back i) | l ↦ tt ]; waits = tt } },
+    record {
+      at = refl;
+      owned = refl;
+      keeps = record {
+        laws = elim [
+          | owed.Windows ↦ λ e. cc
+          | owed.Replies ↦ λ e. cc
+          | owed.Drives ↦ λ e z. (told.hi_is ∙ (rest_tie w outer tick.Back i z).high_off, told.lo_is ∙ (rest_tie w outer tick.Back i z).low_off)
+          | owed.Searches ↦ λ e. cc
+          | owed.Nests ↦ (inside (so_far w).stack kind.Tick outer i.on, ticks_tie w outer tick.Back i)
+          | l ↦ tt
+        ];
+        waits = tt;
+      };
+    },
     tt,
   );
   ground = ground_noted w (note.Leave (as_tick w.bank.time) 2) refl refl tt refl i.ground;
@@ -291,7 +305,7 @@ pub tick_steps_preserve : (place : TickAt) (w : World) (outer : List Kind) → I
     → StepKeeps kind.Tick outer w (tick_step place w.core w.bank)
 tick_steps_preserve tick.Shut w outer i left = absurd (omega arith)
 tick_steps_preserve tick.Raise w outer i left = tick_raise_preserves w outer i
-tick_steps_preserve tick.Read w outer i left = reads w.bank.stuck w outer refl i
+tick_steps_preserve tick.Read w outer i left = tick_read_preserves w.bank.stuck w outer refl i
 tick_steps_preserve (tick.Off off.High) w outer i left = off_high_preserves w outer i
 tick_steps_preserve (tick.Off off.Low) w outer i left = off_low_preserves w outer i
 tick_steps_preserve (tick.Off off.Over) w outer i left = absurd (rest_tie w outer (tick.Off off.Over) i (duty_tie w outer (tick.Off off.Over) i))
@@ -299,6 +313,6 @@ tick_steps_preserve tick.DutyOff w outer i left = duty_off_preserves w outer i
 tick_steps_preserve tick.DriveOff w outer i left = drive_off_preserves w outer i
 tick_steps_preserve (tick.DutyOn true) w outer i left = duty_start_preserves w outer i
 tick_steps_preserve (tick.DutyOn false) w outer i left = duty_on_preserves w outer i
-tick_steps_preserve tick.Start w outer i left = start_preserves w outer i
+tick_steps_preserve tick.Start w outer i left = tick_start_preserves w outer i
 tick_steps_preserve tick.Lower w outer i left = tick_lower_preserves w outer i
 tick_steps_preserve tick.Back w outer i left = tick_return_preserves w outer i
