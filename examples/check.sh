@@ -3,11 +3,9 @@
 # standard error with NAME.error (none where that file isn't there). Ends with status 1 and the name at the first
 # difference. AM32SIM names another program than the repository's own.
 here=$(cd "$(dirname "$0")" && pwd) || exit 1
-program=${AM32SIM:-$here/../am32sim}
+program=${AM32SIM:-$("$here/../am32sim" path)} || exit 1
 work=$(mktemp -d) || exit 1
 trap 'rm -rf "$work"' EXIT
-# The first use of the repository's own program builds it and says so; that text is no part of a sample.
-echo "0 END" | "$program" run >"$work/journal" || exit 1
 count=0
 for trace in "$here"/*.trace; do
     sample=${trace%.trace}

@@ -4,7 +4,7 @@ use std::fs::{self, Files};
 use std::io::{self, ErrorKind, Read};
 
 /// What was noticed at the input's front, for a hint where a line is refused.
-#[derive(Clone, Copy, Debug, PartialEq, Eq, Drop)]
+#[derive(Clone, Copy, Drop)]
 pub struct Noticed {
     /// It begins with the three bytes of a byte order mark.
     pub has_mark: bool,
@@ -57,7 +57,7 @@ fn ends_with_return(front: &[u8]) -> bool {
 }
 
 /// Why an input isn't opened.
-#[derive(Clone, Copy, Debug, PartialEq, Eq, Drop)]
+#[derive(Clone, Copy, Drop)]
 pub enum Unopened {
     Missing,
     Folder,

@@ -2,7 +2,7 @@
 use std::alloc::Global;
 
 /// An option that a program takes.
-#[derive(Clone, Copy, Debug, PartialEq, Eq, Drop)]
+#[derive(Clone, Copy, Drop)]
 pub struct Rule {
     /// Its name, with the two dashes.
     pub name: &'static str,
@@ -11,7 +11,7 @@ pub struct Rule {
 }
 
 /// A word of a command line that nothing takes, what was expected there, and the value that was found, where it is the value.
-#[derive(Clone, Copy, Debug, PartialEq, Eq, Drop)]
+#[derive(Clone, Copy, Drop)]
 pub struct Misuse<'a> {
     pub word: &'a str,
     pub expected: &'static str,
@@ -19,7 +19,7 @@ pub struct Misuse<'a> {
 }
 
 /// Why a command line isn't read.
-#[derive(Clone, Copy, Debug, PartialEq, Eq, Drop)]
+#[derive(Clone, Copy, Drop)]
 pub enum Unread<'a> {
     Misused(Misuse<'a>),
     /// Memory was refused.
@@ -34,7 +34,7 @@ struct Given<'a> {
 }
 
 /// The word that is no option, and its place among the words, from 0.
-#[derive(Clone, Copy, Debug, PartialEq, Eq, Drop)]
+#[derive(Clone, Copy, Drop)]
 pub struct Operand<'a> {
     pub word: &'a str,
     pub place: usize,

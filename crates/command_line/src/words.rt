@@ -2,7 +2,7 @@
 use std::{env, io};
 
 /// Why there are no words.
-#[derive(Clone, Copy, Debug, PartialEq, Eq, Drop)]
+#[derive(Clone, Copy, Drop)]
 pub enum NoWords {
     /// One of them isn't text.
     NotText,
@@ -24,7 +24,7 @@ pub fn words_of(rt: &HostRuntime) -> Result<Vec<String>, NoWords> {
 }
 
 /// What is answered before anything else.
-#[derive(Clone, Copy, Debug, PartialEq, Eq, Drop)]
+#[derive(Clone, Copy, Drop)]
 pub enum Answer {
     Help,
     Version,
