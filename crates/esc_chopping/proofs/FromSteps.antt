@@ -134,7 +134,7 @@ turn_is loaded cost trace before k false t ns i =
 
 -- ---- the link after a step
 
-abbrev step_of : Kind → Bool → ℕ → List Note → Turned
+abbrev pub step_of : Kind → Bool → ℕ → List Note → Turned
 step_of k en t ns = record { tick = t; kind = k; enters = en; notes = ns }
 
 sorted_own : (stack : List Kind) (back : Bool) → IsStack stack → IsStack (if back then outer_ones stack else stack)

@@ -2,7 +2,7 @@
 use Rattle.std.proofs.Common.{◌≡◌, ◌≤◌, ◌<◌, ◌+◌, ◌-◌, ◌*◌, ◌⊎◌, inl, inr, ℕ, Bool, true, false, List, [], ◌∷◌, ◌++◌, refl, sym, ◌∙◌, subst, arith, append-nil}
 use Rattle.std.proofs.lemmas.Nat.{mul-le}
 use Rattle.std.proofs.lemmas.Bool.{cases_lt}
-use Rattle.esc_base.specs.Times.{chopping_steps, pwm_period}
+use Rattle.esc_base.specs.Times.{chopping_steps, pwm_period, dead_time}
 use Rattle.esc_base.specs.Legs.{is_on}
 use Rattle.commutation.specs.Sectors.{low_of}
 use Rattle.esc_base.specs.declared.event.Event.{Event}
@@ -66,7 +66,7 @@ module _ (cost : ℕ) (trace : List Event) (log : List Turned) (m d s until t : 
     pub c : ℕ
     pub left : (view before).comm ≡ true → (24 ≤ (view before).comm_own + c) × (after cost trace before + c * cost < pwm_period * m + 25 * cost)
         × (c * cost < 25 * cost)
-    pub soon : after cost trace before < pwm_period * m + 40 * cost
+    pub soon : after cost trace before < pwm_period * m + (chopping_steps - 8) * cost
 
   -- the low switch is off, and calls COMM
   pub record Waiting (before : List Turned) : Type 0 where
@@ -75,7 +75,7 @@ module _ (cost : ℕ) (trace : List Event) (log : List Turned) (m d s until t : 
     pub same : x < pwm_period * m + pwm_period → after cost trace before ≡ x
     pub r : ℕ
     pub counts : 9 ≤ (view before).comm_waits + r
-    pub by_next : x + r * cost < pwm_period * m + 49 * cost
+    pub by_next : x + r * cost < pwm_period * m + (chopping_steps + 1) * cost
     pub by_start : r * cost < 10 * cost
     pub off : is_on (view before).lo (low_of s) ≡ false
     pub shut : (view before).comm ≡ false
@@ -88,19 +88,19 @@ module _ (cost : ℕ) (trace : List Event) (log : List Turned) (m d s until t : 
   record Inside (w : ℕ) (before : List Turned) : Type 0 where
     pub demand : (view before).demand ≡ d
     pub sector : (view before).sector ≡ s
-    pub low_free : at_leg (view before).hi_free (low_of s) ≤ pwm_period * m + 39
+    pub low_free : at_leg (view before).hi_free (low_of s) ≤ pwm_period * m + (dead_time - 9)
 
   inside : (w : ℕ) (before rest : List Turned) → log ≡ before ++ rest → AllBy w before → FirstAbove w rest → pwm_period * m ≤ w + 1
       → w < pwm_period * m + pwm_period
       → Inside w before
-  inside w before rest e b f lo hi = named (subst (λ (v : View). (v.demand ≡ d) × (v.sector ≡ s) × (at_leg v.hi_free (low_of s) ≤ pwm_period * m + 39))
+  inside w before rest e b f lo hi = named (subst (λ (v : View). (v.demand ≡ d) × (v.sector ≡ s) × (at_leg v.hi_free (low_of s) ≤ pwm_period * m + (dead_time - 9)))
       (at_split w log before rest e b f) (u.demand w (omega arith) hi, u.sector w lo hi, u.low_free w lo hi))
     where
-      named : ((view before).demand ≡ d) × ((view before).sector ≡ s) × (at_leg (view before).hi_free (low_of s) ≤ pwm_period * m + 39) → Inside w before
+      named : ((view before).demand ≡ d) × ((view before).sector ≡ s) × (at_leg (view before).hi_free (low_of s) ≤ pwm_period * m + (dead_time - 9)) → Inside w before
       named h = record { demand = h.0; sector = h.1; low_free = h.2 }
 
   abbrev pub State : List Turned → Type 0
-  State before = Before before ⊎ ((pwm_period * m + 39 * cost ≤ after cost trace before) × (Waiting before ⊎ Done before))
+  State before = Before before ⊎ ((pwm_period * m + (chopping_steps - 9) * cost ≤ after cost trace before) × (Waiting before ⊎ Done before))
 
   -- an open COMM passes no tick
   open_passes : (before : List Turned) (z y : ℕ) → NonePassed cost trace before z → (view before).comm ≡ true → after cost trace before ≤ y → pwm_period * m ≤ y
@@ -108,7 +108,7 @@ module _ (cost : ℕ) (trace : List Event) (log : List Turned) (m d s until t : 
   open_passes before z y none o a b c f = let r = (none y a c (free_in y b f)).comm in cc
 
   -- so it is shut by then
-  shut_by : (before : List Turned) (z : ℕ) → NonePassed cost trace before z → pwm_period * m + 39 * cost ≤ z → Before before → (v : Bool)
+  shut_by : (before : List Turned) (z : ℕ) → NonePassed cost trace before z → pwm_period * m + (chopping_steps - 9) * cost ≤ z → Before before → (v : Bool)
       → (view before).comm ≡ v
       → (view before).comm ≡ false
   shut_by before z none le b false e = e
@@ -136,10 +136,10 @@ module _ (cost : ℕ) (trace : List Event) (log : List Turned) (m d s until t : 
   })
 
   wait_passes : (before : List Turned) (z y w : ℕ) → NonePassed cost trace before z → Inside w before → (i : Waiting before) → i.x ≤ y
-      → pwm_period * m + 39 * cost ≤ y → y < z → y < pwm_period * m + pwm_period → ⊥
+      → pwm_period * m + (chopping_steps - 9) * cost ≤ y → y < z → y < pwm_period * m + pwm_period → ⊥
   wait_passes before z y w none n i a b c f =
       let same : after cost trace before ≡ i.x = i.same (omega arith) in
-      let call = low_calls d s (pwm_period * m + 39) y (view before) u.drives n.demand n.sector i.off n.low_free (omega arith) i.shut in
+      let call = low_calls d s (pwm_period * m + (dead_time - 9)) y (view before) u.drives n.demand n.sector i.off n.low_free (omega arith) i.shut in
       let r = (none y (omega arith) c (free_in y (omega arith) f)).comm_called in cc
 
   -- it doesn't wait for long
@@ -148,20 +148,20 @@ module _ (cost : ℕ) (trace : List Event) (log : List Turned) (m d s until t : 
   wait_ends before z w none n p l i =
       let some : 1 ≤ i.r = (let a = p.comm_patient in let b = i.counts in omega arith) in
       let g : 1 * cost ≤ i.r * cost = mul-le 1 cost i.r cost some (omega arith) in
-      let b : i.x + i.r * cost < pwm_period * m + 49 * cost = i.by_next in
-      elim (cases_lt i.x (pwm_period * m + 39 * cost)) [
-        | inl lt ↦ wait_passes before z (pwm_period * m + 39 * cost) w none n i (omega arith) (omega arith) (omega arith) (omega arith)
+      let b : i.x + i.r * cost < pwm_period * m + (chopping_steps + 1) * cost = i.by_next in
+      elim (cases_lt i.x (pwm_period * m + (chopping_steps - 9) * cost)) [
+        | inl lt ↦ wait_passes before z (pwm_period * m + (chopping_steps - 9) * cost) w none n i (omega arith) (omega arith) (omega arith) (omega arith)
         | inr ge ↦ wait_passes before z i.x w none n i (omega arith) ge (omega (arith, g)) (omega (arith, g))
       ]
 
   at_next : (before : List Turned) (z w : ℕ) → NonePassed cost trace before z → Inside w before → (i : Waiting before) → z ≤ t → (z ≤ i.x)
-      ⊎ (z ≤ pwm_period * m + 39 * cost)
+      ⊎ (z ≤ pwm_period * m + (chopping_steps - 9) * cost)
   at_next before z w none n i le = elim (cases_lt i.x z) [
     | inr a ↦ inl a
-    | inl a ↦ elim (cases_lt (pwm_period * m + 39 * cost) z) [
+    | inl a ↦ elim (cases_lt (pwm_period * m + (chopping_steps - 9) * cost) z) [
       | inr b ↦ inr b
-      | inl b ↦ absurd (elim (cases_lt i.x (pwm_period * m + 39 * cost)) [
-        | inl c ↦ wait_passes before z (pwm_period * m + 39 * cost) w none n i (omega arith) (omega arith) b (omega arith)
+      | inl b ↦ absurd (elim (cases_lt i.x (pwm_period * m + (chopping_steps - 9) * cost)) [
+        | inl c ↦ wait_passes before z (pwm_period * m + (chopping_steps - 9) * cost) w none n i (omega arith) (omega arith) b (omega arith)
         | inr c ↦ wait_passes before z i.x w none n i (omega arith) c a (omega arith)
       ])
     ]
@@ -195,9 +195,9 @@ module _ (cost : ℕ) (trace : List Event) (log : List Turned) (m d s until t : 
       let c = moved_comm (view before) e.tick (by_of e) turn none in let same = same_after before e in
       record { shut = λ a. same.comm ∙ c.shut a; more = λ a. (let b = c.more a in (same.comm_own ∙ b.0, b.1)) }
 
-  -- a step before p + 39 cost
+  -- a step before p + (dead_time - 9) cost
   early_step : (before rest : List Turned) (e : Turned) → log ≡ before ++ (e ∷ rest) → EachStep (StepMade cost trace) before (e ∷ rest)
-      → NoComm (pwm_period * m) before e → Past cost trace before → e.tick < pwm_period * m + 39 * cost → e.tick ≤ t → Before before → Before (before ++ e ∷ [])
+      → NoComm (pwm_period * m) before e → Past cost trace before → e.tick < pwm_period * m + (chopping_steps - 9) * cost → e.tick ≤ t → Before before → Before (before ++ e ∷ [])
   early_step before rest e h f none past lt le b = elim (cases_lt e.tick (pwm_period * m)) [
     | inl l ↦ (
         let x : after cost trace (before ++ e ∷ []) < pwm_period * m + cost =
@@ -255,9 +255,9 @@ module _ (cost : ℕ) (trace : List Event) (log : List Turned) (m d s until t : 
       goes tick l (inl a) q z x = omega arith
       goes tick l (inr a) q z x = omega arith
 
-  -- a step from p + 39 cost on
+  -- a step from p + (dead_time - 9) cost on
   late_step : (before rest : List Turned) (e : Turned) → log ≡ before ++ (e ∷ rest) → EachStep (StepMade cost trace) before (e ∷ rest) → DriveFits before e
-      → NoComm (pwm_period * m) before e → Past cost trace before → pwm_period * m + 39 * cost ≤ e.tick → e.tick ≤ t
+      → NoComm (pwm_period * m) before e → Past cost trace before → pwm_period * m + (chopping_steps - 9) * cost ≤ e.tick → e.tick ≤ t
       → Placed cost (after cost trace before) (view before) → Waiting before ⊎ Done before → Waiting (before ++ e ∷ []) ⊎ Done (before ++ e ∷ [])
   late_step before rest e h f g none past ge le p st =
       let s' = steps before rest e h f none past (omega arith) le in
@@ -274,8 +274,8 @@ module _ (cost : ℕ) (trace : List Event) (log : List Turned) (m d s until t : 
           let same = g.quiet_low some (not_comm (view before) (by_of e) f.0.turn i.shut) in
           let off : is_on (view (before ++ e ∷ [])).lo (low_of s) ≡ false = rw same i.off in
           let n = s'.inside in let n' = s'.inside_after in
-          let c1 = low_calls d s (pwm_period * m + 39) e.tick (view before) u.drives n.demand n.sector i.off n.low_free (omega arith) i.shut in
-          let c2 = low_calls d s (pwm_period * m + 39) e.tick (view (before ++ e ∷ [])) u.drives n'.demand n'.sector off n'.low_free (omega arith)
+          let c1 = low_calls d s (pwm_period * m + (dead_time - 9)) e.tick (view before) u.drives n.demand n.sector i.off n.low_free (omega arith) i.shut in
+          let c2 = low_calls d s (pwm_period * m + (dead_time - 9)) e.tick (view (before ++ e ∷ [])) u.drives n'.demand n'.sector off n'.low_free (omega arith)
           (cl.shut i.shut) in
           let more : (view (before ++ e ∷ [])).comm_waits ≡ (view before).comm_waits + 1 = waits_after before e
           ∙ both_called (comm_called (view before) e.tick) (comm_called (view (before ++ e ∷ [])) e.tick) (view before).comm_waits c1 c2 in
@@ -295,8 +295,8 @@ module _ (cost : ℕ) (trace : List Event) (log : List Turned) (m d s until t : 
             shut = cl.shut i.shut;
           })
         where
-          goes : (tick x r r' : ℕ) → r * cost + cost ≤ r' * cost → (tick ≤ x) ⊎ (tick ≤ pwm_period * m + 39 * cost) → x + r' * cost < pwm_period * m + 49 * cost
-              → r' * cost < 10 * cost → tick + cost + r * cost < pwm_period * m + 49 * cost
+          goes : (tick x r r' : ℕ) → r * cost + cost ≤ r' * cost → (tick ≤ x) ⊎ (tick ≤ pwm_period * m + (chopping_steps - 9) * cost) → x + r' * cost < pwm_period * m + (chopping_steps + 1) * cost
+              → r' * cost < 10 * cost → tick + cost + r * cost < pwm_period * m + (chopping_steps + 1) * cost
           goes tick x r r' l (inl a) q z = omega arith
           goes tick x r r' l (inr a) q z = omega arith
 
@@ -334,11 +334,11 @@ module _ (cost : ℕ) (trace : List Event) (log : List Turned) (m d s until t : 
           (is_on (view before).lo (low_of s)) refl)
       ends lt (inr (a, y)) = by lt y
 
-      above : pwm_period * m + 39 * cost ≤ e.tick → pwm_period * m + 39 * cost ≤ after cost trace (before ++ e ∷ [])
+      above : pwm_period * m + (chopping_steps - 9) * cost ≤ e.tick → pwm_period * m + (chopping_steps - 9) * cost ≤ after cost trace (before ++ e ∷ [])
       above ge = let l = free_later trace (e.tick + cost) in rw (after-push cost trace before e) (omega arith)
 
       goes : e.tick ≤ t → State before → State (before ++ e ∷ [])
-      goes le (inl b) = elim (cases_lt e.tick (pwm_period * m + 39 * cost)) [
+      goes le (inl b) = elim (cases_lt e.tick (pwm_period * m + (chopping_steps - 9) * cost)) [
         | inl l ↦ inl (early_step before rest e h f none.0 past l le b)
         | inr ge ↦ inr (
           above ge,
@@ -348,5 +348,5 @@ module _ (cost : ℕ) (trace : List Event) (log : List Turned) (m d s until t : 
       ]
       goes le (inr (a, y)) =
           let l : after cost trace before ≤ e.tick = f.0.later in
-          let ge : pwm_period * m + 39 * cost ≤ e.tick = omega arith in
+          let ge : pwm_period * m + (chopping_steps - 9) * cost ≤ e.tick = omega arith in
           inr (above ge, late_step before rest e h f g.0 none.0 past ge le p y)

@@ -3,7 +3,7 @@ use Rattle.std.proofs.Common.{◌≡◌, ◌≤◌, ◌<◌, ◌+◌, ◌-◌, �
 use Rattle.std.specs.List.{fold}
 use Rattle.std.proofs.lemmas.Bool.{cases_lt}
 use Rattle.std.proofs.lemmas.Bool.Decides.{nat_tests}
-use Rattle.esc_base.specs.Times.{pwm_period}
+use Rattle.esc_base.specs.Times.{pwm_period, dead_time}
 use Rattle.esc_base.specs.declared.gate.Leg.{Leg}
 use Rattle.esc_base.specs.declared.note.Note.{Note}
 use Rattle.esc_base.specs.Legs.{is_on}
@@ -40,7 +40,7 @@ low_off v p = off_is (is_on v.lo (high_of v.sector)) (λ e. let h = p.low (high_
 
 pub record Static (last : ℕ) (v : View) : Type 0 where
   pub pair : InPair v
-  pub free : 0 < v.sector → at_leg v.hi_free (low_of v.sector) ≤ v.stepped + 40
+  pub free : 0 < v.sector → at_leg v.hi_free (low_of v.sector) ≤ v.stepped + (dead_time - 8)
   pub stepped : v.stepped ≤ last
 
 static_note : (last : ℕ) (v : View) (n : Note) → NoteFits v n → InPair (told_by v n) → AllAt last (n ∷ []) → (u : ℕ) → last ≤ u → Static u v
@@ -92,7 +92,7 @@ static_next u before e l f a s =
 pub record Held (p s : ℕ) (v : View) : Type 0 where
   pub pair : InPair v
   pub sector : v.sector ≡ s
-  pub low_free : at_leg v.hi_free (low_of s) ≤ p + 39
+  pub low_free : at_leg v.hi_free (low_of s) ≤ p + (dead_time - 9)
   pub high_free : at_leg v.lo_free (high_of s) ≤ p
 
 held_note : (p s : ℕ) (v : View) (n : Note) → NoSteps (n ∷ []) → InPair (told_by v n) → Held p s v → Held p s (told_by v n)
@@ -161,9 +161,9 @@ module _ (cost : ℕ) (trace : List Event) (log : List Turned) (p s u : ℕ) (on
   begins before rest h all above st =
       let same : at_tick (p - 1) log ≡ view before = at_split (p - 1) log before rest h all above in
       let sec : (view before).sector ≡ s = ap (λ (v : View). v.sector) (sym same) ∙ sector in
-      let l : at_leg (view before).hi_free (low_of (view before).sector) ≤ (view before).stepped + 40 = st.free (omega arith) in
-      let l' : at_leg (view before).hi_free (low_of s) ≤ (view before).stepped + 40 =
-      subst (λ (z : ℕ). at_leg (view before).hi_free (low_of z) ≤ (view before).stepped + 40) sec l in
+      let l : at_leg (view before).hi_free (low_of (view before).sector) ≤ (view before).stepped + (dead_time - 8) = st.free (omega arith) in
+      let l' : at_leg (view before).hi_free (low_of s) ≤ (view before).stepped + (dead_time - 8) =
+      subst (λ (z : ℕ). at_leg (view before).hi_free (low_of z) ≤ (view before).stepped + (dead_time - 8)) sec l in
       let k = st.stepped in
       record { pair = st.pair; sector = sec; low_free = omega arith; high_free = subst (λ (v : View). at_leg v.lo_free (high_of s) ≤ p) same free }
 

@@ -1,7 +1,7 @@
 -- What an undisturbed period gives at each of its ticks, for the high switch and for the low one.
 use Rattle.std.specs.Prelude.{◌≡◌, ◌≤◌, ◌<◌, ◌+◌, ◌-◌, ◌*◌, ℕ, true, List, []}
 use Rattle.commutation.specs.Sectors.{low_of}
-use Rattle.esc_base.specs.Times.{chopping_steps, most_duty, pwm_period}
+use Rattle.esc_base.specs.Times.{chopping_steps, most_duty, pwm_period, dead_time}
 use Rattle.esc_base.specs.declared.event.Event.{Event}
 use Rattle.esc_chopping.specs.Stalls.{NoStall}
 use Rattle.esc_laws.specs.Steps.{Turned, EachStep}
@@ -21,4 +21,4 @@ pub record Calm (cost : ℕ) (trace : List Event) (log : List Turned) (m d s : �
   pub none_enters : EachStep (NoComm (pwm_period * m)) [] log
   -- the high switch may turn on, and so may the low one, soon
   pub allowed : (u : ℕ) → pwm_period * m ≤ u + 1 → u < pwm_period * m + pwm_period → may_chop (at_tick u log) (u + 1) ≡ true
-  pub low_free : (u : ℕ) → pwm_period * m ≤ u + 1 → u < pwm_period * m + pwm_period → at_leg (at_tick u log).hi_free (low_of s) ≤ pwm_period * m + 39
+  pub low_free : (u : ℕ) → pwm_period * m ≤ u + 1 → u < pwm_period * m + pwm_period → at_leg (at_tick u log).hi_free (low_of s) ≤ pwm_period * m + (dead_time - 9)

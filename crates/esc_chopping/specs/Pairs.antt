@@ -1,6 +1,6 @@
 -- Only switches of the newest sector's pair are on (as `Driven` says), and at a change of sector the new pair's low leg is nearly free.
-use Rattle.std.specs.Prelude.{◌≡◌, ◌≤◌, ◌<◌, ◌+◌, ℕ, true, List, [], ◌∷◌}
-use Rattle.esc_base.specs.Times.{pwm_period}
+use Rattle.std.specs.Prelude.{◌≡◌, ◌≤◌, ◌<◌, ◌+◌, ◌-◌, ℕ, true, List, [], ◌∷◌}
+use Rattle.esc_base.specs.Times.{pwm_period, dead_time}
 use Rattle.esc_base.specs.declared.gate.Leg.{Leg}
 use Rattle.esc_base.specs.declared.note.Note.{Note}
 use Rattle.esc_base.specs.Legs.{is_on}
@@ -18,7 +18,7 @@ pub record InPair (v : View) : Type 0 where
 
 -- at a Q the high switch of the new pair's low leg has been off for 8 ticks
 abbrev pub NoteFits : View → Note → Type 0
-NoteFits v (note.Step t s) = (at_leg v.hi_free (low_of s) ≤ t.0 + 40) × (0 < s)
+NoteFits v (note.Step t s) = (at_leg v.hi_free (low_of s) ≤ t.0 + (dead_time - 8)) × (0 < s)
 NoteFits v n = Unit {0}
 
 -- at each note of a step

@@ -72,7 +72,8 @@ save_stays_asked main.Work o a saves m = (obeyed_save o a m.0, m.1)
     obeyed_save o (Some (Extended is_on)) e = e
     obeyed_save o (Some (Spin side)) e = e
 
-judge_good_preserves : (o : Option Act) (x : World) (outer : List Kind) (frame : Frame) (w m : ℕ) → Ground x → PeriodTie x → WindowSound x.bank.window x.bank.time
+judge_good_preserves : (o : Option Act) (x : World) (outer : List Kind) (frame : Frame) (w m : ℕ) → Ground x → PeriodTie x
+    → WindowSound x.bank.window x.bank.time
     → (so_far x).signal ≡ Listens w m → IsClosing (cap_seen x) w m → x.core.burst ≡ x.bank.window.edges
     → AnswersAt x.loaded x.trace (so_far x).signal (so_far x).cap_entered x.bank.time (verdict_note x.bank.time (Good frame))
     → (so_far x).stack ≡ kind.Cap ∷ outer → x.core.comm_at ≡ comm.Shut

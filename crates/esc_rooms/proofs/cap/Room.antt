@@ -45,7 +45,8 @@ cap_later w u from t = (
   t.3,
 )
 
-cap_other_event : (w : World) (e : Event) → line (w.trace ++ e ∷ []) ≡ line w.trace → w.bank.time ≤ tick_of e → CapTie w → CapTie (record w { trace = w.trace ++ e ∷ [] })
+cap_other_event : (w : World) (e : Event) → line (w.trace ++ e ∷ []) ≡ line w.trace → w.bank.time ≤ tick_of e → CapTie w
+    → CapTie (record w { trace = w.trace ++ e ∷ [] })
 cap_other_event w e same le t = (
   signal_follows (so_far w).signal w.core.cap_at (cap_seen w) (cap_view (w.trace ++ e ∷ []) w.core w.bank (so_far w))
       (plain_follows w.trace e w.core w.bank (so_far w) same le) t.0,

@@ -263,7 +263,8 @@ cap_steps_preserve (Owes w m) cap.Period x outer g per sound e k timer past on s
     cap_period_preserves x outer w m g per sound e k.0 k.1 (period_read_told x per shut need) on
 cap_steps_preserve (Tells w m told) (cap.Reply period) x outer g per sound e k timer past on shut need left =
     cap_reply_preserves x outer w m told period g per sound e k.0 k.1.0 k.1.1 on
-cap_steps_preserve (Replies end) (cap.Pause at) x outer g per sound e k timer past on shut need left = cap_replied_preserves x outer end at g per sound e k.0 k.1 on
+cap_steps_preserve (Replies end) (cap.Pause at) x outer g per sound e k timer past on shut need left =
+    cap_replied_preserves x outer end at g per sound e k.0 k.1 on
 cap_steps_preserve (Rests from latest r) cap.Start x outer g per sound e k timer past on shut need left =
     if_true x.core.paused kind.Cap outer x _ _ k.paused (cap_open_preserves x outer (Rests from latest r) g per e
     (record { rested = k.rested; entered_before = k.entered }) k.no_timer (inr (k.no_verdict, k.no_window)) on)

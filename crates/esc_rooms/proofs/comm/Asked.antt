@@ -7,7 +7,6 @@ use Rattle.esc_base.specs.Times.{is_reached}
 use Rattle.arming.specs.ControlAt.{demand_at}
 use Rattle.commutation.specs.Sectors.{low_of}
 use Rattle.commutation.specs.Commutated.{Turn, Idle, Started, Turned, Crossed, sector_at, turn_at}
-use Rattle.gate_driver.specs.declared.to_sector.ChangeAt.TheVariants as change
 use Rattle.gate_driver.specs.DeadSafe.{high_free_at}
 use Rattle.esc_core.specs.declared.state.CommAt.TheVariants as comm
 use Rattle.esc_core.specs.Drive.{low_free, due_at}

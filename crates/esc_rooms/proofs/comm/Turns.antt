@@ -2,7 +2,7 @@
 use Rattle.std.proofs.Common.{◌≡◌, ◌≤◌, ◌<◌, ◌+◌, ◌-◌, inl, inr, ℕ, zero, suc, min, Bool, true, false, ◌&&◌, ◌||◌, ◌==◌, nat_le, bit_and, if◌then◌else◌, List, ◌∷◌, take, refl, sym, ◌∙◌, ap, subst, arith}
 use Rattle.std.proofs.lemmas.Bool.{cases_lt, leb-true, leb-false, le-leb}
 use Rattle.std.proofs.lemmas.Bool.Decides.{nat_tests}
-use Rattle.esc_base.specs.Times.{forced_limit, stuck_changes}
+use Rattle.esc_base.specs.Times.{forced_limit, stuck_changes, dead_time}
 use Rattle.esc_base.specs.declared.kind.Kind.{Kind}
 use Rattle.esc_base.specs.declared.kind.Kind.TheVariants as kind
 use Rattle.esc_base.specs.declared.note.Note.{Note}
@@ -46,6 +46,7 @@ use Rattle.esc_rooms.proofs.cap.Period.{period_turned, newest_turn}
 use Rattle.esc_rooms.proofs.shared.RoomSteps.{ground_noted, quiet_gates, inside}
 use Rattle.esc_rooms.proofs.shared.DriveFacts.{pair_apart}
 use Rattle.zero_cross.specs.declared.phase.Phase.TheVariants as phase
+use Rattle.esc_base.specs.Times.{least_blanking}
 use Rattle.zero_cross.specs.Sector.{blanking_of, level_of}
 use Rattle.zero_cross.specs.Kept.{Kept, after_begin}
 use Rattle.commutation.specs.Pace.{Pace, wait_of}
@@ -271,10 +272,10 @@ resumes_pwm (pwm.Run chop.Lower) own sampled demand sector sector' l t = absurd 
 
 -- at a Q the high switch of the new pair's low leg has been off for 8 ticks
 long_off : (w : World) (outer : List Kind) → IsComm w outer comm.Turn change.SetSector
-    → at_leg w.core.drive.gates.hi_free (low_of w.core.drive.turn.to) ≤ w.bank.time + 40
+    → at_leg w.core.drive.gates.hi_free (low_of w.core.drive.turn.to) ≤ w.bank.time + (dead_time - 8)
 long_off w outer i = by_sector w.bank.sector refl
   where
-    by_sector : (s : ℕ) → w.bank.sector ≡ s → at_leg w.core.drive.gates.hi_free (low_of w.core.drive.turn.to) ≤ w.bank.time + 40
+    by_sector : (s : ℕ) → w.bank.sector ≡ s → at_leg w.core.drive.gates.hi_free (low_of w.core.drive.turn.to) ≤ w.bank.time + (dead_time - 8)
     by_sector zero z = (let e = (i.ties kind.Comm).switches.unused z (low_of w.core.drive.turn.to) in omega arith)
     by_sector (suc n) z =
         let t = i.ties kind.Comm in
@@ -296,7 +297,10 @@ begins_cross w outer i u =
     (level_of (forward_at w.loaded.settings w.back) w.core.drive.turn.to) (λ since. 0) refl (λ e. cc)
     (cmp_unmasked w.core.cmp_at (i.alone kind.Cmp (λ e. cc))) (tick_unmasked w.core.tick_at (i.alone kind.Tick (λ e. cc)))
     (ap (λ (p : Pace). phase.Blank (as_tick (w.bank.time + blanking_of p.interval))) u.pace_is)
-    (ap (λ (f : Bool). level_of f w.core.drive.turn.to) (direction_is w i.ground)) (λ since. refl) u
+    (ap (λ (f : Bool). level_of f w.core.drive.turn.to) (direction_is w i.ground)) (λ since. refl) (long (interval_at w.back)) u
+  where
+    long : (interval : ℕ) → w.bank.time + least_blanking ≤ w.bank.time + blanking_of interval
+    long interval = omega arith
 
 pub set_sector_preserves : (w : World) (outer : List Kind) → IsComm w outer comm.Turn change.SetSector
     → StepKeeps kind.Comm outer w (turn_step change.SetSector w.core w.bank)

@@ -91,7 +91,8 @@ own_told loaded nest cost trace c c' b b' stack stack' log notes k outer did ans
     let told = notes_are ∙ own_are k b b' (stepped_by k answers c b) did c' i in
     let left = open_is ∙ left_is k outer did (stepped_by k answers c b).over i.over_is in
     rw (i.core_is, i.bank_is, left, told) (own_turn loaded nest cost trace c b outer log k answers some
-    (given_by k c b answers (steady k c b (k ∷ outer) l'.keeps refl) asked) l' none' (rw (← own_are k b b' (stepped_by k answers c b) did c' i) (own_few b.hi b.lo b' k did)))
+    (given_by k c b answers (steady k c b (k ∷ outer) l'.keeps refl) asked) l' none'
+    (rw (← own_are k b b' (stepped_by k answers c b) did c' i) (own_few b.hi b.lo b' k did)))
 
 pub turn_logged : (loaded : Loaded) (nest : Nest) (cost : ℕ) (trace : List Event) (c c' : Brain) (b b' : Bank) (flash flash' : Told)
     (stack stack' : List Kind) (log : List Turned) (notes : List Note)

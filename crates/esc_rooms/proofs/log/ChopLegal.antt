@@ -41,7 +41,7 @@ use Rattle.esc_laws.proofs.Notes.{all_front}
 use Rattle.esc_chopping.proofs.Pushes.{view-push, view-none}
 use Rattle.esc_chopping.proofs.High.{same_after}
 use Rattle.esc_chopping.proofs.OfJournal.{Says, says_all, says_note, says_moved}
-use Rattle.esc_chopping.proofs.FromSteps.{chopped_of}
+use Rattle.esc_chopping.proofs.FromSteps.{chopped_of, step_of}
 use Rattle.std.proofs.lemmas.Bool.{leb-true}
 use Rattle.arming.proofs.InOrder.{reverse-push}
 use Rattle.std.proofs.lemmas.Bool.{not-true}
@@ -52,9 +52,6 @@ record Agrees (v : View) (m : Made) (own : ℕ) : Type 0 where
   own_is : v.pwm_own ≡ m.pwm_own
   sampled_is : v.sampled ≡ m.sampled
   counted : m.pwm_own ≡ own
-
-abbrev step_of : Kind → Bool → ℕ → List Note → Turned
-step_of k en t ns = record { tick = t; kind = k; enters = en; notes = ns }
 
 -- what a step makes of both
 moves : (v : View) (m : Made) (own : ℕ) (k : Kind) (en l : Bool) (t : ℕ) → Agrees v m own

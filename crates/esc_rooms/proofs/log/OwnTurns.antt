@@ -66,7 +66,11 @@ pub own_few : (hi lo : ℕ) (after : Bank) (k : Kind) (did : Did) → length (ow
 own_few hi lo after k did =
     let g = few_gates ((after.hi == hi) && (after.lo == lo)) (note.Gate (record { 0 = after.time }) after.hi after.lo) in
     let own = few_of did after k in
-    rw (append_assoc (gate_note hi lo after) (notes_of did) (leave_note after k did), length-append (gate_note hi lo after) (notes_of did ++ leave_note after k did))
+    rw (
+      append_assoc (gate_note hi lo after) (notes_of did) (leave_note after k did),
+      length-append (gate_note hi lo after)
+          (notes_of did ++ leave_note after k did),
+    )
     (omega arith)
 
 -- ---- what holds between any two steps

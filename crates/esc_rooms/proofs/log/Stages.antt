@@ -296,7 +296,8 @@ enter_stack k p t = refl
 
 -- an I fits where the kind is asked for and above all open ones
 enter_fits : (k : Kind) (w : World) (before : List Note) (stack : List Kind) → Tie kind.Cmp w → reverse before ≡ w.back → (place before).stack ≡ stack
-    → IsBuilt k × IsAsked w.loaded w.trace (so_far w) w.back w.bank.time k → IsAboveAll w.nest stack (kind_number k) → NoteFits w.loaded w.nest w.trace before (enters k w.bank.time)
+    → IsBuilt k × IsAsked w.loaded w.trace (so_far w) w.back w.bank.time k → IsAboveAll w.nest stack (kind_number k)
+    → NoteFits w.loaded w.nest w.trace before (enters k w.bank.time)
 enter_fits k w before stack few e open_is asked above =
     note_fits w before (enters k w.bank.time) e (record {
       laws = elim [

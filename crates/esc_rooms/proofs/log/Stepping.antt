@@ -213,7 +213,8 @@ own_owes c c' outer log k t notes v owes less others j o = elim (same_kind j k) 
 own_fits : (loaded : Loaded) (nest : Nest) (cost : ℕ) (trace : List Event) (c : Brain) (b : Bank) (outer : List Kind) (log : List Turned) (k : Kind)
     (notes : List Note)
     → Logged loaded nest cost trace b.time c b (k ∷ outer) log
-    → All (IsOwn k b.time) notes → ReturnsLast k notes → GateFirst notes → length notes ≤ most_notes → ((j : Kind) → called loaded nest trace (log ++ own_of b.time k notes ∷ []) j ≤ 8)
+    → All (IsOwn k b.time) notes → ReturnsLast k notes → GateFirst notes → length notes ≤ most_notes
+    → ((j : Kind) → called loaded nest trace (log ++ own_of b.time k notes ∷ []) j ≤ 8)
     → StepFits loaded nest cost trace log (own_of b.time k notes)
 own_fits loaded nest cost trace c b outer log k notes l own back first short calls =
     let inside : is_open (k ∷ outer) k ≡ true = self_open k outer in

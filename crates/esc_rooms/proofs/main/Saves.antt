@@ -1,5 +1,5 @@
 -- What the notes say of the settings, of the orders and of the flash, after more notes.
-use Rattle.std.proofs.Common.{◌≡◌, ◌≤◌, ◌⊎◌, inl, inr, ℕ, ◌+◌, suc, zero, Bool, true, false, ◌==◌, ◌||◌, if◌then◌else◌, List, [], ◌∷◌, ◌++◌, length, take, drop, map, replicate, reverse, bit_and, Option, Some, None, option_and_then, All, refl, sym, ◌∙◌, ap, subst, arith, append-nil, append_assoc}
+use Rattle.std.proofs.Common.{◌≡◌, ◌≤◌, ◌⊎◌, inl, inr, ℕ, ◌+◌, suc, zero, Bool, true, false, ◌==◌, ◌||◌, if◌then◌else◌, List, [], ◌∷◌, ◌++◌, length, take, drop, replicate, reverse, bit_and, Option, Some, None, option_and_then, All, refl, sym, ◌∙◌, ap, subst, arith, append-nil, append_assoc}
 use Rattle.std.proofs.lemmas.Bool.Decides.{nat_tests}
 use Rattle.std.proofs.lemmas.List.{drop_all, length-drop, take-append-drop}
 use Rattle.std.proofs.lemmas.List.Elements.{All-nil, All-cons, All-head, All-tail}
@@ -23,6 +23,7 @@ use Rattle.arming.proofs.InOrder.{reverse-push}
 use Rattle.esc_core.specs.declared.orders.Orders.{Orders}
 use Rattle.esc_core.specs.Orders.{obeyed}
 use Rattle.esc_core.specs.Calls.{IsSaved, IsSpoilt}
+use Rattle.esc_laws.proofs.Flash.{holds_self, holds_drop, holds_append, holds_any}
 use Rattle.esc_laws.specs.Saves.{is_save, after_save, and_places, any_places, changed_by, erased_places, flash_at, refused_at, settings_at, spun_by, FlashFits, Holds, HoldsSaves}
 use Rattle.esc_laws.specs.Steps.{first_notes, load_number}
 use Rattle.esc_rooms.specs.Tied.{OrdersTied}
@@ -181,10 +182,6 @@ fits_pushes loaded first now notes more a f = record {
 }
 
 -- at the start the flash holds what it held after the load
-holds_self : (cells : List ℕ) → Holds (map Some cells) cells
-holds_self [] = tt
-holds_self (c ∷ cells) = (refl, holds_self cells)
-
 start_holds : (first : Settings) (cells : Option (List ℕ)) → HoldsSaves first cells [] cells
 start_holds first None = tt
 start_holds first (Some cells) = holds_self cells
@@ -210,21 +207,6 @@ holds_take (suc n) [] (c ∷ cells) h = absurd h
 holds_take (suc n) (p ∷ places) [] h = absurd h
 holds_take (suc n) (None ∷ places) (c ∷ cells) h = holds_take n places cells h
 holds_take (suc n) (Some byte ∷ places) (c ∷ cells) h = (h.0, holds_take n places cells h.1)
-
-holds_drop : (n : ℕ) (places : List (Option ℕ)) (cells : List ℕ) → Holds places cells → Holds (drop n places) (drop n cells)
-holds_drop zero places cells h = h
-holds_drop (suc n) [] [] h = tt
-holds_drop (suc n) [] (c ∷ cells) h = absurd h
-holds_drop (suc n) (p ∷ places) [] h = absurd h
-holds_drop (suc n) (None ∷ places) (c ∷ cells) h = holds_drop n places cells h
-holds_drop (suc n) (Some byte ∷ places) (c ∷ cells) h = holds_drop n places cells h.1
-
-holds_append : (ps qs : List (Option ℕ)) (cs ds : List ℕ) → Holds ps cs → Holds qs ds → Holds (ps ++ qs) (cs ++ ds)
-holds_append [] qs [] ds h k = k
-holds_append [] qs (c ∷ cs) ds h k = absurd h
-holds_append (p ∷ ps) qs [] ds h k = absurd h
-holds_append (None ∷ ps) qs (c ∷ cs) ds h k = holds_append ps qs cs ds h k
-holds_append (Some byte ∷ ps) qs (c ∷ cs) ds h k = (h.0, holds_append ps qs cs ds h.1 k)
 
 holds_length : (places : List (Option ℕ)) (cells : List ℕ) → Holds places cells → length places ≡ length cells
 holds_length [] [] h = refl
@@ -298,16 +280,6 @@ fits_saved loaded first now now' notes t block b s f = record {
 }
 
 -- ---- a save that was refused
-
-holds_none : (n : ℕ) (cells : List ℕ) → length cells ≡ n → Holds (replicate n None) cells
-holds_none zero [] e = tt
-holds_none zero (c ∷ cells) e = absurd (omega arith)
-holds_none (suc n) [] e = absurd (omega arith)
-holds_none (suc n) (c ∷ cells) e = holds_none n cells (omega arith)
-
-holds_any : (n : ℕ) (cells : List ℕ) → length cells ≡ n → Holds (any_places n) cells
-unfolding any_places
-holds_any n cells e = holds_none n cells e
 
 -- the bytes below the last part are as before, and nothing is behind that part
 holds_open : (at n : ℕ) (places : List (Option ℕ)) (cells cells' : List ℕ) → take at cells' ≡ take at cells → length cells ≡ at + n → length cells' ≡ at + n

@@ -119,7 +119,8 @@ no_drive : (w : World) → Ties w → rests_at w.back ≡ true → HasNoQ (turn_
 no_drive w t e = rw ((t kind.Comm).next.idle (eqb-true (demand_at w.back) 0 (rests_is w.back ∙ e))) tt
 
 -- it asks control: a K, then an A or an X
-ask_control_preserves : (lost : Option Cause) (armed_now start : Bool) (w : World) (outer : List Kind) (marks demand : ℕ) (kept : Kept) → IsTick w outer tick.Read
+ask_control_preserves : (lost : Option Cause) (armed_now start : Bool) (w : World) (outer : List Kind) (marks demand : ℕ) (kept : Kept)
+    → IsTick w outer tick.Read
     → start ≡ (nat_lt 0 demand && rests_at w.back) → (so_far w).ticks ≡ 0
     → Stands kept (with_outcome (as_tick w.bank.time) lost armed_now (note.Control (as_tick w.bank.time) (w.bank.time / control_period) marks demand ∷ w.back))
     → kept.number ≡ w.bank.time / control_period
@@ -309,7 +310,8 @@ read_number_preserves n marks w outer i is marks_are below none = subst (λ (m :
     ∙ ap (λ (d : ℕ). nat_lt 0 answer.demand && (d == 0)) i.ground.control.ties.demand_is
     ∙ ap (λ (b : Bool). nat_lt 0 answer.demand && b) (rests_is w.back) in
     if_true (nat_lt w.core.control.number m) kind.Tick outer w _ _ (lt-ltb w.core.control.number m less)
-    (ask_control_preserves answer.lost answer.armed_now answer.start w outer marks answer.demand (after_tick w.core.control m (decide (view_of w.core.control) m marks)) i
+    (ask_control_preserves answer.lost answer.armed_now answer.start w outer marks answer.demand
+    (after_tick w.core.control m (decide (view_of w.core.control) m marks)) i
     begins none
     st (st.ties.number_is ∙ outcome_number answer.lost answer.armed_now w.bank.time m marks answer.demand w.back)))
 
@@ -319,7 +321,8 @@ pub tick_read_preserves : (stuck : Bool) (w : World) (outer : List Kind) → w.b
     (marks_in (if stuck then w.bank.time / control_period + 1073741824 else w.bank.time / control_period) w.core.line.active) w.core w.bank)
 tick_read_preserves true w outer e i =
     let tied = ticks_tie w outer tick.Read i in
-    read_number_preserves (number_in (w.bank.time / control_period + 1073741824)) (marks_in (w.bank.time / control_period + 1073741824) w.core.line.active) w outer i
+    read_number_preserves (number_in (w.bank.time / control_period + 1073741824)) (marks_in (w.bank.time / control_period + 1073741824) w.core.line.active) w
+    outer i
     (rw (le-ltb (w.bank.time / control_period + 1073741824) 1073741824 (omega arith)) (back (w.bank.time / control_period)))
     (rw (le-ltb (w.bank.time / control_period + 1073741824) 1073741824 (omega arith), mark_is w outer i ∙ e, i.ground.line.session_is) refl) tied.0 tied.1
   where
