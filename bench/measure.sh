@@ -16,8 +16,8 @@ top=$(cd "$(dirname "$0")/.." && pwd) || exit 1
 lines=${1:-1000000}
 program=$AM32SIM
 if [ -z "$program" ]; then
-    echo "0 END" | "$top/am32sim" run >/dev/null || exit 1
-    program=$top/crates/am32sim/out/am32sim
+    "$top/am32sim" prove || exit 1
+    program=$("$top/am32sim" path) || exit 1
 fi
 work=$(mktemp -d) || exit 1
 trap 'rm -rf "$work"' EXIT

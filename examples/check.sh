@@ -6,11 +6,9 @@
 # AM32SIM, AM32TRACE, AM32CSV and AM32WAVE name other programs than the repository's own. Of these an unproved one says so on
 # standard error; that line is no part of a sample.
 here=$(cd "$(dirname "$0")" && pwd) || exit 1
-program=${AM32SIM:-$here/../am32sim}
+program=${AM32SIM:-$("$here/../am32sim" path)} || exit 1
 work=$(mktemp -d) || exit 1
 trap 'rm -rf "$work"' EXIT
-# The first use of the repository's own program builds it and says so.
-echo "0 END" | "$program" run >"$work/journal" || exit 1
 count=0
 for trace in "$here"/*.trace; do
     sample=${trace%.trace}

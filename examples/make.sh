@@ -10,8 +10,8 @@
 #
 # Times are in ticks of 48 MHz. AM32SIM and AM32TRACE name other programs than the repository's own.
 here=$(cd "$(dirname "$0")" && pwd) || exit 1
-program=${AM32SIM:-$here/../am32sim}
-writer=${AM32TRACE:-$here/../am32trace}
+program=${AM32SIM:-$("$here/../am32sim" path)} || exit 1
+writer=${AM32TRACE:-$("$here/../am32trace" path)} || exit 1
 
 for script in "$here"/*.script; do
     "$writer" <"$script" >"${script%.script}.trace" || exit 1
@@ -125,8 +125,6 @@ sample refused <<'EOF'
 EOF
 
 [ "${1:-}" = journals ] || exit 0
-# The first use of the repository's own program builds it and says so; that text is no part of a sample.
-echo "0 END" | "$program" run >/dev/null || exit 1
 for trace in "$here"/*.trace; do
     name=${trace%.trace}
     # The options stand in NAME.options, words between spaces.

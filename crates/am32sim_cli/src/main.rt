@@ -1,69 +1,127 @@
 //! The program `am32sim`: a motor speed controller's control core, run on a trace of outside events.
 #![tactic(auto)]
 
-mod usage;
+mod help;
+mod image;
+mod misuse;
 
 use am32sim::{Status, Words, sim_main, status_text};
-use esc_base::{FileFlash, InSource, OutSink, Sink, Source};
+use command_line::{
+    CommandLine, FileSource, Misuse, NoWords, Noticed, Unread, answered, hint_misuse, hint_refused,
+    hint_unopened, open, read_line, words_of,
+};
+use esc_base::{FileFlash, OutSink, Source};
+use help::{HELP, USAGE};
+use image::hint_image;
+use misuse::{RULES, wrong_command, wrong_option};
 use std::cell::Cell;
+use std::io;
 use std::process::ExitCode;
-use std::{env, io};
 use trace_runner::Room;
 use trace_tools::PipeEnd;
-use usage::usage_text;
 
-/// The words behind the program's name. A word that isn't text is in no command.
-fn words_of(rt: &HostRuntime) -> Result<Words, Status> {
-    let args = match env::args(rt) {
-        Ok(args) => args,
-        Err(e) if e.kind() == io::ErrorKind::InvalidData => return Err(Status::Usage),
-        Err(_) => return Err(Status::NoMemory),
-    };
-    let mut words = Words::new(rt.alloc());
-    for arg in args.skip(1) {
-        if words.push(arg.as_str()).is_err() {
-            return Err(Status::NoMemory);
+fn ended(rt: &HostRuntime, status: Status) -> Status {
+    let _ = rt.eprint(status_text(&status).as_str());
+    status
+}
+
+fn misused(rt: &HostRuntime, misuse: &Misuse) -> Status {
+    let status = ended(rt, Status::Usage);
+    hint_misuse(rt, misuse, USAGE);
+    status
+}
+
+/// The words of a command without the file's.
+fn command_words(rt: &HostRuntime, words: &[String], file: Option<usize>) -> Option<Words> {
+    let mut command = Words::new(rt.alloc());
+    for (place, word) in words.iter().enumerate() {
+        if Some(place) != file && command.push(word.as_str()).is_err() {
+            return None;
         }
     }
-    Ok(words)
+    Some(command)
 }
 
-/// Runs the command of the program's words. Where they name no image, the flash is blank memory of its own.
-fn command<S: Source, K: Sink>(rt: &HostRuntime, src: &mut S, out: &mut K) -> Status {
-    let words = match words_of(rt) {
-        Ok(words) => words,
-        Err(status) => return status,
-    };
+/// Runs a command. Where its words name no image, the flash is blank memory of its own.
+fn run<S: Source>(rt: &HostRuntime, words: &Words, src: &mut S) -> Status {
     let Ok(mut flash) = FileFlash::new(rt, rt.alloc()) else {
-        return Status::NoMemory;
+        return ended(rt, Status::NoMemory);
     };
     let Ok(room) = Room::new(rt.alloc()) else {
-        return Status::NoMemory;
+        return ended(rt, Status::NoMemory);
     };
-    sim_main(&words, src, out, &mut flash, room)
-}
-
-/// Says on standard error how the run ended, and after `Usage` how the program is used.
-fn tell(rt: &HostRuntime, status: &Status) {
-    let _ = rt.eprint(status_text(status).as_str());
-    if *status == Status::Usage
-        && let Ok(usage) = usage_text(rt.alloc())
-    {
-        let _ = rt.eprint(usage.as_str());
-    }
-}
-
-fn main(rt: HostRuntime) -> ExitCode {
     let is_gone = Cell::new(false);
-    let mut src = InSource::new(&rt);
-    let mut out = OutSink::new(PipeEnd::new(io::writer(&rt), &is_gone));
-    let mut status = command(&rt, &mut src, &mut out);
+    let mut out = OutSink::new(PipeEnd::new(io::writer(rt), &is_gone));
+    let mut status = sim_main(words, src, &mut out, &mut flash, room);
     if out.flush().is_err() {
         status = Status::WriteFault;
     }
     // Where the reader has gone there is nothing to complain about; the exit status tells it all the same.
     if status != Status::WriteFault || !is_gone.get() {
-        tell(&rt, &status);
+        let _ = rt.eprint(status_text(&status).as_str());
     }
-    ExitCode::from(status.exit_number())
+    status
+}
+
+/// Runs a command on the trace in a file, or on standard input.
+fn run_on(rt: &HostRuntime, words: &Words, line: &CommandLine) -> Status {
+    let path = line.operand().map(|operand| operand.word);
+    let noticed = Cell::new(Noticed::nothing());
+    let input = match open(rt, path, &noticed) {
+        Ok(input) => input,
+        Err(cause) => {
+            let status = ended(rt, Status::ReadFault);
+            hint_unopened(rt, path.unwrap_or("-"), &cause);
+            return status;
+        }
+    };
+    let status = run(rt, words, &mut FileSource::new(input));
+    match status {
+        Status::Refused { kind, .. } => hint_refused(rt, kind, &noticed.get()),
+        Status::AttachFault => hint_image(rt, line.value("--flash")),
+        Status::Usage => {
+            let _ = rt.eprint(USAGE);
+        }
+        _ => {}
+    }
+    status
+}
+
+fn command(rt: &HostRuntime, words: &[String]) -> Status {
+    let first = words.first().map(|word| word.as_str());
+    if let Some(misuse) = wrong_command(first) {
+        return misused(rt, &misuse);
+    }
+    let line = match read_line(rt.alloc(), &words[1..], &RULES) {
+        Ok(line) => line,
+        Err(Unread::Misused(misuse)) => return misused(rt, &misuse),
+        Err(Unread::NoMemory) => return ended(rt, Status::NoMemory),
+    };
+    if let Some(misuse) = wrong_option(first, &line) {
+        return misused(rt, &misuse);
+    }
+    let file = line
+        .operand()
+        .map(|operand| operand.place.saturating_add(1));
+    match command_words(rt, words, file) {
+        Some(command) => run_on(rt, &command, &line),
+        None => ended(rt, Status::NoMemory),
+    }
+}
+
+fn answer(rt: &HostRuntime) -> Status {
+    let words = match words_of(rt) {
+        Ok(words) => words,
+        Err(NoWords::NotText) => return ended(rt, Status::Usage),
+        Err(NoWords::NoMemory) => return ended(rt, Status::NoMemory),
+    };
+    match answered(rt, words.as_slice(), "am32sim", HELP) {
+        Some(true) => Status::Done,
+        Some(false) => Status::WriteFault,
+        None => command(rt, words.as_slice()),
+    }
+}
+
+fn main(rt: HostRuntime) -> ExitCode {
+    ExitCode::from(answer(&rt).exit_number())
 }

@@ -1,35 +1,19 @@
 //! The program `am32trace`: the script of a flight, as a trace for `am32sim`.
 #![tactic(auto)]
 
-mod usage;
+mod help;
 
 use am32trace::{ScriptWords, Status, trace_main};
-use esc_base::{InSource, OutSink};
+use command_line::{
+    FileSource, NoWords, Noticed, Unread, answered, hint, hint_misuse, hint_unopened, open,
+    read_line, words_of,
+};
+use esc_base::{OutSink, Source};
+use help::{HELP, USAGE};
 use std::cell::Cell;
+use std::io;
 use std::process::ExitCode;
-use std::{env, io};
 use trace_tools::PipeEnd;
-use usage::usage_text;
-
-/// What the words behind the program's name ask for.
-enum Wish {
-    Trace,
-    Help,
-}
-
-fn asked(rt: &HostRuntime) -> Result<Wish, Status> {
-    let args = match env::args(rt) {
-        Ok(args) => args,
-        Err(e) if e.kind() == io::ErrorKind::InvalidData => return Err(Status::Usage),
-        Err(_) => return Err(Status::NoMemory),
-    };
-    let mut words = args.skip(1);
-    match words.next() {
-        None => Ok(Wish::Trace),
-        Some(word) if word.as_str() == "--help" && words.next().is_none() => Ok(Wish::Help),
-        Some(_) => Err(Status::Usage),
-    }
-}
 
 /// Says on standard error how the program ended.
 fn tell(rt: &HostRuntime, status: &Status) {
@@ -39,22 +23,23 @@ fn tell(rt: &HostRuntime, status: &Status) {
             let text = expected.text();
             eprintln!(rt; "am32trace: line {line}: expected {text}")
         }
-        Status::Usage => {
-            eprintln!(rt;
-                "am32trace: no words are expected but --help; a script is read on standard input"
-            )
-        }
+        Status::Usage => eprintln!(rt; "am32trace: usage"),
         Status::ReadFault => eprintln!(rt; "am32trace: read fault"),
         Status::WriteFault => eprintln!(rt; "am32trace: write fault"),
         Status::NoMemory => eprintln!(rt; "am32trace: no memory"),
     };
 }
 
-fn write_trace(rt: &HostRuntime) -> Status {
+fn ended(rt: &HostRuntime, status: Status) -> Status {
+    tell(rt, &status);
+    status
+}
+
+/// Writes the trace of the script that the source gives.
+fn write_trace<S: Source>(rt: &HostRuntime, src: &mut S) -> Status {
     let is_gone = Cell::new(false);
-    let mut src = InSource::new(rt);
     let mut out = OutSink::new(PipeEnd::new(io::writer(rt), &is_gone));
-    let mut status = trace_main(&ScriptWords {}, &mut src, &mut out);
+    let mut status = trace_main(&ScriptWords {}, src, &mut out);
     if out.flush().is_err() {
         status = Status::WriteFault;
     }
@@ -65,24 +50,49 @@ fn write_trace(rt: &HostRuntime) -> Status {
     status
 }
 
-fn write_help(rt: &HostRuntime) -> Status {
-    match usage_text(rt.alloc()) {
-        Ok(text) => {
-            let _ = rt.print(text.as_str());
-            Status::Done
+/// The trace of the script in a file, or on standard input.
+fn trace(rt: &HostRuntime, path: Option<&str>) -> Status {
+    let noticed = Cell::new(Noticed::nothing());
+    let input = match open(rt, path, &noticed) {
+        Ok(input) => input,
+        Err(cause) => {
+            let status = ended(rt, Status::ReadFault);
+            hint_unopened(rt, path.unwrap_or("-"), &cause);
+            return status;
         }
-        Err(_) => Status::NoMemory,
+    };
+    let status = write_trace(rt, &mut FileSource::new(input));
+    if let Status::Refused { line: 1, .. } = status
+        && noticed.get().has_mark
+        && let Some(cure) = noticed.get().cure()
+    {
+        hint(rt, cure);
+    }
+    status
+}
+
+fn command(rt: &HostRuntime) -> Status {
+    let words = match words_of(rt) {
+        Ok(words) => words,
+        Err(NoWords::NotText) => return ended(rt, Status::Usage),
+        Err(NoWords::NoMemory) => return ended(rt, Status::NoMemory),
+    };
+    match answered(rt, words.as_slice(), "am32trace", HELP) {
+        Some(true) => return Status::Done,
+        Some(false) => return Status::WriteFault,
+        None => {}
+    }
+    match read_line(rt.alloc(), words.as_slice(), &[]) {
+        Ok(line) => trace(rt, line.operand().map(|operand| operand.word)),
+        Err(Unread::Misused(misuse)) => {
+            let status = ended(rt, Status::Usage);
+            hint_misuse(rt, &misuse, USAGE);
+            status
+        }
+        Err(Unread::NoMemory) => ended(rt, Status::NoMemory),
     }
 }
 
 fn main(rt: HostRuntime) -> ExitCode {
-    let status = match asked(&rt) {
-        Ok(Wish::Trace) => write_trace(&rt),
-        Ok(Wish::Help) => write_help(&rt),
-        Err(status) => {
-            tell(&rt, &status);
-            status
-        }
-    };
-    ExitCode::from(status.exit_number())
+    ExitCode::from(command(&rt).exit_number())
 }

@@ -1,85 +1,141 @@
 //! The program `am32wave`: a journal of `am32sim` as a wave, or in words.
 #![tactic(auto)]
 
-mod file_source;
-mod usage;
+mod help;
+mod options;
 
-use am32wave::{Status, status_text, traced_main, wave_main};
-use esc_base::{InSource, OutSink, Sink, Source};
-use file_source::FileSource;
+use am32wave::{Refusal, Status, status_text, traced_main, wave_main};
+use command_line::{
+    FileSource, Misuse, NoWords, Noticed, Unopened, Unread, answered, hint, hint_misuse,
+    hint_refused, hint_unopened, open, read_line, words_of,
+};
+use esc_base::{OutSink, Sink, Source};
+use help::{HELP, USAGE};
+use options::{RULES, Wish, wish_of};
 use std::cell::Cell;
+use std::io;
 use std::process::ExitCode;
-use std::{env, fs, io};
 use trace_tools::PipeEnd;
-use usage::{Wish, usage_text, wish_of};
 
-/// What the words behind the program's name ask for. A word that isn't text is in no command.
-fn asked(rt: &HostRuntime) -> Result<Wish, Status> {
-    let args = match env::args(rt) {
-        Ok(args) => args,
-        Err(e) if e.kind() == io::ErrorKind::InvalidData => return Err(Status::Usage),
-        Err(_) => return Err(Status::NoMemory),
-    };
-    match args.collect::<Vec<String>>(rt.alloc()) {
-        Ok(words) => wish_of(rt.alloc(), words.as_slice()),
-        Err(_) => Err(Status::NoMemory),
+fn ended(rt: &HostRuntime, status: Status) -> Status {
+    let _ = rt.eprint(status_text(&status).as_str());
+    status
+}
+
+fn misused(rt: &HostRuntime, misuse: &Misuse) -> Status {
+    let status = ended(rt, Status::Usage);
+    hint_misuse(rt, misuse, USAGE);
+    status
+}
+
+/// What a line of a journal should have been, or how the whole input is mended.
+fn journal_hint(kind: Refusal, noticed: &Noticed) -> &'static str {
+    if let Some(cure) = noticed.cure() {
+        return cure;
+    }
+    match kind {
+        Refusal::NotANote => "expected a line of a journal that am32sim wrote",
+        Refusal::TimeBack => "expected a time not below that of the line before",
+        Refusal::NoEnd => "expected a line feed behind the last line",
+        Refusal::TooMany => "expected at most 4294967295 lines",
     }
 }
 
-/// The wave of a journal and of the trace in a file. A file that can't be opened is a fault of the trace.
+/// What was noticed of the two inputs.
+#[derive(Drop)]
+struct Notices {
+    journal: Cell<Noticed>,
+    trace: Cell<Noticed>,
+    /// Why the trace's file isn't opened.
+    unopened: Cell<Option<Unopened>>,
+}
+
+/// The wave of a journal and of the trace in a file.
 fn show_traced<S: Source, K: Sink>(
     rt: &HostRuntime,
     path: &str,
+    notices: &Notices,
     src: &mut S,
     out: &mut K,
 ) -> Status {
-    match fs::open(rt, path) {
-        Ok(file) => traced_main(src, &mut FileSource::new(file), out),
-        Err(_) => Status::TraceFault,
-    }
-}
-
-fn command<S: Source, K: Sink>(rt: &HostRuntime, src: &mut S, out: &mut K) -> Status {
-    match asked(rt) {
-        Ok(Wish::Show(form)) => wave_main(Some(form), src, out),
-        Ok(Wish::Traced(path)) => show_traced(rt, path.as_str(), src, out),
-        Ok(Wish::Help) => write_help(rt),
-        Err(Status::Usage) => wave_main(None, src, out),
-        Err(status) => status,
-    }
-}
-
-fn write_help(rt: &HostRuntime) -> Status {
-    match usage_text(rt.alloc()) {
-        Ok(text) => {
-            let _ = rt.print(text.as_str());
-            Status::Done
+    match open(rt, Some(path), &notices.trace) {
+        Ok(trace) => traced_main(src, &mut FileSource::new(trace), out),
+        Err(cause) => {
+            notices.unopened.set(Some(cause));
+            Status::TraceFault
         }
-        Err(_) => Status::NoMemory,
     }
 }
 
-/// Says on standard error how the program ended, and after `Usage` how it is used.
-fn tell(rt: &HostRuntime, status: &Status) {
-    let _ = rt.eprint(status_text(status).as_str());
-    if *status == Status::Usage
-        && let Ok(usage) = usage_text(rt.alloc())
-    {
-        let _ = rt.eprint(usage.as_str());
-    }
-}
-
-fn main(rt: HostRuntime) -> ExitCode {
+/// Shows the journal that the source gives.
+fn show<S: Source>(rt: &HostRuntime, wish: &Wish, notices: &Notices, src: &mut S) -> Status {
     let is_gone = Cell::new(false);
-    let mut src = InSource::new(&rt);
-    let mut out = OutSink::new(PipeEnd::new(io::writer(&rt), &is_gone));
-    let mut status = command(&rt, &mut src, &mut out);
+    let mut out = OutSink::new(PipeEnd::new(io::writer(rt), &is_gone));
+    let mut status = match *wish {
+        Wish::Journal(form) => wave_main(Some(form), src, &mut out),
+        Wish::Traced(path) => show_traced(rt, path, notices, src, &mut out),
+    };
     if out.flush().is_err() {
         status = Status::WriteFault;
     }
     // Where the reader has gone there is nothing to complain about; the exit status tells it all the same.
     if status != Status::WriteFault || !is_gone.get() {
-        tell(&rt, &status);
+        let _ = rt.eprint(status_text(&status).as_str());
     }
-    ExitCode::from(status.exit_number())
+    status
+}
+
+/// Shows the journal in a file, or on standard input.
+fn show_file(rt: &HostRuntime, wish: &Wish, path: Option<&str>) -> Status {
+    let notices = Notices {
+        journal: Cell::new(Noticed::nothing()),
+        trace: Cell::new(Noticed::nothing()),
+        unopened: Cell::new(None),
+    };
+    let input = match open(rt, path, &notices.journal) {
+        Ok(input) => input,
+        Err(cause) => {
+            let status = ended(rt, Status::ReadFault);
+            hint_unopened(rt, path.unwrap_or("-"), &cause);
+            return status;
+        }
+    };
+    let status = show(rt, wish, &notices, &mut FileSource::new(input));
+    match status {
+        Status::Refused { kind, .. } => hint(rt, journal_hint(kind, &notices.journal.get())),
+        Status::TraceRefused { kind, .. } => hint_refused(rt, kind, &notices.trace.get()),
+        _ => {}
+    }
+    if let Wish::Traced(trace) = *wish
+        && let Some(cause) = notices.unopened.get()
+    {
+        hint_unopened(rt, trace, &cause);
+    }
+    status
+}
+
+fn command(rt: &HostRuntime) -> Status {
+    let words = match words_of(rt) {
+        Ok(words) => words,
+        Err(NoWords::NotText) => return ended(rt, Status::Usage),
+        Err(NoWords::NoMemory) => return ended(rt, Status::NoMemory),
+    };
+    match answered(rt, words.as_slice(), "am32wave", HELP) {
+        Some(true) => return Status::Done,
+        Some(false) => return Status::WriteFault,
+        None => {}
+    }
+    let line = match read_line(rt.alloc(), words.as_slice(), &RULES) {
+        Ok(line) => line,
+        Err(Unread::Misused(misuse)) => return misused(rt, &misuse),
+        Err(Unread::NoMemory) => return ended(rt, Status::NoMemory),
+    };
+    match wish_of(&line) {
+        Ok(wish) => show_file(rt, &wish, line.operand().map(|operand| operand.word)),
+        Err(misuse) => misused(rt, &misuse),
+    }
+}
+
+fn main(rt: HostRuntime) -> ExitCode {
+    ExitCode::from(command(&rt).exit_number())
 }

@@ -1,5 +1,5 @@
-use zero_cross::{Crossing, Next, Phase};
 use esc_base::{Sector, Tick};
+use zero_cross::{Crossing, Next, Phase};
 
 /// A sector 1 of a forward drive that began at 1000, with a filter that ends at 7124.
 fn filtering(rt: &impl std::process::Abort) -> Crossing {

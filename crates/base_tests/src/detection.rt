@@ -1,7 +1,7 @@
-use input_detect::{Judgement, Seen, detect, is_good_in, judge};
 use dshot_frame::encode;
 use edge_capture::{Burst, Edge};
 use esc_base::{Frame, Mode, Tick};
+use input_detect::{Judgement, Seen, detect, is_good_in, judge};
 use servo_input::{InputKind, Servo};
 use std::process::Abort;
 

@@ -1,7 +1,7 @@
 ghost use Rattle.std.specs.Prelude.{◌≤◌, ◌<◌, length};
 
-use fourway_packet::{Ack, Packet, Packets, Params, Session, answer, crc16, reply_bytes};
 use esc_base::{Arrived, FlashDev, FlashOp, MemFlash, Tick};
+use fourway_packet::{Ack, Packet, Packets, Params, Session, answer, crc16, reply_bytes};
 use settings_block::default_block;
 use std::process::Abort;
 use std::test::Fail;

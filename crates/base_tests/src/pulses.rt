@@ -1,6 +1,6 @@
-use servo_input::{InputKind, Servo, pulse, value_of};
 use edge_capture::{Burst, Edge};
 use esc_base::{Frame, Tick, Verdict, Why};
+use servo_input::{InputKind, Servo, pulse, value_of};
 
 const RANGE: Servo = Servo {
     low_us: 1006,

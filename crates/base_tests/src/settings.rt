@@ -1,8 +1,8 @@
+use dshot_commands::Act;
+use esc_base::{Block48, FlashDev, FlashOp, MemFlash};
 use settings_block::{
     BlockFault, FlashFault, apply, default_block, load, read_block, save, servo_of, write_block,
 };
-use dshot_commands::Act;
-use esc_base::{Block48, FlashDev, FlashOp, MemFlash};
 use std::test::Fail;
 
 /// The default block with another byte at `at`.

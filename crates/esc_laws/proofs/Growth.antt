@@ -1,5 +1,5 @@
 -- Later events change nothing of what the notes and the steps before them said.
-use Rattle.std.proofs.Common.{◌≡◌, ◌≤◌, ◌<◌, ◌+◌, ℕ, Bool, true, false, not, ◌&&◌, ◌==◌, nat_le, nat_lt, max, if◌then◌else◌, List, [], ◌∷◌, ◌++◌, reverse, length, Some, None, refl, sym, ◌∙◌, ap, arith, ◌-◌, length-append, true≢false, inl, inr}
+use Rattle.std.proofs.Common.{◌≡◌, ◌≤◌, ◌<◌, ◌+◌, ℕ, Bool, true, false, not, ◌&&◌, ◌||◌, ◌==◌, nat_le, nat_lt, max, if◌then◌else◌, List, [], ◌∷◌, ◌++◌, reverse, length, Some, None, refl, sym, ◌∙◌, ap, arith, ◌-◌, length-append, true≢false, inl, inr}
 use Rattle.std.proofs.lemmas.Bool.{not-true, and_parts, false_from_ne_true}
 use Rattle.std.proofs.lemmas.List.{get_or_push}
 use Rattle.std.proofs.lemmas.Bool.Decides.{nat_tests}
@@ -24,7 +24,7 @@ use Rattle.settings_block.specs.declared.stored.Loaded.{Loaded}
 use Rattle.zero_cross.specs.Comparator.{Held}
 use Rattle.esc_laws.specs.Saves.{forward_at}
 use Rattle.esc_laws.specs.Crossed.{expects_at}
-use Rattle.esc_laws.specs.Searched.{sight_at, calls_cmp}
+use Rattle.esc_laws.specs.Searched.{sight_at, calls_cmp, calls_watch}
 use Rattle.esc_laws.proofs.Comparator.{held_before}
 use Rattle.esc_laws.specs.Place.{Signal, Listens, Rests, Place, place}
 use Rattle.esc_laws.specs.Rested.{first_rested}
@@ -173,7 +173,8 @@ pub sees_before : (loaded : Loaded) (trace : List Event) (e : Event) (notes : Li
     → sees loaded (trace ++ e ∷ []) notes t k ≡ sees loaded trace notes t k
 sees_before loaded trace e notes t kind.Cap lt = cap_before trace e (place notes).signal t lt
 sees_before loaded trace e notes t kind.Cmp lt =
-    ap (λ (h : Held). calls_cmp h (expects_at (forward_at loaded.settings) (reverse notes)) (sight_at (reverse notes)) t) (held_before trace e t lt)
+    ap (λ (h : Held). calls_cmp h (expects_at (forward_at loaded.settings) (reverse notes)) (sight_at (reverse notes)) t
+    || calls_watch h (expects_at (forward_at loaded.settings) (reverse notes)) (reverse notes) t) (held_before trace e t lt)
 sees_before loaded trace e notes t k lt = refl
 
 -- nor of what an activation was entered for

@@ -1,10 +1,13 @@
 -- A law, or what a law is said with: what `Legal` means rests on this.
 -- The search for a sector's crossing: what the activations of CMP after a Q have to bring, and how many of them there may be.
-use Rattle.std.specs.Prelude.{◌≡◌, ◌<◌, ℕ, ◌+◌, max, Bool, true, false, not, ◌&&◌, ◌||◌, ◌==◌, if◌then◌else◌, nat_le, List, [], ◌∷◌, reverse}
+use Rattle.std.specs.Prelude.{◌≡◌, ◌<◌, ℕ, ◌+◌, max, Bool, true, false, not, ◌&&◌, ◌||◌, ◌==◌, if◌then◌else◌, nat_le, List, [], ◌∷◌, reverse, Option, Some, None}
 use Rattle.esc_base.specs.declared.event.Event.{Event}
 use Rattle.esc_base.specs.declared.note.Note.{Note}
 use Rattle.esc_base.specs.declared.note.Note.TheVariants as note
 use Rattle.esc_base.specs.Journal.{Each}
+use Rattle.esc_base.specs.Times.{rejected_blanking}
+use Rattle.esc_base.specs.Trace.{differ}
+use Rattle.commutation.specs.Commutated.{Turn, Turned, turn_at}
 use Rattle.zero_cross.specs.Comparator.{Held, held, Steady, is_steady}
 use Rattle.esc_laws.specs.Crossed.{blanked_at, expects_at}
 
@@ -66,6 +69,36 @@ abbrev pub calls_cmp : Held → Bool → Sight → ℕ → Bool
 calls_cmp h expects (Awaits u) t = nat_le u t
 calls_cmp h expects (Settles i u) t = nat_le u t && is_steady h expects i
 calls_cmp h expects s t = false
+
+-- an activation of CMP is open that was entered behind the newest Q
+abbrev pub is_looking : List Note → Bool
+is_looking [] = false
+is_looking (note.Enter t k ∷ back) = k == 4 || is_looking back
+is_looking (note.Leave t k ∷ back) = not (k == 4) && is_looking back
+is_looking (note.Step t s ∷ back) = false
+is_looking (n ∷ back) = is_looking back
+
+-- the tick at which the newest such activation returned
+abbrev pub looked_at : List Note → Option ℕ
+looked_at [] = None
+looked_at (note.Leave t k ∷ back) = if k == 4 && is_looking back then Some t.0 else looked_at back
+looked_at (note.Step t s ∷ back) = None
+looked_at (n ∷ back) = looked_at back
+
+-- so long after it
+abbrev pub is_over : Option ℕ → ℕ → Bool
+is_over None t = false
+is_over (Some o) t = nat_le (o + rejected_blanking) t
+
+-- the newest sector has no Z
+abbrev pub awaits_crossing : Turn → Bool
+awaits_crossing (Turned q) = true
+awaits_crossing turn = false
+
+-- And each change of the comparator is heard: while a sector has no Z, from 400 ticks after the return of CMP's newest activation
+-- on CMP is called for wherever the comparator has the expected level.
+abbrev pub calls_watch : Held → Bool → List Note → ℕ → Bool
+calls_watch h expects back t = awaits_crossing (turn_at back) && (is_over (looked_at back) t && not (differ h.level expects))
 
 -- a Z stands in the second activation after a Q that returns at t, where the comparator was steady at the expected level from
 -- the entry of the first one on

@@ -1,6 +1,6 @@
 -- A law, or what a law is said with: what `Legal` means rests on this.
 -- Which kinds the notes, the trace and the time call for. Nothing here knows a register.
-use Rattle.std.specs.Prelude.{ℕ, ◌/◌, Bool, false, nat_lt, nat_le, max, List, reverse}
+use Rattle.std.specs.Prelude.{ℕ, ◌/◌, Bool, false, ◌||◌, nat_lt, nat_le, max, List, reverse}
 use Rattle.esc_base.specs.declared.kind.Kind.{Kind}
 use Rattle.esc_base.specs.declared.kind.Kind.TheVariants as kind
 use Rattle.esc_base.specs.declared.event.Event.{Event}
@@ -16,7 +16,7 @@ use Rattle.zero_cross.specs.Comparator.{held}
 use Rattle.esc_laws.specs.Saves.{advance_of, forward_at}
 use Rattle.esc_laws.specs.Calls.{calls_pwm, calls_comm}
 use Rattle.esc_laws.specs.Crossed.{expects_at}
-use Rattle.esc_laws.specs.Searched.{sight_at, calls_cmp}
+use Rattle.esc_laws.specs.Searched.{sight_at, calls_cmp, calls_watch}
 use Rattle.esc_laws.specs.Place.{Signal, Listens, Rests, Place, place}
 
 -- CAP is called from the close of a window that has no F; while no W stands after an F, from the first rested tick at or after
@@ -34,7 +34,9 @@ sees_at loaded trace p back t kind.Cap = calls_cap trace p.signal t
 sees_at loaded trace p back t kind.Main = asked_at back
 sees_at loaded trace p back t kind.Pwm = calls_pwm back t
 sees_at loaded trace p back t kind.Comm = calls_comm (advance_of loaded.settings) back t
-sees_at loaded trace p back t kind.Cmp = calls_cmp (held trace t) (expects_at (forward_at loaded.settings) back) (sight_at back) t
+sees_at loaded trace p back t kind.Cmp =
+    calls_cmp (held trace t) (expects_at (forward_at loaded.settings) back) (sight_at back) t
+    || calls_watch (held trace t) (expects_at (forward_at loaded.settings) back) back t
 sees_at loaded trace p back t kind.Uart = false
 
 abbrev pub sees : Loaded → List Event → List Note → ℕ → Kind → Bool

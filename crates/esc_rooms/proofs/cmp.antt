@@ -1,3 +1,5 @@
+pub mod Seldom
+pub mod Watch
 pub mod CrossFacts
 pub mod BesideComm
 pub mod Facts

@@ -1,6 +1,6 @@
 -- What ties the search for a crossing to what the notes and the comparator say, by where CMP, COMM and TICK stand. Each fact
 -- holds between any two steps, whatever is open.
-use Rattle.std.specs.Prelude.{◌≡◌, ◌<◌, ◌≤◌, ◌+◌, ◌⊎◌, ℕ, Bool, true, false, not, ◌||◌, if◌then◌else◌, nat_le, Option, Some, None}
+use Rattle.std.specs.Prelude.{◌≡◌, ◌<◌, ◌≤◌, ◌+◌, ◌⊎◌, ℕ, Bool, true, false, not, ◌||◌, if◌then◌else◌, nat_le, List, Option, Some, None}
 use Rattle.esc_base.specs.Times.{filter_time}
 use Rattle.esc_base.specs.Numbers.{as_tick}
 use Rattle.zero_cross.specs.declared.phase.Phase.{Phase}
@@ -18,6 +18,8 @@ use Rattle.esc_core.specs.declared.state.TickAt.{TickAt}
 use Rattle.esc_core.specs.declared.state.TickAt.TheVariants as tick
 use Rattle.esc_laws.specs.Searched.{Sight, Away, Begun, Awaits, First, Settles, Second}
 use Rattle.esc_rooms.specs.DriveTied.{turn_ends}
+use Rattle.esc_rooms.specs.SeldomTied.{SeldomTied}
+use Rattle.esc_rooms.specs.WatchTied.{WatchTied}
 
 pub record CrossView : Type 0 where
   -- what the core keeps of the search, of the interval and of a postponed low switch
@@ -49,6 +51,12 @@ pub record CrossView : Type 0 where
   pub sight : Sight
   pub told_open : Bool
   pub quiet : ℕ → ℕ
+  -- the ticks of CMP's entries, all of them and those since the newest Q
+  pub entries : List ℕ
+  pub looks : List ℕ
+  -- CMP is open and was entered behind the newest Q, and when the newest such activation returned
+  pub looking : Bool
+  pub looked : Option ℕ
 
 -- ---- the phase of the search, by the notes
 
@@ -146,10 +154,11 @@ IsEarly Begun = Unit {0}
 IsEarly s = ⊥
 
 -- between the Q and the write of the crossing timer
-pub record Begins (p : Phase) (blanked : ℕ) (s : Sight) (quiet : ℕ → ℕ) : Type 0 where
+pub record Begins (p : Phase) (blanked : ℕ) (s : Sight) (quiet : ℕ → ℕ) (looked : Option ℕ) : Type 0 where
   pub blank : p ≡ phase.Blank (as_tick blanked)
   pub early : IsEarly s
   pub none : (since : ℕ) → quiet since ≡ 0
+  pub unlooked : looked ≡ None
 
 -- between the K with demand 0 and the end of the drive
 pub record Ends (p : Phase) (s : Sight) (at : CmpAt) : Type 0 where
@@ -253,7 +262,7 @@ pub record CrossTied (v : CrossView) : Type 0 where
   pub open_is : v.told_open ≡ not (is_shut v.cmp_at)
   pub phase_is : PhaseTied v.search.phase v.turn v.changed v.held.since v.blanked v.time v.past
   -- the registers, but where COMM begins a search and where TICK ends the drive
-  pub begins : begins_search v.comm_at v.turn_at ≡ true → Begins v.search.phase v.blanked v.sight v.quiet
+  pub begins : begins_search v.comm_at v.turn_at ≡ true → Begins v.search.phase v.blanked v.sight v.quiet v.looked
   pub ends : ends_drive v.tick_at ≡ true → Ends v.search.phase v.sight v.cmp_at
   pub regs : begins_search v.comm_at v.turn_at ≡ false → ends_drive v.tick_at ≡ false
       → RegsTied v.cmp_at v.search.phase v.timer v.enabled v.time
@@ -264,3 +273,7 @@ pub record CrossTied (v : CrossView) : Type 0 where
   pub seen : SightTied v.sight v.cmp_at v.search.phase v.held v.expects v.blanked v.time v.past
   pub begun : v.comm_at ≡ comm.Shut → is_begun v.sight ≡ false
   pub late : LateTied v.cmp_at v.search.phase v.postponed
+  -- and how seldom they come
+  pub seldom : SeldomTied v.cmp_at v.search.phase v.time v.entries v.looks
+  -- and that each later change is heard
+  pub watch : WatchTied v.cmp_at v.search.phase v.changed (is_expected v.search v.level) v.looking v.looked v.time v.past

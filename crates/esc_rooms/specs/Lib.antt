@@ -1,5 +1,7 @@
 pub mod Tied
 pub mod DriveTied
+pub mod SeldomTied
+pub mod WatchTied
 pub mod CrossTied
 pub mod PeriodTied
 pub mod World

@@ -34,7 +34,8 @@ use Rattle.gate_driver.specs.Gated.{Gated, gates_after, high_wait}
 use Rattle.gate_driver.specs.Acted.{KeepsDeadTime}
 use Rattle.esc_laws.specs.Driven.{IsDriven}
 use Rattle.esc_laws.specs.Crossed.{blanked_at, expects_at}
-use Rattle.esc_laws.specs.Searched.{sight_at, cmp_open_at, quiet_at}
+use Rattle.esc_laws.specs.Asked.{cmp_entries, looks_since}
+use Rattle.esc_laws.specs.Searched.{is_looking, looked_at, sight_at, cmp_open_at, quiet_at}
 use Rattle.esc_rooms.specs.CrossTied.{CrossView, CrossTied, ends_drive}
 use Rattle.esc_rooms.specs.PeriodTied.{sums_gaps, PeriodTied}
 use Rattle.esc_laws.specs.Saves.{advance_of, forward_at}
@@ -166,6 +167,10 @@ cross_seen w = record {
   sight = sight_at w.back;
   told_open = cmp_open_at w.back;
   quiet = λ since. quiet_at since w.back;
+  entries = cmp_entries w.back;
+  looks = looks_since w.back;
+  looking = is_looking w.back;
+  looked = looked_at w.back;
 }
 
 abbrev pub MainTie : World → Type 0

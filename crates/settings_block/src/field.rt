@@ -144,5 +144,4 @@ pub(crate) fn rows()
     ensures neutral { NEUTRAL ≡ neutral_row }
     ensures dead_band { DEAD_BAND ≡ dead_band_row }
     ensures input { INPUT ≡ input_row }
-{
-}
+{}

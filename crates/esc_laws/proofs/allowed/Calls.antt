@@ -1,5 +1,5 @@
 -- The first ticks at which a kind is seen due, by computation.
-use Rattle.std.proofs.Common.{◌≡◌, ◌≤◌, ◌<◌, ◌+◌, ◌-◌, ℕ, true, false, nat_le, refl, arith}
+use Rattle.std.proofs.Common.{◌≡◌, ◌≤◌, ◌<◌, ◌+◌, ◌-◌, ℕ, Bool, true, false, ◌&&◌, ◌||◌, nat_le, refl, arith}
 use Rattle.std.proofs.lemmas.Bool.{le-leb, lt-leb}
 use Rattle.settings_block.specs.declared.stored.Loaded.{Loaded}
 use Rattle.zero_cross.specs.Comparator.{held}
@@ -10,6 +10,12 @@ use Rattle.esc_laws.specs.Place.{place}
 use Rattle.esc_laws.specs.Rested.{first_rested}
 use Rattle.esc_laws.specs.Saves.{advance_of}
 use Rattle.esc_laws.specs.allowed.Calls.{CallsBegin}
+
+neither : (a b : Bool) → ((a && false) || (b && false)) ≡ false
+neither true true = refl
+neither true false = refl
+neither false true = refl
+neither false false = refl
 
 pub calls_begin : CallsBegin
 unfolding place line burst first_rested held
@@ -37,5 +43,8 @@ calls_begin = record {
   low_switch_may_turn_on = λ loaded. record { called = refl; not_before = refl };
   blanking_ends = λ loaded. record { called = refl; not_before = refl };
   filter_ends = λ loaded e. record { called = rw e refl; not_before = refl };
+  watch_begins = λ loaded e. record { called = rw e refl; not_before = rw e refl };
+  watch_hears = λ loaded e. record { called = rw e refl; not_before = rw e refl };
+  watch_hears_no_other_level = λ loaded t e. rw e (neither (nat_le 8532 t) (nat_le 8908 t));
   level_came_later = λ loaded e. rw e refl;
 }

@@ -13,7 +13,8 @@ use Rattle.esc_laws.specs.Looks.{placed}
 use Rattle.esc_laws.specs.Place.{Place, place}
 use Rattle.esc_laws.specs.Rested.{first_rested}
 use Rattle.esc_laws.specs.Steps.{opening}
-use Rattle.esc_laws.specs.refused.Notes.{enters, leaves, nothing, ticks}
+use Rattle.esc_laws.specs.refused.Notes.{enters, leaves, nothing, ticks, turns}
+use Rattle.esc_laws.specs.refused.Crossings.{looks}
 use Rattle.esc_laws.specs.refused.Nesting.{started}
 use Rattle.esc_laws.specs.refused.Windows.{late_edge}
 use Rattle.esc_laws.specs.refused.Steps.{two_edges}
@@ -63,7 +64,12 @@ entries_refuse = record {
       let e : false ≡ true = asks_at loaded trace (started (enters 4000 5 ∷ leaves 4012 5 ∷ [])) after (enters 4019 5) h in absurd (cc));
   comm_without_a_drive = λ trace loaded after h. (let e : false ≡ true = asks_at loaded trace [] after (enters 2410 6) h in absurd (cc));
   comm_before_a_turn_is_due = λ trace loaded after h. (let e : false ≡ true = asks_at loaded trace turned after (enters 242499 6) h in absurd (cc));
-  cmp_without_a_drive = λ trace loaded after h. asks_at loaded trace [] after (enters 2396 4) h;
-  cmp_before_the_first_sector = λ trace loaded after h. asks_at loaded trace (started []) after (enters 2420 4) h;
-  cmp_after_the_drive = λ trace loaded after h. asks_at loaded trace (turned ++ ticks 4804 2 0 0 ∷ []) after (enters 8500 4) h;
+  cmp_without_a_drive = λ trace loaded after h. (asks_at loaded trace [] after (enters 2396 4) h).0;
+  cmp_before_the_first_sector = λ trace loaded after h. (asks_at loaded trace (started []) after (enters 2420 4) h).0;
+  fourth_look_after_399_ticks = λ trace loaded after h. (
+      let l = (asks_at loaded trace (turned ++ (looks 8500 ++ looks 8600 ++ looks 8700)) after (enters 8899 4) h).1.since_turn in absurd (omega arith));
+  fourth_look_after_299_ticks = λ trace loaded after h. (
+      let l = (asks_at loaded trace (turned ++ (looks 8500 ++ looks 8600 ++ (enters 8650 6 ∷ turns 8652 2 ∷ leaves 8660 6 ∷ looks 8700))) after
+      (enters 8799 4) h).1.all in absurd (omega arith));
+  cmp_after_the_drive = λ trace loaded after h. (asks_at loaded trace (turned ++ ticks 4804 2 0 0 ∷ []) after (enters 8500 4) h).0;
 }

@@ -21,7 +21,7 @@ use Rattle.esc_laws.specs.Calls.{HasTurned, HasCaughtUp, turns_in, turn_was_due}
 use Rattle.esc_laws.specs.Steps.{journal, open_in, free, after, StepFits}
 use Rattle.esc_laws.specs.refused.Notes.{enters, leaves, ticks, turns, crosses, first_two}
 use Rattle.esc_laws.specs.refused.Steps.{entry}
-use Rattle.esc_laws.specs.refused.Crossings.{forwards, first_turn, up_from, commutes, looks, first_sector, CrossingsRefuse, CrossedTurnsRefuse, SearchesRefuse, ActivationsRefuse}
+use Rattle.esc_laws.specs.refused.Crossings.{forwards, first_turn, up_from, commutes, looks, first_sector, looked_once, CrossingsRefuse, CrossedTurnsRefuse, SearchesRefuse, ActivationsRefuse}
 use Rattle.arming.proofs.InOrder.{each_at}
 use Rattle.esc_laws.proofs.refused.Nesting.{nest_fits}
 
@@ -146,10 +146,34 @@ late loaded nest cost le f =
     let z : true ≡ false = sym (cmp_called loaded) ∙ f.idle (sector_open loaded) 8500 (omega arith) (omega arith) (no_stall 8500) kind.Cmp in
     absurd (cc)
 
+once_open : (loaded : Loaded) → open_in loaded looked_once ≡ []
+unfolding place
+once_open loaded = refl
+
+once_after : (cost : ℕ) → after cost (up_from 9000) looked_once ≡ 8508 + cost
+unfolding after free
+once_after cost = refl
+
+no_stall_up : (t : ℕ) → free (up_from 9000) t ≡ t
+unfolding free
+no_stall_up t = refl
+
+watch_called : (loaded : Loaded) → loaded.settings.direction ≡ 0 → sees loaded (up_from 9000) (journal loaded looked_once) 9000 kind.Cmp ≡ true
+unfolding place held
+watch_called loaded e = rw e refl
+
+unheard : (loaded : Loaded) (nest : Nest) (cost : ℕ) → cost ≤ 16 → loaded.settings.direction ≡ 0
+    → StepFits loaded nest cost (up_from 9000) looked_once (entry 242500 kind.Comm) → ⊥
+unheard loaded nest cost le forward f =
+    let from = once_after cost in
+    let z : true ≡ false = sym (watch_called loaded forward) ∙ f.idle (once_open loaded) 9000 (omega arith) (omega arith) (no_stall_up 9000) kind.Cmp in
+    absurd (cc)
+
 pub activations_refuse : ActivationsRefuse
 activations_refuse = record {
   no_sector_after_a_crossing = λ nest loaded after h. not_done (advance_of loaded.settings) _ refl
       (le-leb (8524 + wait_of (advance_of loaded.settings) 24000) 20600 (omega arith))
       (nest_fits nest loaded (commutes ++ (enters 8500 4 ∷ crosses 8524 ∷ leaves 8530 4 ∷ enters 20600 6 ∷ [])) after (leaves 20612 6) h).1;
+  nobody_listens = unheard;
   cmp_enters_a_tick_late = late;
 }

@@ -71,4 +71,8 @@ pub record CallsBegin : Type 0 where
   -- expected level from its entry on
   pub blanking_ends : (loaded : Loaded) → CallsFrom loaded [] commutes kind.Cmp 8500
   pub filter_ends : (loaded : Loaded) → loaded.settings.direction ≡ 0 → CallsFrom loaded (up_from 100) looked kind.Cmp 8532
+  -- and for each later change: 400 ticks after its return at 8508 while the level is the expected one, or when it becomes that
+  pub watch_begins : (loaded : Loaded) → loaded.settings.direction ≡ 0 → CallsFrom loaded (up_from 8501) looked kind.Cmp 8908
+  pub watch_hears : (loaded : Loaded) → loaded.settings.direction ≡ 0 → CallsFrom loaded (up_from 9000) looked kind.Cmp 9000
+  pub watch_hears_no_other_level : (loaded : Loaded) (t : ℕ) → loaded.settings.direction ≡ 0 → CallsNot loaded [] looked kind.Cmp t
   pub level_came_later : (loaded : Loaded) → loaded.settings.direction ≡ 0 → CallsNot loaded (up_from 8501) looked kind.Cmp 8532

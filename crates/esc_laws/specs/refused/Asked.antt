@@ -14,6 +14,7 @@ use Rattle.esc_laws.specs.refused.Nesting.{started}
 use Rattle.esc_laws.specs.refused.Windows.{late_edge}
 use Rattle.esc_laws.specs.refused.Steps.{two_edges}
 use Rattle.esc_laws.specs.refused.Replies.{with_reply}
+use Rattle.esc_laws.specs.refused.Crossings.{looks}
 use Rattle.esc_laws.specs.allowed.Calls.{turned}
 
 -- each note of a journal keeps the law of entries
@@ -45,4 +46,8 @@ pub record EntriesRefuse : Type 0 where
   -- CMP is entered in a sector of a running drive
   pub cmp_without_a_drive : (trace : List Event) → Unasked trace (enters 2396 4 ∷ [])
   pub cmp_before_the_first_sector : (trace : List Event) → Unasked trace (started (enters 2420 4 ∷ []))
+  -- and of four of its activations in a row the fourth comes 400 ticks after the first, or 300 where a Q stands between
+  pub fourth_look_after_399_ticks : (trace : List Event) → Unasked trace (turned ++ (looks 8500 ++ looks 8600 ++ looks 8700 ++ enters 8899 4 ∷ []))
+  pub fourth_look_after_299_ticks : (trace : List Event) → Unasked trace (turned ++ (looks 8500 ++ looks 8600
+      ++ (enters 8650 6 ∷ turns 8652 2 ∷ leaves 8660 6 ∷ looks 8700) ++ enters 8799 4 ∷ []))
   pub cmp_after_the_drive : (trace : List Event) → Unasked trace (turned ++ (ticks 4804 2 0 0 ∷ enters 8500 4 ∷ []))

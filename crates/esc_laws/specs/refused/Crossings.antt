@@ -1,6 +1,6 @@
 -- Shown of the laws, and no law.
 -- What the laws of crossings refuse: small wrong journals, each with the sentence that it breaks.
-use Rattle.std.specs.Prelude.{◌≤◌, ◌+◌, ℕ, Bool, true, false, List, [], ◌∷◌, ◌++◌}
+use Rattle.std.specs.Prelude.{◌≡◌, ◌≤◌, ◌+◌, ℕ, Bool, true, false, List, [], ◌∷◌, ◌++◌}
 use Rattle.esc_base.specs.declared.kind.Kind.TheVariants as kind
 use Rattle.esc_base.specs.declared.event.Event.{Event}
 use Rattle.esc_base.specs.declared.event.Event.TheVariants as event
@@ -89,9 +89,16 @@ first_sector =
     entry 2400 kind.Tick ∷ own 2402 kind.Tick (ticks 2402 1 0 20 ∷ leaves 2402 2 ∷ []) ∷ entry 2498 kind.Comm ∷ own 2500 kind.Comm
     (turns 2500 1 ∷ leaves 2500 6 ∷ []) ∷ []
 
+-- CMP has looked once at the end of its blanking
+abbrev pub looked_once : List Turned
+looked_once = first_sector ++ (entry 8500 kind.Cmp ∷ own 8508 kind.Cmp (leaves 8508 4 ∷ []) ∷ [])
+
 pub record ActivationsRefuse : Type 0 where
   -- a COMM has a Q where the wait after a Z is over
   pub no_sector_after_a_crossing : (nest : Nest) → Unnested nest (commutes
       ++ (enters 8500 4 ∷ crosses 8524 ∷ leaves 8530 4 ∷ enters 20600 6 ∷ leaves 20612 6 ∷ []))
+  -- a change of the comparator after that is heard: the level is the expected one from 9000 on, and the sector isn't left by force
+  pub nobody_listens : (loaded : Loaded) (nest : Nest) (cost : ℕ) → cost ≤ 16 → loaded.settings.direction ≡ 0
+      → StepFits loaded nest cost (up_from 9000) looked_once (entry 242500 kind.Comm) → ⊥
   -- CMP is entered when the blanking after a Q is over
   pub cmp_enters_a_tick_late : (loaded : Loaded) (nest : Nest) (cost : ℕ) → cost ≤ 16 → StepFits loaded nest cost [] first_sector (entry 8501 kind.Cmp) → ⊥

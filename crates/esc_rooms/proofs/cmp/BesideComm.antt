@@ -1,5 +1,5 @@
 -- The search for a crossing beside a step of COMM.
-use Rattle.std.proofs.Common.{◌≡◌, ◌≢◌, ◌≤◌, inl, ℕ, Bool, true, false, not, if◌then◌else◌, Some, refl, sym, ◌∙◌, arith}
+use Rattle.std.proofs.Common.{◌≡◌, ◌≢◌, ◌≤◌, inl, ℕ, Bool, true, false, not, if◌then◌else◌, Some, refl, sym, ◌∙◌, arith, ◌+◌, List, [], None}
 use Rattle.esc_base.specs.Numbers.{as_tick}
 use Rattle.zero_cross.specs.declared.phase.Phase.{Phase}
 use Rattle.zero_cross.specs.declared.phase.Phase.TheVariants as phase
@@ -12,6 +12,10 @@ use Rattle.esc_core.specs.declared.state.CmpAt.TheVariants as cmp
 use Rattle.esc_core.specs.declared.state.CommAt.{CommAt}
 use Rattle.esc_core.specs.declared.state.CommAt.TheVariants as comm
 use Rattle.esc_laws.specs.Searched.{Sight, Away, Begun, Awaits, First, Settles, Second, sight_begun}
+use Rattle.esc_base.specs.Times.{least_blanking, rejected_blanking}
+use Rattle.esc_rooms.specs.WatchTied.{WatchAt, WatchTied}
+use Rattle.esc_rooms.specs.SeldomTied.{Newest, PaceTied, SeldomTied}
+use Rattle.esc_rooms.proofs.cmp.Seldom.{past_all}
 use Rattle.esc_rooms.specs.CrossTied.{CrossView, CrossTied, PhaseTied, RegsTied, IsEarly, SightTied, LateTied, future, is_some, is_shut, is_begun, begins_search, ends_drive}
 use Rattle.esc_rooms.proofs.cmp.CrossFacts.{cmp_masks, is_false}
 
@@ -37,6 +41,8 @@ moved_cross v place at postponed same stays late t = record {
   seen = t.seen;
   begun = λ e. absurd (stays e);
   late = late;
+  seldom = t.seldom;
+  watch = t.watch;
 }
 
 pub prompt_late : (at : CmpAt) (p : Phase) → LateTied at p false
@@ -90,6 +96,9 @@ cross_turned v place at search q blanked expects quiet = record v {
   expects = expects;
   sight = if v.told_open then Away else Begun;
   quiet = quiet;
+  looks = [];
+  looking = false;
+  looked = None;
 }
 
 shut_by : (at : CmpAt) → false ≡ not (is_shut at) → at ≡ cmp.Shut
@@ -127,18 +136,52 @@ phase_new (phase.Blank end) q changed since blanked time past e = (tt, end_of en
     end_of end e = (let s : end ≡ as_tick blanked = cc in rw s (omega arith))
 phase_new p q changed since blanked time past e = cc
 
+-- no activation was entered since the Q
+watch_turned : (at : CmpAt) (p : Phase) (changed expected : Bool) (time past blanked : ℕ) → cmp_masks at ≡ false → p ≡ phase.Blank (as_tick blanked)
+    → WatchTied at p changed expected false None time past
+watch_turned at p changed expected time past blanked free e = record { heard = by_place at free; none = λ o l. refl }
+  where
+    by_place : (at : CmpAt) → cmp_masks at ≡ false → WatchAt at p changed expected false None time past
+    by_place cmp.Shut free = λ o l. cc
+    by_place cmp.Back free = λ l. cc
+    by_place cmp.Raise free = λ l. cc
+    by_place at free = cc
+
+-- how seldom CMP comes: no entry stands since the Q
+seldom_turned : (at : CmpAt) (p p' : Phase) (now blanked : ℕ) (entries looks : List ℕ) → cmp_masks at ≡ false → p' ≡ phase.Blank (as_tick blanked)
+    → now + least_blanking ≤ blanked → SeldomTied at p now entries looks → SeldomTied at p' now entries []
+seldom_turned at p p' now blanked entries looks free blank long s = record {
+  ordered = s.ordered;
+  ordered_since = tt;
+  all = rw blank (by_place least_blanking at entries free s.ordered long);
+  since_turn = rw blank (by_place_none at free);
+}
+  where
+    by_place : (gap : ℕ) (at : CmpAt) (l : List ℕ) → cmp_masks at ≡ false → Newest now l → now + gap ≤ blanked
+        → PaceTied gap at (phase.Blank (as_tick blanked)) now l
+    by_place gap cmp.Shut l free o long = past_all gap l now blanked o long
+    by_place gap cmp.Back l free o long = past_all gap l now blanked o long
+    by_place gap cmp.Raise l free o long = inl (past_all gap l now blanked o long)
+    by_place gap at l free o long = cc
+
+    by_place_none : (at : CmpAt) → cmp_masks at ≡ false → PaceTied rejected_blanking at (phase.Blank (as_tick blanked)) now []
+    by_place_none cmp.Shut free = tt
+    by_place_none cmp.Back free = tt
+    by_place_none cmp.Raise free = inl tt
+    by_place_none at free = cc
+
 pub turned_cross : (v : CrossView) (place : CommAt) (at : ChangeAt) (search : Kept) (q blanked : ℕ) (expects : Bool) (quiet : ℕ → ℕ)
     → begins_search place at ≡ true → place ≢ comm.Shut → cmp_masks v.cmp_at ≡ false → ends_drive v.tick_at ≡ false
-    → search.phase ≡ phase.Blank (as_tick blanked) → search.expects ≡ expects → ((since : ℕ) → quiet since ≡ 0) → CrossTied v
-    → CrossTied (cross_turned v place at search q blanked expects quiet)
-turned_cross v place at search q blanked expects quiet is stays free goes blank level none t = record {
+    → search.phase ≡ phase.Blank (as_tick blanked) → search.expects ≡ expects → ((since : ℕ) → quiet since ≡ 0) → v.time + least_blanking ≤ blanked
+    → CrossTied v → CrossTied (cross_turned v place at search q blanked expects quiet)
+turned_cross v place at search q blanked expects quiet is stays free goes blank level none long t = record {
   pace_is = t.pace_is;
   advance_is = t.advance_is;
   expects_is = level;
   level_is = t.level_is;
   open_is = t.open_is;
   phase_is = phase_new search.phase q v.changed v.held.since blanked v.time v.past blank;
-  begins = λ e. record { blank = blank; early = early_new v.told_open; none = none };
+  begins = λ e. record { blank = blank; early = early_new v.told_open; none = none; unlooked = refl };
   ends = λ e. absurd (is_false _ goes e);
   regs = λ b e. absurd (is_false _ b is);
   below = λ since l. none since;
@@ -150,6 +193,8 @@ turned_cross v place at search q blanked expects quiet is stays free goes blank 
   seen = seen_new v.told_open v.cmp_at search.phase v.held expects blanked v.time v.past t.open_is blank;
   begun = λ e. absurd (stays e);
   late = late_blank v.cmp_at search.phase v.postponed blanked blank;
+  seldom = seldom_turned v.cmp_at v.search.phase search.phase v.time blanked v.entries v.looks free blank long t.seldom;
+  watch = watch_turned v.cmp_at search.phase v.changed _ v.time v.past blanked free blank;
 }
 
 -- ---- the crossing timer is armed for the end of blanking
@@ -189,6 +234,8 @@ armed_cross v place was is stays free t =
       seen = t.seen;
       begun = λ e. absurd (stays e);
       late = t.late;
+      seldom = t.seldom;
+      watch = t.watch;
     }
 
 -- ---- COMM returns
@@ -229,4 +276,6 @@ left_cross v was goes t = record {
   seen = seen_left v.sight v.cmp_at v.search.phase v.held v.expects v.blanked v.time v.past t.seen;
   begun = λ e. begun_left v.sight v.blanked v.time;
   late = t.late;
+  seldom = t.seldom;
+  watch = t.watch;
 }

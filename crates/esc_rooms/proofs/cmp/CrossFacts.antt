@@ -14,6 +14,8 @@ use Rattle.esc_core.specs.Drive.{search_after}
 use Rattle.esc_core.specs.Firmware.{cmp_left, cmp_need, tick_need}
 use Rattle.esc_laws.specs.Searched.{Away}
 use Rattle.esc_rooms.specs.DriveTied.{commutes}
+use Rattle.esc_rooms.proofs.cmp.Seldom.{seldom_off}
+use Rattle.esc_rooms.proofs.cmp.Watch.{watch_off}
 use Rattle.esc_rooms.specs.CrossTied.{CrossView, CrossTied, PhaseTied, RegsTied, LateTied, HasNoQ, future, is_some, begins_search, ends_drive}
 
 -- ---- places outside of the mask
@@ -80,6 +82,8 @@ cross_retimed v place same t = record {
   seen = t.seen;
   begun = t.begun;
   late = t.late;
+  seldom = t.seldom;
+  watch = t.watch;
 }
 
 -- a K, by whether its demand is 0, whether the one before was, and whether it starts a drive
@@ -141,6 +145,8 @@ asked_cross true was some start v pace shut closed no_search goes none e p t =
       seen = tt;
       begun = λ c. refl;
       late = late_shut v.cmp_at phase.Off v.postponed shut;
+      seldom = seldom_off v.cmp_at v.search.phase v.time v.entries v.looks shut t.seldom;
+      watch = watch_off v.cmp_at v.changed _ v.looking v.looked v.time v.past shut;
     })
 asked_cross false true some start v pace shut closed no_search goes none e p t =
     let off : v.search.phase ≡ phase.Off = off_phase v.search.phase v.turn v.changed v.held.since v.blanked v.time v.past (none refl) t.phase_is in
@@ -159,6 +165,8 @@ asked_cross false true some start v pace shut closed no_search goes none e p t =
       seen = t.seen;
       begun = t.begun;
       late = t.late;
+      seldom = t.seldom;
+      watch = t.watch;
     })
 asked_cross false false some start v pace shut closed no_search goes none e p t =
     subst (λ (s : Bool). CrossTied (cross_asked v false false s start pace)) (sym e) (record {
@@ -176,6 +184,8 @@ asked_cross false false some start v pace shut closed no_search goes none e p t 
       seen = t.seen;
       begun = t.begun;
       late = t.late;
+      seldom = t.seldom;
+      watch = t.watch;
     })
 
 -- the drive is off
@@ -211,4 +221,6 @@ driven_cross v is t =
       seen = t.seen;
       begun = t.begun;
       late = late_shut v.cmp_at v.search.phase false ends.shut;
+      seldom = t.seldom;
+      watch = t.watch;
     }

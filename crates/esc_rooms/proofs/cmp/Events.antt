@@ -1,5 +1,5 @@
 -- Time, an event of the comparator, and CMP's entry: what they make of the search for a crossing.
-use Rattle.std.proofs.Common.{◌≡◌, ◌≤◌, ◌<◌, ◌+◌, inl, inr, ℕ, Bool, true, false, not, ◌&&◌, ◌||◌, nat_le, if◌then◌else◌, Option, Some, None, refl, subst, arith}
+use Rattle.std.proofs.Common.{◌≡◌, ◌≤◌, ◌<◌, ◌+◌, inl, inr, ℕ, Bool, true, false, not, ◌&&◌, ◌||◌, nat_le, if◌then◌else◌, List, [], ◌∷◌, Option, Some, None, refl, subst, arith}
 use Rattle.std.proofs.lemmas.Bool.{and_parts}
 use Rattle.std.proofs.lemmas.Bool.Decides.{nat_tests}
 use Rattle.esc_base.specs.Numbers.{as_tick}
@@ -13,6 +13,9 @@ use Rattle.commutation.specs.Commutated.{Turn}
 use Rattle.esc_core.specs.declared.state.CmpAt.{CmpAt}
 use Rattle.esc_core.specs.declared.state.CmpAt.TheVariants as cmp
 use Rattle.esc_laws.specs.Searched.{Sight, Away, Begun, Awaits, First, Settles, Second, sight_entered, calls_cmp}
+use Rattle.esc_rooms.proofs.cmp.Seldom.{seldom_later, seldom_entered}
+use Rattle.esc_rooms.specs.WatchTied.{IsLate}
+use Rattle.esc_rooms.proofs.cmp.Watch.{watch_later, watch_changes}
 use Rattle.esc_rooms.specs.CrossTied.{CrossView, CrossTied, PhaseTied, RegsTied, Armed, Called, FirstTied, SecondTied, SightTied, Passes, IsBlanked, LateTied, future, to_come, to_come_after, is_some, is_begun}
 use Rattle.esc_rooms.proofs.cmp.Facts.{Stands, Free, phase_more, passes_more}
 use Rattle.std.proofs.lemmas.Bool.{leb-true}
@@ -109,6 +112,8 @@ cross_later v u l t = record {
   seen = seen_later v.sight v.cmp_at v.search.phase v.held v.expects v.blanked v.time u v.past l t.seen;
   begun = t.begun;
   late = t.late;
+  watch = watch_later v.cmp_at v.search.phase v.changed (is_expected v.search v.level) v.looking v.looked v.time u v.past l t.watch;
+  seldom = seldom_later v.cmp_at v.search.phase v.time u v.entries v.looks l t.seldom;
 }
 
 -- ---- a change of the comparator
@@ -234,6 +239,8 @@ cross_changes v level l t = record {
   seen = seen_event v.sight v.cmp_at v.search.phase v.held level v.expects v.blanked v.time v.past l t.seen;
   begun = t.begun;
   late = t.late;
+  watch = watch_changes v.cmp_at v.search.phase v.changed (is_expected v.search v.level) (is_expected v.search level) v.looking v.looked v.time v.past t.watch;
+  seldom = t.seldom;
 }
 
 -- ---- what the notes call is due
@@ -276,7 +283,7 @@ reached_at timer enabled changed end time c h d = by_test (nat_le end time) refl
 none_due : (timer : Option ℕ) (enabled changed : Bool) (time : ℕ) → timer ≡ None → enabled ≡ false → (is_reached timer time || (enabled && changed)) ≡ true → ⊥
 none_due timer enabled changed time c h d = let z : false ≡ true = (rw (c, h) at d) in cc
 
-called_by : (p : Phase) (timer : Option ℕ) (enabled changed : Bool) (time : ℕ) → Armed p timer enabled
+pub called_by : (p : Phase) (timer : Option ℕ) (enabled changed : Bool) (time : ℕ) → Armed p timer enabled
     → (is_reached timer time || (enabled && changed)) ≡ true → Called p None time
 called_by phase.Off timer enabled changed time a d = refl
 called_by (phase.Blank end) timer enabled changed time a d = inr (refl, reached_at timer enabled changed end.0 time a.0 a.1 d)
@@ -348,7 +355,18 @@ entered_view v quiet = record v {
   sight = sight_entered v.sight v.time;
   told_open = true;
   quiet = quiet;
+  entries = v.time ∷ v.entries;
+  looks = v.time ∷ v.looks;
+  looking = true;
 }
+
+blank_late : (p : Phase) (time : ℕ) → Called p None time → IsLate p time
+blank_late phase.Off time c = tt
+blank_late (phase.Blank end) time (inl c) = cc
+blank_late (phase.Blank end) time (inr c) = c.1
+blank_late phase.Watch time c = tt
+blank_late (phase.Filter end) time c = tt
+blank_late phase.Done time c = tt
 
 pub cross_entered : (v : CrossView) (quiet : ℕ → ℕ) → Free v → CrossTied v → Stands v cmp.Shut v.search.phase
     → (is_reached v.timer v.time || (v.enabled && v.changed)) ≡ true → LateTied cmp.Raise v.search.phase v.postponed
@@ -371,4 +389,6 @@ cross_entered v quiet free t s due late none one =
       seen = seen_enter v.sight v.search.phase v.held v.expects v.blanked v.time v.past free.past c (t.begun free.closed) s.seen;
       begun = λ e. not_begun v.sight v.time (t.begun free.closed);
       late = late;
+      watch = record { heard = λ e. blank_late v.search.phase v.time c; none = λ o e. cc };
+      seldom = seldom_entered v.search.phase v.timer v.enabled v.changed v.time v.entries v.looks s.regs due c s.seldom;
     }

@@ -10,6 +10,8 @@ use Rattle.esc_core.specs.declared.state.CmpAt.{CmpAt}
 use Rattle.esc_core.specs.declared.state.CmpAt.TheVariants as cmp
 use Rattle.esc_core.specs.declared.state.CommAt.TheVariants as comm
 use Rattle.esc_laws.specs.Searched.{Sight, Away, Begun, Awaits, First, Settles, Second}
+use Rattle.esc_rooms.specs.SeldomTied.{SeldomTied}
+use Rattle.esc_rooms.specs.WatchTied.{WatchTied}
 use Rattle.esc_rooms.specs.CrossTied.{CrossView, CrossTied, PhaseTied, RegsTied, FirstTied, SecondTied, SightTied, Passes, LateTied, future, is_some, is_shut, begins_search, ends_drive}
 use Rattle.esc_rooms.proofs.cmp.CrossFacts.{is_false}
 
@@ -21,6 +23,8 @@ pub record Stands (v : CrossView) (at : CmpAt) (p : Phase) : Type 0 where
   pub few : v.quiet v.held.since + future at p (is_some v.timer) v.changed (is_expected v.search v.level) ≤ 3
   pub seen : SightTied v.sight at p v.held v.expects v.blanked v.time v.past
   pub late : LateTied at p v.postponed
+  pub seldom : SeldomTied at p v.time v.entries v.looks
+  pub watch : WatchTied at p v.changed (is_expected v.search v.level) v.looking v.looked v.time v.past
 
 -- and that COMM is shut, and TICK doesn't end the drive
 pub record Free (v : CrossView) : Type 0 where
@@ -38,6 +42,8 @@ stands v at p e f free t =
       few = t.few;
       seen = t.seen;
       late = t.late;
+      seldom = t.seldom;
+      watch = t.watch;
     }))
 
 -- what a step leaves: another place, and what it has changed of the search and of the registers
@@ -53,6 +59,8 @@ pub record Moves (v : CrossView) (at : CmpAt) (search : Kept) (changed enabled :
   pub few : v.quiet v.held.since + future at search.phase (is_some timer) changed (is_expected search v.level) ≤ 3
   pub seen : SightTied v.sight at search.phase v.held v.expects v.blanked v.time (v.time + 1)
   pub late : LateTied at search.phase v.postponed
+  pub seldom : SeldomTied at search.phase v.time v.entries v.looks
+  pub watch : WatchTied at search.phase changed (is_expected search v.level) v.looking v.looked v.time (v.time + 1)
 
 pub cmp_moves : (v : CrossView) (at : CmpAt) (search : Kept) (changed enabled : Bool) (timer : Option ℕ) → is_shut v.cmp_at ≡ false → Free v → CrossTied v
     → Moves v at search changed enabled timer → CrossTied (cmp_view v at search changed enabled timer)
@@ -71,6 +79,8 @@ cmp_moves v at search changed enabled timer was free t m = record {
   seen = m.seen;
   begun = t.begun;
   late = m.late;
+  seldom = m.seldom;
+  watch = m.watch;
 }
 
 -- ---- what goes on as it is
@@ -120,6 +130,8 @@ pub record Goes (v : CrossView) (at : CmpAt) (p : Phase) (changed enabled : Bool
   pub few : v.quiet v.held.since + future at p (is_some timer) changed (is_expected v.search v.level) ≤ 3
   pub seen : SightTied v.sight at p v.held v.expects v.blanked v.time (v.time + 1)
   pub late : LateTied at p v.postponed
+  pub seldom : SeldomTied at p v.time v.entries v.looks
+  pub watch : WatchTied at p changed (is_expected v.search v.level) v.looking v.looked v.time (v.time + 1)
 
 pub moves_by_phase : (v : CrossView) (at : CmpAt) (p : Phase) (search : Kept) (changed enabled : Bool) (timer : Option ℕ) → search.phase ≡ p
     → search.expects ≡ v.search.expects → Goes v at p changed enabled timer → Moves v at search changed enabled timer
@@ -132,4 +144,7 @@ moves_by_phase v at p search changed enabled timer e f g = record {
       (subst (λ (x : Bool). v.quiet v.held.since + future at p (is_some timer) changed (not (differ v.level x)) ≤ 3) (sym f) g.few);
   seen = subst (λ (x : Phase). SightTied v.sight at x v.held v.expects v.blanked v.time (v.time + 1)) (sym e) g.seen;
   late = subst (λ (x : Phase). LateTied at x v.postponed) (sym e) g.late;
+  seldom = subst (λ (x : Phase). SeldomTied at x v.time v.entries v.looks) (sym e) g.seldom;
+  watch = subst (λ (x : Phase). WatchTied at x changed (is_expected search v.level) v.looking v.looked v.time (v.time + 1)) (sym e)
+      (subst (λ (x : Bool). WatchTied at p changed (not (differ v.level x)) v.looking v.looked v.time (v.time + 1)) (sym f) g.watch);
 }

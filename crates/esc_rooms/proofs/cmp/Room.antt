@@ -1,5 +1,5 @@
 -- CMP's row of the laws: what calls it, its entry, and the search's tie as events come.
-use Rattle.std.proofs.Common.{zero, suc, ◌≡◌, ◌≤◌, ◌<◌, ◌+◌, inl, inr, ℕ, Bool, true, false, ◌&&◌, ◌||◌, ◌==◌, min, nat_le, if◌then◌else◌, List, [], ◌∷◌, ◌++◌, refl, sym, ◌∙◌, ap, subst, arith}
+use Rattle.std.proofs.Common.{zero, suc, ◌≡◌, ◌≤◌, ◌<◌, ◌+◌, inl, inr, ℕ, Bool, true, false, ◌&&◌, ◌||◌, ◌==◌, min, nat_le, if◌then◌else◌, List, [], ◌∷◌, ◌++◌, refl, sym, ◌∙◌, ap, subst, arith, ◌⊎◌, Option, None, not}
 use Rattle.std.proofs.lemmas.Bool.{le-leb}
 use Rattle.std.proofs.lemmas.Bool.Decides.{nat_tests}
 use Rattle.esc_base.specs.declared.kind.Kind.TheVariants as kind
@@ -24,10 +24,13 @@ use Rattle.esc_core.specs.declared.state.CommAt.TheVariants as comm
 use Rattle.esc_core.specs.Drive.{low_free, due_at}
 use Rattle.esc_laws.specs.Calls.{turned_at}
 use Rattle.esc_laws.specs.Crossed.{blanked_at, expects_at}
-use Rattle.esc_laws.specs.Searched.{Sight, Away, Begun, Awaits, First, Settles, Second, calls_cmp, sight_at, quiet_at}
+use Rattle.esc_laws.specs.Searched.{Sight, Away, Begun, Awaits, First, Settles, Second, calls_cmp, calls_watch, is_over, awaits_crossing, is_looking, looked_at, sight_at, quiet_at}
 use Rattle.esc_laws.specs.Saves.{forward_at}
 use Rattle.esc_rooms.specs.DriveTied.{DriveView, TimerKept, commutes}
 use Rattle.esc_rooms.specs.CrossTied.{CrossTied, RegsTied, HasQ, IsEarly, SightTied, LateTied, begins_search}
+use Rattle.zero_cross.specs.Kept.{is_expected}
+use Rattle.esc_rooms.specs.WatchTied.{WatchTied}
+use Rattle.esc_rooms.proofs.cmp.Watch.{watch_due}
 use Rattle.esc_rooms.specs.World.{World, enters, after_enter, after_outside}
 use Rattle.esc_rooms.specs.Rooms.{Ties, Tie, Unheld, Past, drive_seen, cross_seen}
 use Rattle.esc_laws.proofs.Comparator.{since_past, held_stays, held-push, held_now}
@@ -52,19 +55,52 @@ early_calls h expects (First i) t e c = absurd e
 early_calls h expects (Settles i u) t e c = absurd e
 early_calls h expects (Second i z) t e c = absurd e
 
+unlooked : (awaits : Bool) (looked : Option ℕ) (expected : Bool) (t : ℕ) → looked ≡ None → (awaits && (is_over looked t && expected)) ≡ true → ⊥
+unlooked true looked expected t none e = (let z : false ≡ true = (rw none at e) in cc)
+unlooked false looked expected t none e = cc
+
+or_parts : (a b : Bool) → (a || b) ≡ true → (a ≡ true) ⊎ (b ≡ true)
+or_parts true b e = inl refl
+or_parts false b e = inr e
+
 cmp_called : (w : World) → Ties w → Unheld w → w.core.cmp_at ≡ cmp.Shut
-    → calls_cmp (held w.trace w.bank.time) (expects_at (forward_at w.loaded.settings) w.back) (sight_at w.back) w.bank.time ≡ true
+    → (calls_cmp (held w.trace w.bank.time) (expects_at (forward_at w.loaded.settings) w.back) (sight_at w.back) w.bank.time
+    || calls_watch (held w.trace w.bank.time) (expects_at (forward_at w.loaded.settings) w.back) w.back w.bank.time) ≡ true
     → (is_reached w.bank.crossing w.bank.time || (w.bank.comp_enabled && w.bank.comp_changed)) ≡ true
-cmp_called w t unheld shut c = by_search (begins_search w.core.comm_at w.core.drive.turn.at) refl
+cmp_called w t unheld shut c =
+    elim (or_parts (calls_cmp (held w.trace w.bank.time) (expects_at (forward_at w.loaded.settings) w.back) (sight_at w.back) w.bank.time)
+    (calls_watch (held w.trace w.bank.time) (expects_at (forward_at w.loaded.settings) w.back) w.back w.bank.time) c) [
+      | inl first ↦ by_search (begins_search w.core.comm_at w.core.drive.turn.at) refl first
+      | inr later ↦ by_watch (begins_search w.core.comm_at w.core.drive.turn.at) refl later
+    ]
   where
     u : CrossTied (cross_seen w)
     u = t kind.Cmp
 
-    by_search : (v : Bool) → begins_search w.core.comm_at w.core.drive.turn.at ≡ v
+    -- the level is the expected one by the registers as by the notes
+    expected : not (differ (held w.trace w.bank.time).level (expects_at (forward_at w.loaded.settings) w.back)) ≡ is_expected w.core.drive.crossing w.bank.comp
+    expected = rw (u.level_is, u.expects_is) refl
+
+    by_watch : (v : Bool) → begins_search w.core.comm_at w.core.drive.turn.at ≡ v
+        → calls_watch (held w.trace w.bank.time) (expects_at (forward_at w.loaded.settings) w.back) w.back w.bank.time ≡ true
         → (is_reached w.bank.crossing w.bank.time || (w.bank.comp_enabled && w.bank.comp_changed)) ≡ true
-    by_search true e = absurd (early_calls (held w.trace w.bank.time) (expects_at (forward_at w.loaded.settings) w.back) (sight_at w.back) w.bank.time
+    by_watch true e c = absurd (unlooked (awaits_crossing (turn_at w.back)) (looked_at w.back)
+        (not (differ (held w.trace w.bank.time).level (expects_at (forward_at w.loaded.settings) w.back))) w.bank.time (u.begins e).unlooked c)
+    by_watch false e c =
+        watch_due w.core.drive.crossing.phase (turn_at w.back) w.bank.comp_changed (is_expected w.core.drive.crossing w.bank.comp) (is_looking w.back)
+        (looked_at w.back) (held w.trace w.bank.time).since (blanked_at w.back) w.bank.time w.made.cmp_past w.bank.crossing w.bank.comp_enabled u.phase_is
+        (subst (λ (x : CmpAt). RegsTied x w.core.drive.crossing.phase w.bank.crossing w.bank.comp_enabled w.bank.time) shut
+        (u.regs e (tick_unmasked w.core.tick_at (unheld kind.Tick))))
+        (subst (λ (x : CmpAt). WatchTied x w.core.drive.crossing.phase w.bank.comp_changed (is_expected w.core.drive.crossing w.bank.comp)
+        (is_looking w.back) (looked_at w.back) w.bank.time w.made.cmp_past) shut u.watch)
+        (subst (λ (x : Bool). (awaits_crossing (turn_at w.back) && (is_over (looked_at w.back) w.bank.time && x)) ≡ true) expected c)
+
+    by_search : (v : Bool) → begins_search w.core.comm_at w.core.drive.turn.at ≡ v
+        → calls_cmp (held w.trace w.bank.time) (expects_at (forward_at w.loaded.settings) w.back) (sight_at w.back) w.bank.time ≡ true
+        → (is_reached w.bank.crossing w.bank.time || (w.bank.comp_enabled && w.bank.comp_changed)) ≡ true
+    by_search true e c = absurd (early_calls (held w.trace w.bank.time) (expects_at (forward_at w.loaded.settings) w.back) (sight_at w.back) w.bank.time
         (u.begins e).early c)
-    by_search false e =
+    by_search false e c =
         seen_due (sight_at w.back) w.core.drive.crossing.phase (held w.trace w.bank.time) (expects_at (forward_at w.loaded.settings) w.back) w.bank.comp_changed
         (blanked_at w.back) w.bank.time w.made.cmp_past w.bank.crossing w.bank.comp_enabled c
         (subst (λ (x : CmpAt). RegsTied x w.core.drive.crossing.phase w.bank.crossing w.bank.comp_enabled w.bank.time) shut

@@ -14,6 +14,8 @@ use Rattle.commutation.specs.Pace.{Pace}
 use Rattle.esc_core.specs.declared.state.CmpAt.{CmpAt}
 use Rattle.esc_core.specs.declared.state.CmpAt.TheVariants as cmp
 use Rattle.esc_laws.specs.Searched.{Sight, Away, Begun, Awaits, First, Settles, Second, sight_left, sight_crossed}
+use Rattle.esc_rooms.proofs.cmp.Seldom.{seldom_moves, pace_early, pace_blanked, pace_read, pace_rejected, pace_filters}
+use Rattle.esc_rooms.proofs.cmp.Watch.{watch_moves, watch_returned, hears_more}
 use Rattle.esc_rooms.specs.CrossTied.{CrossView, CrossTied, PhaseTied, Armed, Filters, SightTied, IsBlanked, LateTied, HasQ, HasZ, to_come, is_some, is_shut, is_begun}
 use Rattle.esc_laws.proofs.Comparator.{bit_acked}
 use Rattle.std.proofs.lemmas.Bool.{leb-true, leb-false}
@@ -32,6 +34,8 @@ raised v p free s = record {
   seen = seen_moves v.sight cmp.Raise cmp.Look p p v.held v.expects v.blanked v.time v.past (v.time + 1) (let l = free.past in omega arith) refl
       (λ i l f. f) (λ i z l f. f) s.seen;
   late = late_same p v.postponed s.late;
+  watch = watch_moves cmp.Raise cmp.Look p p v.changed v.changed (is_expected v.search v.level) (is_expected v.search v.level) v.looking v.looked v.time v.past (v.time + 1) refl (λ h. h) s.watch;
+  seldom = seldom_moves cmp.Raise cmp.Look p p v.time v.entries v.looks (λ gap l le o h. h) s.seldom;
 }
   where
     late_same : (p : Phase) (postponed : Bool) → LateTied cmp.Raise p postponed → LateTied cmp.Look p postponed
@@ -81,6 +85,8 @@ looked_off v free s = record {
   seen = seen_moves v.sight cmp.Look cmp.Lower phase.Off phase.Off v.held v.expects v.blanked v.time v.past (v.time + 1) (let l = free.past in omega arith) refl
       (λ i l f. absurd f) (λ i z l f e. absurd (f e)) s.seen;
   late = tt;
+  watch = watch_moves cmp.Look cmp.Lower phase.Off phase.Off v.changed v.changed (is_expected v.search v.level) (is_expected v.search v.level) v.looking v.looked v.time v.past (v.time + 1) refl (λ h e. tt) s.watch;
+  seldom = seldom_moves cmp.Look cmp.Lower phase.Off phase.Off v.time v.entries v.looks (λ gap l le o h. tt) s.seldom;
 }
 
 pub looked_done : (v : CrossView) → Free v → Stands v cmp.Look phase.Done → Goes v cmp.Lower phase.Done v.changed v.enabled v.timer
@@ -93,6 +99,8 @@ looked_done v free s = record {
       (let l = free.past in omega arith) refl
       (λ i l f. absurd f) (λ i z l f e. absurd (f e)) s.seen;
   late = tt;
+  watch = watch_moves cmp.Look cmp.Lower phase.Done phase.Done v.changed v.changed (is_expected v.search v.level) (is_expected v.search v.level) v.looking v.looked v.time v.past (v.time + 1) refl (λ h e. tt) s.watch;
+  seldom = seldom_moves cmp.Look cmp.Lower phase.Done phase.Done v.time v.entries v.looks (λ gap l le o h. tt) s.seldom;
 }
 
 -- blanking isn't over: a Q came since the entry
@@ -107,6 +115,8 @@ looked_early v end early free s = record {
       (let l = free.past in omega arith) refl
       (λ i l f. absurd (let a = leb-false end v.time early in let b : end ≤ v.time = f in omega arith)) (λ i z l f e. absurd (f e)) s.seen;
   late = tt;
+  watch = watch_moves cmp.Look cmp.Lower (phase.Blank (as_tick end)) (phase.Blank (as_tick end)) v.changed v.changed (is_expected v.search v.level) (is_expected v.search v.level) v.looking v.looked v.time v.past (v.time + 1) refl (λ h e. absurd (let a = leb-false end v.time early in let b : end ≤ v.time = h e in omega arith)) s.watch;
+  seldom = seldom_moves cmp.Look cmp.Lower (phase.Blank (as_tick end)) (phase.Blank (as_tick end)) v.time v.entries v.looks (λ gap l le o h. pace_early gap end v.time l (leb-false end v.time early) h) s.seldom;
 }
   where
     waits : (v.timer ≡ Some end) ⊎ ((v.timer ≡ None) × (end ≤ v.time)) → v.enabled ≡ false → (v.timer ≡ Some end) × (v.enabled ≡ false)
@@ -129,6 +139,8 @@ looked_blanked v end over free s = record {
   seen = seen_moves v.sight cmp.Look cmp.Read (phase.Blank (as_tick end)) (phase.Blank (as_tick end)) v.held v.expects v.blanked v.time v.past (v.time + 1)
       (let l = free.past in omega arith) refl (λ i l f. tt) (λ i z l f e. absurd (f e)) s.seen;
   late = tt;
+  watch = watch_moves cmp.Look cmp.Read (phase.Blank (as_tick end)) (phase.Blank (as_tick end)) v.changed (v.changed && false) (is_expected v.search v.level) (is_expected v.search v.level) v.looking v.looked v.time v.past (v.time + 1) refl (λ h. tt) s.watch;
+  seldom = seldom_moves cmp.Look cmp.Read (phase.Blank (as_tick end)) (phase.Blank (as_tick end)) v.time v.entries v.looks (λ gap l le o h. pace_blanked gap end v.time l o (leb-true end v.time over) h) s.seldom;
 }
 
 -- ---- it reads the comparator
@@ -143,6 +155,8 @@ read_ready v p over well free s = record {
   seen = seen_moves v.sight cmp.Read cmp.Ack p p v.held v.expects v.blanked v.time v.past (v.time + 1)
       (let l = free.past in omega arith) refl (λ i l f. tt) (λ i z l f. f) s.seen;
   late = tt;
+  watch = watch_moves cmp.Read cmp.Ack p p v.changed v.changed (is_expected v.search v.level) (is_expected v.search v.level) v.looking v.looked v.time v.past (v.time + 1) refl (λ h. tt) s.watch;
+  seldom = seldom_moves cmp.Read cmp.Ack p p v.time v.entries v.looks (λ gap l le o h. pace_read gap v.time l o h) s.seldom;
 }
   where
     may_begin : (p : Phase) → IsBlanked p v.time → MayFilter p v.time
@@ -166,6 +180,8 @@ read_unready v p over ill free t s = record {
   seen = seen_moves v.sight cmp.Read cmp.Lower p phase.Watch v.held v.expects v.blanked v.time v.past (v.time + 1) (let l = free.past in omega arith) refl
       (λ i l f e. absurd (is_false _ (unsteady v.held v.level v.search.expects v.expects i t.level_is t.expects_is ill) e)) (λ i z l f. f) s.seen;
   late = tt;
+  watch = watch_moves cmp.Read cmp.Lower p phase.Watch v.changed v.changed (is_expected v.search v.level) (is_expected v.search v.level) v.looking v.looked v.time v.past (v.time + 1) refl (λ h e x. absurd (is_false _ ill x)) s.watch;
+  seldom = seldom_moves cmp.Read cmp.Lower p phase.Watch v.time v.entries v.looks (λ gap l le o h. h) s.seldom;
 }
   where
     watches : (p : Phase) → IsBlanked p v.time → PhaseTied p v.turn v.changed v.held.since v.blanked v.time v.past → HasQ v.turn × (v.blanked ≤ v.time)
@@ -184,6 +200,8 @@ looked_watch v free s = record {
   seen = seen_moves v.sight cmp.Look cmp.Ack phase.Watch phase.Watch v.held v.expects v.blanked v.time v.past (v.time + 1)
       (let l = free.past in omega arith) refl (λ i l f. tt) (λ i z l f e. absurd (f e)) s.seen;
   late = tt;
+  watch = watch_moves cmp.Look cmp.Ack phase.Watch phase.Watch v.changed v.changed (is_expected v.search v.level) (is_expected v.search v.level) v.looking v.looked v.time v.past (v.time + 1) refl (λ h. tt) s.watch;
+  seldom = seldom_moves cmp.Look cmp.Ack phase.Watch phase.Watch v.time v.entries v.looks (λ gap l le o h. h) s.seldom;
 }
 
 steady_good : (h : Held) (level told expects : Bool) (i : ℕ) → level ≡ h.level → told ≡ expects → is_steady h expects i ≡ true → not (differ level told) ≡ true
@@ -219,6 +237,8 @@ looked_reject v end over ill free t s =
           both (is_expected v.search v.level) v.changed (steady_good v.held v.level v.search.expects v.expects i t.level_is t.expects_is y)
           (steady_clean v.held v.expects v.changed i f.begun y f.bit (omega arith)) ill)) s.seen;
       late = tt;
+      watch = watch_moves cmp.Look cmp.Arm (phase.Filter (as_tick end)) (phase.Blank (as_tick (v.time + 400))) v.changed v.changed (is_expected v.search v.level) (is_expected v.search v.level) v.looking v.looked v.time v.past (v.time + 1) refl (λ h e. omega arith) s.watch;
+      seldom = seldom_moves cmp.Look cmp.Arm (phase.Filter (as_tick end)) (phase.Blank (as_tick (v.time + 400))) v.time v.entries v.looks (λ gap l le o h. pace_rejected gap v.time l le o) s.seldom;
     }
 
 -- ---- a filter begins
@@ -232,6 +252,8 @@ acked v p free s = record {
   seen = seen_moves v.sight cmp.Ack cmp.Arm p (phase.Filter (as_tick (v.time + filter_time))) v.held v.expects v.blanked v.time v.past (v.time + 1)
       (let l = free.past in omega arith) refl (λ i l f e. (let a = free.past in omega arith, let a = free.past in omega arith)) (λ i z l f. f) s.seen;
   late = tt;
+  watch = watch_moves cmp.Ack cmp.Arm p (phase.Filter (as_tick (v.time + 24))) v.changed false (is_expected v.search v.level) (is_expected v.search v.level) v.looking v.looked v.time v.past (v.time + 1) refl (λ h e. omega arith) s.watch;
+  seldom = seldom_moves cmp.Ack cmp.Arm p (phase.Filter (as_tick (v.time + 24))) v.time v.entries v.looks (λ gap l le o h. pace_filters gap v.time l h) s.seldom;
 }
   where
     begins : v.blanked ≤ v.time → Filters false (v.time + filter_time) v.held.since v.blanked (v.time + 1)
@@ -257,6 +279,8 @@ armed v p end which free s = record {
   seen = seen_moves v.sight cmp.Arm cmp.Lower p p v.held v.expects v.blanked v.time v.past (v.time + 1) (let l = free.past in omega arith) refl
       (λ i l f e. passes_more p i (v.past + filter_time) ((v.time + 1) + filter_time) (let a = free.past in omega arith) (f e)) (λ i z l f. f) s.seen;
   late = tt;
+  watch = watch_moves cmp.Arm cmp.Lower p p v.changed v.changed (is_expected v.search v.level) (is_expected v.search v.level) v.looking v.looked v.time v.past (v.time + 1) refl (λ h e. hears_more p v.changed (is_expected v.search v.level) v.past (v.time + 1) (let l = free.past in omega arith) (h e)) s.watch;
+  seldom = seldom_moves cmp.Arm cmp.Lower p p v.time v.entries v.looks (λ gap l le o h. h) s.seldom;
 }
   where
     regs : (p : Phase) → (p ≡ phase.Blank (as_tick end)) ⊎ (p ≡ phase.Filter (as_tick end)) → Armed p (Some end) false
@@ -284,6 +308,8 @@ commuted v free s = record {
   seen = seen_moves v.sight cmp.Commute cmp.Lower phase.Done phase.Done v.held v.expects v.blanked v.time v.past (v.time + 1)
       (let l = free.past in omega arith) refl (λ i l f e. absurd (is_false _ f e)) (λ i z l f. f) s.seen;
   late = tt;
+  watch = watch_moves cmp.Commute cmp.Lower phase.Done phase.Done v.changed v.changed (is_expected v.search v.level) (is_expected v.search v.level) v.looking v.looked v.time v.past (v.time + 1) refl (λ h e. tt) s.watch;
+  seldom = seldom_moves cmp.Commute cmp.Lower phase.Done phase.Done v.time v.entries v.looks (λ gap l le o h. h) s.seldom;
 }
 
 pub lowered : (v : CrossView) (p : Phase) → Free v → Stands v cmp.Lower p → Goes v cmp.Back p v.changed v.enabled v.timer
@@ -295,12 +321,21 @@ lowered v p free s = record {
   seen = seen_moves v.sight cmp.Lower cmp.Back p p v.held v.expects v.blanked v.time v.past (v.time + 1) (let l = free.past in omega arith) refl
       (λ i l f e. passes_more p i (v.past + filter_time) ((v.time + 1) + filter_time) (let a = free.past in omega arith) (f e)) (λ i z l f. f) s.seen;
   late = tt;
+  watch = watch_moves cmp.Lower cmp.Back p p v.changed v.changed (is_expected v.search v.level) (is_expected v.search v.level) v.looking v.looked v.time v.past (v.time + 1) refl (λ h e. hears_more p v.changed (is_expected v.search v.level) v.past (v.time + 1) (let l = free.past in omega arith) (h e)) s.watch;
+  seldom = seldom_moves cmp.Lower cmp.Back p p v.time v.entries v.looks (λ gap l le o h. h) s.seldom;
 }
 
 -- ---- it returns
 
 abbrev pub returned_view : CrossView → CrossView
-returned_view v = record v { cmp_at = cmp.Shut; past = v.time + 1; told_open = false; sight = sight_left v.sight v.time }
+returned_view v = record v {
+  cmp_at = cmp.Shut;
+  past = v.time + 1;
+  told_open = false;
+  sight = sight_left v.sight v.time;
+  looking = false;
+  looked = if v.looking then Some v.time else v.looked;
+}
 
 pub returned : (v : CrossView) → Free v → CrossTied v → Stands v cmp.Back v.search.phase → CrossTied (returned_view v)
 returned v free t s = record {
@@ -318,6 +353,8 @@ returned v free t s = record {
   seen = returns v.sight s.seen;
   begun = λ e. not_begun v.sight (t.begun e);
   late = tt;
+  watch = watch_returned v.search.phase v.changed (is_expected v.search v.level) v.looking v.looked v.time v.past (v.time + 1) free.past s.watch;
+  seldom = seldom_moves cmp.Back cmp.Shut v.search.phase v.search.phase v.time v.entries v.looks (λ gap l le o h. h) s.seldom;
 }
   where
     returns : (s : Sight) → SightTied s cmp.Back v.search.phase v.held v.expects v.blanked v.time v.past
@@ -378,6 +415,8 @@ accepted v end pace told same at free t s = record {
   seen = accepts v.sight s.seen;
   begun = λ e. not_begun v.sight (t.begun e);
   late = tt;
+  watch = watch_moves cmp.Look cmp.Commute (phase.Filter (as_tick end)) phase.Done v.changed v.changed (is_expected v.search v.level) (is_expected v.search v.level) v.looking v.looked v.time v.past (v.time + 1) refl (λ h. tt) s.watch;
+  seldom = seldom_moves cmp.Look cmp.Commute (phase.Filter (as_tick end)) phase.Done v.time v.entries v.looks (λ gap l le o h. tt) s.seldom;
 }
   where
     accepts : (s : Sight) → SightTied s cmp.Look (phase.Filter (as_tick end)) v.held v.expects v.blanked v.time v.past

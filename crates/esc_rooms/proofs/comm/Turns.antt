@@ -46,6 +46,7 @@ use Rattle.esc_rooms.proofs.cap.Period.{period_turned, newest_turn}
 use Rattle.esc_rooms.proofs.shared.RoomSteps.{ground_noted, quiet_gates, inside}
 use Rattle.esc_rooms.proofs.shared.DriveFacts.{pair_apart}
 use Rattle.zero_cross.specs.declared.phase.Phase.TheVariants as phase
+use Rattle.esc_base.specs.Times.{least_blanking}
 use Rattle.zero_cross.specs.Sector.{blanking_of, level_of}
 use Rattle.zero_cross.specs.Kept.{Kept, after_begin}
 use Rattle.commutation.specs.Pace.{Pace, wait_of}
@@ -296,7 +297,10 @@ begins_cross w outer i u =
     (level_of (forward_at w.loaded.settings w.back) w.core.drive.turn.to) (λ since. 0) refl (λ e. cc)
     (cmp_unmasked w.core.cmp_at (i.alone kind.Cmp (λ e. cc))) (tick_unmasked w.core.tick_at (i.alone kind.Tick (λ e. cc)))
     (ap (λ (p : Pace). phase.Blank (as_tick (w.bank.time + blanking_of p.interval))) u.pace_is)
-    (ap (λ (f : Bool). level_of f w.core.drive.turn.to) (direction_is w i.ground)) (λ since. refl) u
+    (ap (λ (f : Bool). level_of f w.core.drive.turn.to) (direction_is w i.ground)) (λ since. refl) (long (interval_at w.back)) u
+  where
+    long : (interval : ℕ) → w.bank.time + least_blanking ≤ w.bank.time + blanking_of interval
+    long interval = omega arith
 
 pub set_sector_preserves : (w : World) (outer : List Kind) → IsComm w outer comm.Turn change.SetSector
     → StepKeeps kind.Comm outer w (turn_step change.SetSector w.core w.bank)

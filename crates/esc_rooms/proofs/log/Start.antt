@@ -171,6 +171,8 @@ start_ties loaded packets nest kind.Cmp = record {
   seen = tt;
   begun = λ e. refl;
   late = tt;
+  seldom = record { ordered = tt; ordered_since = tt; all = tt; since_turn = tt };
+  watch = record { heard = λ o l. tt; none = λ o. absurd (o refl) };
 }
 start_ties loaded packets nest kind.Uart = (refl, refl, refl)
 
