@@ -1,5 +1,5 @@
 //! The search for a sector's zero crossing.
-ghost use Rattle.std.specs.Prelude.{◌≡◌, ◌≤◌, true, false};
+ghost use Rattle.std.specs.Prelude.{◌≡◌, ◌<◌, ◌≤◌, true, false};
 ghost use Rattle.interrupt_machine.specs.Turn.{IsHeld};
 
 use crate::steps::{follow, new_core};
@@ -164,8 +164,18 @@ fn the_sector_changes_under_cmp(rt: HostRuntime) -> Result<(), Fail> {
     Ok(())
 }
 
+/// The comparator has its other level from now on, where that is so.
+fn changes(regs: &mut Regs, is_change: bool)
+    ensures count { regs.new.accesses ≡ regs.old.accesses }
+    ensures mask { regs.new.masked ≡ regs.old.masked }
+{
+    if is_change {
+        regs.comp(true);
+    }
+}
+
 /// How many crossings are noted up to tick 1000, where steps are so many ticks apart and the comparator changes at a tick,
-/// before a step at that tick. The newest of them stands 24 ticks after the change or later.
+/// before a step at that tick. Each of them stands 24 ticks after the change or later.
 fn crossings_after(
     rt: &impl Abort,
     machine: &mut Machine<Core>,
@@ -174,8 +184,9 @@ fn crossings_after(
     cost: u64,
     change: u64,
 ) -> u32
-    requires mask { regs.old.masked ≡ false }
+    requires mask { regs.old.masked ≡ true → IsHeld machine.old.firmware.hold machine.old.open_kinds }
     requires cost { cost ≤ 16 }
+    requires change { change < 1000 }
 {
     let mut notes = Notes::new();
     let mut count = 0u32;
@@ -183,16 +194,15 @@ fn crossings_after(
     for t in 304u64..1000 {
         assert!(rt; regs.accesses() < 1000 && regs.now().0 <= t);
         regs.advance(Tick(t));
-        if t == change {
-            regs.comp(true);
+        changes(regs, t == change);
+        if t < next || machine.idle(regs) {
+            continue;
         }
-        if next <= t && !machine.idle(regs) {
-            machine.step_into(regs, flash, &mut notes);
-            next = t + cost;
-            if notes.as_slice().contains(&Note::Cross { t: Tick(t) }) {
-                assert!(rt; change + 24 <= t);
-                count = count.saturating_add(1);
-            }
+        machine.step_into(regs, flash, &mut notes);
+        next = t + cost;
+        if notes.as_slice().contains(&Note::Cross { t: Tick(t) }) {
+            assert!(rt; change + 24 <= t);
+            count = count.saturating_add(1);
         }
     }
     count
