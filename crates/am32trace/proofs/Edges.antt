@@ -12,7 +12,8 @@ use Rattle.edge_capture.specs.Modes.{numbers}
 use Rattle.dshot_frame.specs.Sent.{active_width, edges_from, sent}
 use Rattle.dshot_frame.specs.Verdict.{verdict_of}
 use Rattle.esc_base.specs.Bits.{low_bits}
-use Rattle.am32trace.specs.Frames.{is_wide, width_of, edges_left, IsSent, IsBefore}
+use Rattle.am32trace.specs.Flown.{IsReached}
+use Rattle.am32trace.specs.Frames.{is_wide, width_of, edges_left, IsSent, IsBefore, IsFrom}
 
 -- with no pulse too wide they are those that the frame's sender makes
 pub left_exact : (bit : ℕ) (inverted : Bool) (s k word : ℕ) → edges_left bit inverted None s k word ≡ edges_from bit inverted s (low_bits k word)
@@ -111,3 +112,31 @@ module _ (bit : ℕ) (inverted : Bool) (wide : Option ℕ) (s word : ℕ) where
   behind_bit zero edges lt = absurd (omega arith)
   behind_bit (suc k) zero lt = refl
   behind_bit (suc k) (suc n) lt = let same : suc n - 1 ≡ n = omega arith in let less : suc k - 1 ≡ k = omega arith in rw (same, less) refl
+
+-- edges don't come before the first of them
+from_left : (bit : ℕ) (inverted : Bool) (wide : Option ℕ) (s k word t : ℕ) → t ≤ s → All (IsFrom t) (edges_left bit inverted wide s k word)
+unfolding edges_left
+from_left bit inverted wide s zero word t h = All-nil (IsFrom t)
+from_left bit inverted wide s (suc k) word t h =
+    let first : Edge = record { t = record { 0 = s }; level = not inverted } in
+    let second : Edge = record { t = record { 0 = s + width_of bit wide k word }; level = inverted } in
+    let rest = edges_left bit inverted wide (s + bit) k word in
+    All-cons (IsFrom t) first (second ∷ rest) h
+    (All-cons (IsFrom t) second rest (omega (arith, h)) (from_left bit inverted wide (s + bit) k word t (omega (arith, h))))
+
+-- where the first of those that are left comes at t or later, each does
+pub from_first : (bit : ℕ) (inverted : Bool) (wide : Option ℕ) (s k word t n : ℕ) (begun : Bool)
+    → IsReached t (slice_get (take n (drop (if begun then 1 else 0) (edges_left bit inverted wide s k word))) 0)
+    → All (IsFrom t) (take n (drop (if begun then 1 else 0) (edges_left bit inverted wide s k word)))
+unfolding edges_left
+from_first bit inverted wide s k word t zero begun h = All-nil (IsFrom t)
+from_first bit inverted wide s zero word t (suc n) false h = All-nil (IsFrom t)
+from_first bit inverted wide s zero word t (suc n) true h = All-nil (IsFrom t)
+from_first bit inverted wide s (suc k) word t (suc n) false h =
+    All-take (IsFrom t) (suc n) (edges_left bit inverted wide s (suc k) word) (from_left bit inverted wide s (suc k) word t h)
+from_first bit inverted wide s (suc k) word t (suc n) true h =
+    let w = width_most bit wide k word in
+    let second : Edge = record { t = record { 0 = s + width_of bit wide k word }; level = inverted } in
+    let rest = edges_left bit inverted wide (s + bit) k word in
+    All-take (IsFrom t) (suc n) (second ∷ rest)
+    (All-cons (IsFrom t) second rest h (from_left bit inverted wide (s + bit) k word t (omega (arith, h, w))))

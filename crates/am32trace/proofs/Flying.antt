@@ -1,5 +1,6 @@
 -- A flight goes on, event by event.
 use Rattle.std.proofs.Common.{◌≡◌, ℕ, Bool, List, [], ◌∷◌, ◌++◌, Option, refl, sym, ◌∙◌, ap, subst, append_assoc, append-nil, Result, Ok, Err, OnOk}
+use Rattle.std.specs.Prelude.{All}
 use Rattle.std.proofs.lemmas.List.Elements.{All-nil, All-append}
 use Rattle.std.proofs.lemmas.Grind.{flat_map-append}
 use Rattle.esc_base.specs.declared.tick.Tick.{Tick}
@@ -13,6 +14,7 @@ use Rattle.am32trace.specs.declared.action.Action.{Action}
 use Rattle.am32trace.specs.Asked.{Due, LevelAt, Sender, due_before, moved_on, at_once, told, due_by, sender_by}
 use Rattle.am32trace.specs.Line.{Transmission, Level, edges_of, asked_as, IsHeard, all_edges, messages_of, pending, sender_of, Begins, Adds, IsWell}
 use Rattle.am32trace.specs.Flown.{edges_in, Keeps, GoesOn, Ends, Writes, Sets}
+use Rattle.am32trace.specs.Frames.{IsFrom}
 use Rattle.am32trace.proofs.Begun.{one_begun, nothing_begun}
 
 edges_both : (xs ys : List Event) → edges_in (xs ++ ys) ≡ edges_in xs ++ edges_in ys
@@ -151,8 +153,8 @@ nothing_yet f given w quiet = record {
 }
 
 pub flight_ends : (f g : Flight) (a b c : Option (List ℕ)) (end : ℕ) (due : List Due) (s : Sender) → GoesOn f a g b due s
-    → ((first : Option (List ℕ)) (events : List Event) → HasWritten g.writer first b events → IsTrace first c events end) → Ends f a c due end
-flight_ends f g a b c end due s x w first sent k =
+    → All (IsFrom end) (pending g.signal) → ((first : Option (List ℕ)) (events : List Event) → HasWritten g.writer first b events → IsTrace first c events end) → Ends f a c due end
+flight_ends f g a b c end due s x late w first sent k =
     let l = x.keeps first sent k in
     record {
       events = l.events;
@@ -160,6 +162,7 @@ flight_ends f g a b c end due s x w first sent k =
       cut_off = pending g.signal;
       accepted = w first l.events l.written;
       edges = l.edges;
+      cut_later = late;
       heard = l.heard;
       messages = l.messages;
     }

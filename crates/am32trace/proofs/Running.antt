@@ -1,7 +1,7 @@
 -- A flight runs up to a time: the messages that begin before it are those that the sender has due.
 use Rattle.std.proofs.Common.{◌≡◌, ◌≤◌, ◌<◌, ℕ, false, List, [], ◌∷◌, ◌++◌, length, Option, Some, None, refl, sym, ◌∙◌, ap, subst, arith, append_assoc}
 use Rattle.std.specs.Prelude.{slice_get, IfSome, All}
-use Rattle.std.proofs.lemmas.List.Elements.{All-head}
+use Rattle.std.proofs.lemmas.List.Elements.{All-nil, All-cons, All-head}
 use Rattle.esc_base.specs.Trace.{tick_of}
 use Rattle.esc_base.specs.declared.signal.Edge.{Edge}
 use Rattle.esc_base.specs.declared.signal.Mode.{Mode}
@@ -13,10 +13,12 @@ use Rattle.am32trace.specs.declared.signal_line.SignalLine.{SignalLine}
 use Rattle.am32trace.specs.declared.signal_line.Repeated.{Repeated}
 use Rattle.am32trace.specs.declared.signal_line.Sending.{Sending}
 use Rattle.am32trace.specs.declared.signal_line.Sending.TheVariants as sending
-use Rattle.am32trace.specs.Frames.{rest_of, first_edge, IsBefore}
+use Rattle.am32trace.specs.Frames.{rest_of, first_edge, IsBefore, IsFrom}
 use Rattle.am32trace.specs.Asked.{Due, Sender, due_before, moved_on, beat_from, spoil_left}
 use Rattle.am32trace.specs.Line.{left_of, next_by, next_edge, coming, sender_of, due_on, first_due, sender_on, IsOn, IsReady, IsWell}
 use Rattle.am32trace.specs.Flown.{event_of, due_with, sender_with, GoesOn, IsPlanned, IsReached}
+use Rattle.edge_capture.specs.Modes.{numbers}
+use Rattle.am32trace.proofs.Edges.{from_first}
 use Rattle.am32trace.proofs.Beats.{train_first, moved_first, none_before, none_delayed, none_spoil, beat_late}
 use Rattle.am32trace.proofs.Flying.{goes_on_both, nowhere}
 
@@ -129,3 +131,11 @@ ran_end f g a b t ran reached =
     let is : s ≡ moved_on (sender_of f.signal) t = sym (still s t well.rate.positive h) ∙ ran.moved in
     let x = goes_on_both f g g a b b ran.so_far [] (due_before (sender_of f.signal) t) s s ran.goes_on (nowhere g b well) due in
     subst (λ (z : Sender). GoesOn f a g b (due_before (sender_of f.signal) t) z) is x
+
+-- ---- what is left at an end
+
+pub left_late : (x : Sending) (m : Mode) (o : Option Repeated) (t : ℕ) → IsReached t (next_by x m o) → All (IsFrom t) (left_of x)
+left_late sending.Nothing m o t h = All-nil (IsFrom t)
+left_late (sending.Frame f) m o t h = from_first (numbers f.mode).bit (numbers f.mode).inverted f.wide f.begins.0 f.left f.word t f.edges f.has_begun h
+left_late (sending.Pulse u) m o t h = All-cons (IsFrom t) (record { t = u; level = false }) [] h (All-nil (IsFrom t))
+left_late (sending.Noise n) m o t h = All-nil (IsFrom t)

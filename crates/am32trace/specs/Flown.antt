@@ -13,6 +13,7 @@ use Rattle.esc_base.specs.Trace.{tick_of}
 use Rattle.am32trace.specs.declared.action.Directive.{Directive}
 use Rattle.am32trace.specs.declared.action.Directive.TheVariants as line
 use Rattle.esc_base.specs.declared.tick.Tick.{Tick}
+use Rattle.am32trace.specs.Frames.{IsFrom}
 use Rattle.am32trace.specs.Asked.{Due, Sender, asked_by, due_before, no_signal}
 use Rattle.std.specs.Option.{option_to_list}
 use Rattle.am32trace.specs.Script.{IsScript}
@@ -28,8 +29,8 @@ edges_in (event.Stall t n ∷ events) = edges_in events
 
 -- ---- the whole flight
 
--- A trace that the reader accepts was appended. Its edges are those of some transmissions, one after the other, up to what its
--- end cuts off of the last one. Each of them that is a frame as it should be is heard as that frame. The messages among them are
+-- A trace that the reader accepts was appended. Its edges are those of some transmissions, one after the other, but for those of
+-- the last one that come at its end or later. Each of them that is a frame as it should be is heard as that frame. The messages among them are
 -- these, no fewer and no more.
 pub record IsFlight (first now : Option (List ℕ)) (due : List Due) (end : ℕ) : Type 0 where
   pub events : List Event
@@ -37,6 +38,7 @@ pub record IsFlight (first now : Option (List ℕ)) (due : List Due) (end : ℕ)
   pub cut_off : List Edge
   pub accepted : IsTrace first now events end
   pub edges : edges_in events ++ cut_off ≡ all_edges log
+  pub cut_later : All (IsFrom end) cut_off
   pub heard : All IsHeard log
   pub messages : messages_of log ≡ due
 

@@ -54,3 +54,7 @@ first_edge m t = record { t = t; level = not (numbers m).inverted }
 -- an edge comes at a tick or earlier
 abbrev pub IsBefore : ℕ → Edge → Type 0
 IsBefore t e = e.t.0 ≤ t
+
+-- an edge comes at a tick or later
+abbrev pub IsFrom : ℕ → Edge → Type 0
+IsFrom t e = t ≤ e.t.0

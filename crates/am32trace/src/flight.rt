@@ -209,8 +209,9 @@ impl Flight {
     fn run_until<K: Sink>(&mut self, t: Tick, out: &mut K) -> Result<(), Fault>
         requires early { t.0 ≤ 1073741824 }
         requires well { IsWell self.old.signal }
-        ensures { OnOk result (GoesOn self.old (K.given out.old) self.new (K.given out.new)
+        ensures goes_on { OnOk result (GoesOn self.old (K.given out.old) self.new (K.given out.new)
             (due_before (sender_of self.old.signal) t.0) (moved_on (sender_of self.old.signal) t.0)) }
+        ensures reached { OnOk result (IsReached t.0 (next_edge self.new.signal)) }
     {
         while let Some(planned) = self.next_before(t) {
             self.step(planned, out)?;
@@ -224,6 +225,7 @@ impl Flight {
         ensures goes_on { OnOk result (GoesOn self.old (K.given out.old) self.new (K.given out.new)
             (due_before (sender_of self.old.signal) t.0) (moved_on (sender_of self.old.signal) t.0)) }
         ensures early { OnOk result (t.0 ≤ 1073741824) }
+        ensures reached { OnOk result (IsReached t.0 (next_edge self.new.signal)) }
     {
         if t < self.reached {
             return Err(Fault::Expected(Expected::LaterTime));

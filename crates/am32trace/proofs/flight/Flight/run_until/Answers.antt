@@ -13,7 +13,7 @@ loop-planned-preserved g c =
     (g.K.Sink.given c.step.new.out) c.args.t.0 c.in-Some.planned c.loop-planned.invariant c.in_ok-step.ensures.ok c.in-Some.ensures.planned
     c.in-Some.ensures.early
 
-pub returns : goal.returns
-returns g c =
+pub returns-clause-goes_on : goal.returns-clause-goes_on
+returns-clause-goes_on g c =
     ran_end c.args.self.now c.loop-planned.self (g.K.Sink.given c.args.out.now) (g.K.Sink.given c.loop-planned.out) c.args.t.0 c.loop-planned.invariant
     c.in_default.ensures.reached
