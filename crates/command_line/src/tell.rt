@@ -25,6 +25,7 @@ pub fn hint(rt: &HostRuntime, text: &str) {
 pub fn hint_misuse(rt: &HostRuntime, misuse: &Misuse, usage: &str) {
     let (word, expected) = (misuse.word, misuse.expected);
     let _ = match misuse.found {
+        Some("") => eprintln!(rt; "  hint: {word}: expected {expected}, found nothing"),
         Some(found) => eprintln!(rt; "  hint: {word}: expected {expected}, found {found}"),
         None => eprintln!(rt; "  hint: {word}: expected {expected}"),
     };
