@@ -92,7 +92,7 @@ fn command(rt: &HostRuntime, words: &[String]) -> Status {
     if let Some(misuse) = wrong_command(first) {
         return misused(rt, &misuse);
     }
-    let line = match read_line(rt.alloc(), &words[1..], &RULES) {
+    let line = match read_line(rt.alloc(), words.get(1..).unwrap_or(&[]), &RULES) {
         Ok(line) => line,
         Err(Unread::Misused(misuse)) => return misused(rt, &misuse),
         Err(Unread::NoMemory) => return ended(rt, Status::NoMemory),
