@@ -153,7 +153,8 @@ nothing_yet f given w quiet = record {
 }
 
 pub flight_ends : (f g : Flight) (a b c : Option (List ℕ)) (end : ℕ) (due : List Due) (s : Sender) → GoesOn f a g b due s
-    → All (IsFrom end) (pending g.signal) → ((first : Option (List ℕ)) (events : List Event) → HasWritten g.writer first b events → IsTrace first c events end) → Ends f a c due end
+    → All (IsFrom end) (pending g.signal)
+    → ((first : Option (List ℕ)) (events : List Event) → HasWritten g.writer first b events → IsTrace first c events end) → Ends f a c due end
 flight_ends f g a b c end due s x late w first sent k =
     let l = x.keeps first sent k in
     record {
