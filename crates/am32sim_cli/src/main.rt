@@ -7,11 +7,11 @@ mod misuse;
 
 use am32sim::{Status, Words, sim_main, status_text};
 use command_line::{
-    CommandLine, FileSource, Misuse, NoWords, Noticed, Unread, answered, hint_misuse, hint_refused,
-    hint_unopened, open, read_line, words_of,
+    Answer, CommandLine, FileSource, Misuse, NoWords, Noticed, Told, Unread, answer_to,
+    hint_misuse, hint_refused, hint_unopened, open, read_line, tell_help, tell_version, words_of,
 };
 use esc_base::{FileFlash, OutSink, Source};
-use help::{HELP, USAGE};
+use help::{USAGE, help_text};
 use image::hint_image;
 use misuse::{RULES, wrong_command, wrong_option};
 use std::cell::Cell;
@@ -109,15 +109,23 @@ fn command(rt: &HostRuntime, words: &[String]) -> Status {
     }
 }
 
+fn ended_by(told: Told) -> Status {
+    match told {
+        Told::Written => Status::Done,
+        Told::NotWritten => Status::WriteFault,
+        Told::NoMemory => Status::NoMemory,
+    }
+}
+
 fn answer(rt: &HostRuntime) -> Status {
     let words = match words_of(rt) {
         Ok(words) => words,
         Err(NoWords::NotText) => return ended(rt, Status::Usage),
         Err(NoWords::NoMemory) => return ended(rt, Status::NoMemory),
     };
-    match answered(rt, words.as_slice(), "am32sim", HELP) {
-        Some(true) => Status::Done,
-        Some(false) => Status::WriteFault,
+    match answer_to(words.as_slice()) {
+        Some(Answer::Help) => ended_by(tell_help(rt, help_text(rt.alloc()))),
+        Some(Answer::Version) => ended_by(tell_version(rt, "am32sim")),
         None => command(rt, words.as_slice()),
     }
 }

@@ -5,11 +5,11 @@ mod help;
 
 use am32trace::{ScriptWords, Status, trace_main};
 use command_line::{
-    FileSource, NoWords, Noticed, Unread, answered, hint, hint_misuse, hint_unopened, open,
-    read_line, words_of,
+    Answer, FileSource, NoWords, Noticed, Told, Unread, answer_to, hint, hint_misuse,
+    hint_unopened, open, read_line, tell_help, tell_version, words_of,
 };
 use esc_base::{OutSink, Source};
-use help::{HELP, USAGE};
+use help::{USAGE, help_text};
 use std::cell::Cell;
 use std::io;
 use std::process::ExitCode;
@@ -71,15 +71,23 @@ fn trace(rt: &HostRuntime, path: Option<&str>) -> Status {
     status
 }
 
+fn ended_by(told: Told) -> Status {
+    match told {
+        Told::Written => Status::Done,
+        Told::NotWritten => Status::WriteFault,
+        Told::NoMemory => Status::NoMemory,
+    }
+}
+
 fn command(rt: &HostRuntime) -> Status {
     let words = match words_of(rt) {
         Ok(words) => words,
         Err(NoWords::NotText) => return ended(rt, Status::Usage),
         Err(NoWords::NoMemory) => return ended(rt, Status::NoMemory),
     };
-    match answered(rt, words.as_slice(), "am32trace", HELP) {
-        Some(true) => return Status::Done,
-        Some(false) => return Status::WriteFault,
+    match answer_to(words.as_slice()) {
+        Some(Answer::Help) => return ended_by(tell_help(rt, help_text(rt.alloc()))),
+        Some(Answer::Version) => return ended_by(tell_version(rt, "am32trace")),
         None => {}
     }
     match read_line(rt.alloc(), words.as_slice(), &[]) {

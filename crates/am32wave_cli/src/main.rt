@@ -6,11 +6,11 @@ mod options;
 
 use am32wave::{Refusal, Status, Stretch, View, status_text, traced_main, wave_main};
 use command_line::{
-    FileSource, Misuse, NoWords, Noticed, Unopened, Unread, answered, hint, hint_misuse,
-    hint_refused, hint_unopened, open, read_line, words_of,
+    Answer, FileSource, Misuse, NoWords, Noticed, Told, Unopened, Unread, answer_to, hint,
+    hint_misuse, hint_refused, hint_unopened, open, read_line, tell_help, tell_version, words_of,
 };
 use esc_base::{OutSink, Sink, Source};
-use help::{HELP, USAGE};
+use help::{USAGE, help_text};
 use options::{RULES, Wish, wish_of};
 use std::cell::Cell;
 use std::io;
@@ -119,15 +119,23 @@ fn show_file(rt: &HostRuntime, wish: &Wish, path: Option<&str>) -> Status {
     status
 }
 
+fn ended_by(told: Told) -> Status {
+    match told {
+        Told::Written => Status::Done,
+        Told::NotWritten => Status::WriteFault,
+        Told::NoMemory => Status::NoMemory,
+    }
+}
+
 fn command(rt: &HostRuntime) -> Status {
     let words = match words_of(rt) {
         Ok(words) => words,
         Err(NoWords::NotText) => return ended(rt, Status::Usage),
         Err(NoWords::NoMemory) => return ended(rt, Status::NoMemory),
     };
-    match answered(rt, words.as_slice(), "am32wave", HELP) {
-        Some(true) => return Status::Done,
-        Some(false) => return Status::WriteFault,
+    match answer_to(words.as_slice()) {
+        Some(Answer::Help) => return ended_by(tell_help(rt, help_text(rt.alloc()))),
+        Some(Answer::Version) => return ended_by(tell_version(rt, "am32wave")),
         None => {}
     }
     let line = match read_line(rt.alloc(), words.as_slice(), &RULES) {

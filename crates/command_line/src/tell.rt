@@ -1,19 +1,38 @@
 //! What a program says beside what it makes: answers to calls for help, and hints.
 use crate::input::{Noticed, Unopened};
 use crate::line::Misuse;
-use crate::words::{Answer, answer_to};
 use crate::{VERSION, trace_hint};
+use std::alloc::AllocError;
+use std::io;
 use trace_text::Refusal;
 
-/// Answers words that ask for help or for the version, on standard output. Whether it was written; none where the words ask for
-/// something else.
-pub fn answered(rt: &HostRuntime, words: &[String], name: &str, help: &str) -> Option<bool> {
-    let answer = answer_to(words)?;
-    let written = match answer {
-        Answer::Help => rt.print(help),
-        Answer::Version => println!(rt; "{name} {VERSION}"),
-    };
-    Some(written.is_ok())
+/// What came of an answer.
+#[derive(Clone, Copy, Drop)]
+pub enum Told {
+    Written,
+    NotWritten,
+    /// Memory was refused.
+    NoMemory,
+}
+
+fn outcome(written: io::Result<()>) -> Told {
+    match written {
+        Ok(()) => Told::Written,
+        Err(_) => Told::NotWritten,
+    }
+}
+
+/// Writes a program's help on standard output.
+pub fn tell_help(rt: &HostRuntime, help: Result<String, AllocError>) -> Told {
+    match help {
+        Ok(text) => outcome(rt.print(text.as_str())),
+        Err(_) => Told::NoMemory,
+    }
+}
+
+/// Writes a program's name and version on standard output.
+pub fn tell_version(rt: &HostRuntime, name: &str) -> Told {
+    outcome(println!(rt; "{name} {VERSION}"))
 }
 
 /// A hint on standard error, behind the line that says how the program ended.
