@@ -1,8 +1,7 @@
 -- Time that goes on by nothing leaves the registers as they are.
-use Rattle.std.proofs.Common.{◌≡◌, ℕ, Bool, true, false, ◌&&◌, ◌||◌, nat_lt, refl, sym, ◌∙◌, ap, arith}
+use Rattle.std.proofs.Common.{◌≡◌, ℕ, Bool, true, false, ◌&&◌, ◌||◌, nat_lt, refl, sym, ap, arith}
 use Rattle.std.proofs.lemmas.Bool.Decides.{nat_tests}
 use Rattle.timer_regs.specs.Bank.{Bank}
-use Rattle.timer_regs.specs.Pwm.{has_edge}
 use Rattle.timer_regs.specs.Effects.{advanced}
 use Rattle.esc_base.specs.Periods.{edges}
 

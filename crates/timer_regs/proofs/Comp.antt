@@ -6,7 +6,7 @@ use Rattle.esc_base.specs.declared.kind.Kind.TheVariants as kind
 use Rattle.esc_base.specs.Times.{is_reached}
 use Rattle.esc_base.specs.Trace.{differ}
 use Rattle.timer_regs.specs.Bank.{Bank}
-use Rattle.timer_regs.specs.Effects.{is_due, advanced, after_comp}
+use Rattle.timer_regs.specs.Effects.{is_due, after_comp}
 use Rattle.timer_regs.specs.NextDue.{becomes_due}
 
 -- the registers with what a change of the comparator changes, where there is one

@@ -1,5 +1,5 @@
 -- The serial receiver, of one byte, and the transmitter.
-use Rattle.std.specs.Prelude.{◌≡◌, ◌≤◌, ◌<◌, ℕ, ◌+◌, ◌*◌, Bool, true, false, ◌&&◌, ◌||◌, nat_le, Option, Some, None}
+use Rattle.std.specs.Prelude.{◌≤◌, ◌<◌, ℕ, ◌+◌, ◌*◌, Bool, true, false, ◌&&◌, ◌||◌, nat_le, Option, Some, None}
 use Rattle.esc_base.specs.declared.event.Received.{Received}
 use Rattle.esc_base.specs.Numbers.{as_tick, bit_of}
 

@@ -1,4 +1,4 @@
-use Rattle.std.proofs.Common.{◌≡◌, ◌∙◌, Bool, true, false, ◌||◌, refl, arith}
+use Rattle.std.proofs.Common.{◌∙◌, arith}
 use Rattle.esc_base.specs.declared.kind.Kind.TheVariants as kinds
 use Rattle.timer_regs.proofs.Soonest.{or_left_only}
 use Rattle.timer_regs.proofs.regs.Regs.due.Goals as goal
